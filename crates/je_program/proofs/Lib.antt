@@ -16,7 +16,5 @@ pub mod BeginLaws
 pub mod StopLaws
 -- The store that files mean is a right one.
 pub mod RightStores
--- A run makes no index.
-pub mod IndexCalls
 -- The transactions of a run replay, and none of them wait in a cycle.
 pub mod ReplayLaws

@@ -1,6 +1,5 @@
 -- The transactions of a run replay, and none of them wait in a cycle.
 use Rattle.std.proofs.Common.{ℕ, Bool, List, Option, sym, ◌∙◌, subst}
-use Rattle.std.specs.List.{AllByRecursion}
 use Rattle.je_disk.specs.States.{Files}
 use Rattle.store_model.specs.declared.answer.Answer.{Answer}
 use Rattle.store_model.specs.declared.event.Event.{Event}
@@ -13,8 +12,8 @@ use Rattle.je_answers.specs.After.{AnswersAsModel}
 use Rattle.engine.specs.Opening.{AreNumbers, StartsAt}
 use Rattle.serial_replay.specs.Replay.{ReplaysSerially}
 use Rattle.serial_replay.specs.Cycles.{NeverWaitInCycle}
-use Rattle.serial_replay.specs.Laws.{HasNoIndexCall, HaveNumbers}
-use Rattle.serial_replay.proofs.Replaying.{journals-replay}
+use Rattle.serial_replay.specs.Laws.{HaveNumbers}
+use Rattle.serial_replay.proofs.Replaying.{journals-replay, none_is-indexed}
 use Rattle.serial_replay.proofs.CycleEvents.{cycles_never-stand}
 use Rattle.je_program.proofs.RightStores.{meaning_has_no_index, meaning_right}
 
@@ -34,8 +33,8 @@ module _ (observable : Bool) (files : Files) (opening : Store) (st : Standing) (
   plain : HasNoIndex starts.alone_at.store
   plain = subst HasNoIndex (starts.means_store ∙ sym starts.store) (meaning_has_no_index starts.held starts.meaning starts.means)
 
-  pub run_replays : AllByRecursion HasNoIndexCall journal → ReplaysSerially st journal
-  run_replays calls = subst (λ (s : Standing). ReplaysSerially s journal) (sym starts.st_is) (journals-replay starts.alone_at limits journal right numbers plain calls model)
+  pub run_replays : ReplaysSerially st journal
+  run_replays = subst (λ (s : Standing). ReplaysSerially s journal) (sym starts.st_is) (journals-replay starts.alone_at limits journal right numbers (none_is-indexed starts.alone_at.store plain) model)
 
   pub run_never_cycles : NeverWaitInCycle st journal
   run_never_cycles = subst (λ (s : Standing). NeverWaitInCycle s journal) (sym starts.st_is) (cycles_never-stand starts.alone_at limits journal model)

@@ -1,5 +1,5 @@
 -- The store that files mean is a right one: its databases stand in order of their names, and their records rise.
-use Rattle.std.proofs.Common.{◌≡◌, ℕ, ◌==◌, ◌&&◌, not, true, List, [], ◌∷◌, Result, Ok, Option, None, Some, map, length, option_map, refl, ap, sym, ◌∙◌, subst, Ordering, Less}
+use Rattle.std.proofs.Common.{◌≡◌, ℕ, ◌==◌, ◌&&◌, not, true, List, [], ◌∷◌, Ok, Option, None, Some, map, length, refl, ap, sym, ◌∙◌, subst, Less}
 use Rattle.std.specs.List.{AllByRecursion}
 use Rattle.std.specs.List.Sorted.{IsStrictlySortedBy}
 use Rattle.std.specs.Ordering.{on}
@@ -9,9 +9,7 @@ use Rattle.je_order.specs.Words.{is_word}
 use Rattle.store_model.specs.declared.store.Database.{Database}
 use Rattle.store_model.specs.Indexes.{HasNoIndex}
 use Rattle.store_model.specs.Store.{HasRisingNames, IsStore}
-use Rattle.store_model.specs.Evaluation.{plain_name}
 use Rattle.log_file.specs.Log.{log_in}
-use Rattle.log_replay.specs.declared.corruption.Corruption.{Corruption}
 use Rattle.log_replay.specs.Reading.{corruption_in}
 use Rattle.log_replay.specs.Rows.{Row, Rows, IsRising, catalog_number, catalog_kind, is_catalog_row, is_environment, rows_of_row, database_in, store_of}
 use Rattle.log_replay.specs.Wrong.{wrong_record}

@@ -1,5 +1,5 @@
 -- Changes of the catalog: a database that is in use stays as it is.
-use Rattle.std.proofs.Common.{◌≡◌, ◌≤◌, ◌+◌, ◌⊎◌, inl, inr, ℕ, Bool, true, false, cond, not, List, [], ◌∷◌, map, filter, Option, None, Some, refl, ap, sym, ◌∙◌, subst, ⊎_elim, arith, Ordering, Less, Equal, Greater, is_lt, is_gt, is_eq}
+use Rattle.std.proofs.Common.{◌≡◌, ◌≤◌, ◌+◌, ◌⊎◌, inl, inr, ℕ, ◌==◌, Bool, true, false, cond, not, List, [], ◌∷◌, map, filter, Option, None, Some, refl, ap, sym, ◌∙◌, subst, ⊎_elim, arith, Ordering, Less, Equal, Greater, is_lt, is_gt, is_eq}
 use Rattle.std.specs.List.{AllByRecursion, list_any}
 use Rattle.std.specs.Option.{option_map, option_map_or}
 use Rattle.std.proofs.lemmas.Bool.{cases_Bool, cond-true, cond-false, both_ways}
@@ -20,19 +20,21 @@ use Rattle.store_model.specs.declared.change.Change.TheVariants.{Remove, Empty}
 use Rattle.store_model.specs.Store.{IsStore, database_of, new_database, with_pairs, with_name, with_primary, index_renamed, databases_with, databases_without, databases_renamed, changed}
 use Rattle.store_model.specs.Indexes.{is_index_of}
 use Rattle.store_model.specs.Reads.{at_name}
-use Rattle.je_answers.specs.Standing.{Standing, place_at, with_number, numbered}
+use Rattle.je_answers.specs.Standing.{Standing, place_at, database_at, with_number, numbered}
 use Rattle.je_answers.specs.Locking.{IsUnused}
 use Rattle.standing_laws.specs.Right.{AreSound}
 use Rattle.standing_laws.proofs.Among.{IsAmong, among_map, mapped_among, among_append, among_first, among_second, among_filter, filter_among, any_from, found_is}
 use Rattle.serial_replay.specs.Replay.{AnsweredCall}
 use Rattle.serial_replay.proofs.Rising.{none_passes}
 use Rattle.serial_replay.proofs.Holding.{Holds}
-use Rattle.serial_replay.proofs.Stores.{Over, over_by, Base, Numbers, base_of, base_at, pairs_at, same_bytes, bytes_exact, IsFit, AreNumbered, numbered_mapped, one_database, named_there, IsOver, AreOver}
+use Rattle.serial_replay.proofs.Stores.{Over, over_by, Base, Numbers, base_of, based, number_of_found, base_at, pairs_at, same_bytes, bytes_exact, IsFit, AreNumbered, numbered_mapped, one_database, named_there, IsOver, AreOver}
+use Rattle.serial_replay.proofs.Upkeep.{IsUp, AreUp, up_from}
+use Rattle.serial_replay.proofs.IndexBases.{index_at}
 use Rattle.serial_replay.proofs.Keeping.{IsUsedBy, occupied_at, IsStable, IsWell, IsKept, own_same, fits_kept, keeps_kept, IsKnown}
 
--- ---- a step that leaves each database in use as it is
+-- ---- a step that leaves each database in use as it is, and makes an index or none
 
-pub record IsCatalogStep (st new : Standing) : Type 0 where
+pub record IsCatalogStep (st new : Standing) (made : Option Index) : Type 0 where
   pub well : IsWell new
   pub last_txn : st.last_txn ≤ new.last_txn
   pub actives : new.actives ≡ st.actives
@@ -41,12 +43,39 @@ pub record IsCatalogStep (st new : Standing) : Type 0 where
   pub locks : (r : RecordId) → new.locks.at r ≡ st.locks.at r
   pub same : (t : TxnId) (n : ℕ) (b : Base) → IsUsedBy st t n → base_at n st ≡ Some b → (base_at n new ≡ Some b) × (pairs_at n new ≡ pairs_at n st)
   pub fresh : (t : TxnId) (q n : ℕ) (b : Base) (e : Extract) → IsUsedBy st t q → base_at n new ≡ Some b → b.2 ≡ Some (q, e) → (c : Base) × (base_at n st ≡ Some c) × (c.2 ≡ Some (q, e))
+  pub pairs : (m : ℕ) (b : Base) → base_at m new ≡ Some b → m ≤ st.last_db → pairs_at m new ≡ pairs_at m st
+  pub indexes : (n q : ℕ) (e : Extract) (b : Base) → base_at n new ≡ Some b → b.2 ≡ Some (q, e) → ((c : Base) × (base_at n st ≡ Some c) × (c.2 ≡ Some (q, e))) ⊎ ((n ≡ st.last_db + 1) × (over_by new.numbers made ≡ Some (q, e)))
+
+-- the number of a database is allocated
+pub low_number : (st : Standing) (n : ℕ) (b : Base) → IsWell st → base_at n st ≡ Some b → n ≤ st.last_db
+low_number st n b well e =
+    let i = based st.numbers (database_at n st) b e in
+    subst (λ (m : ℕ). m ≤ st.last_db) (number_of_found st.numbers n st.store i.database i.is)
+    (well.numbers.allocated i.database (found_is (λ (x : Database). st.numbers x.name == n) st.store.databases i.database i.is).0)
+
+-- the index that is made, if one is, has the pairs of its primary's records
+abbrev pub IsMadeUp : Standing → Standing → Option Index → Type 0
+IsMadeUp st new made = (q : ℕ) (e : Extract) (b : Base) → base_at (st.last_db + 1) new ≡ Some b → b.2 ≡ Some (q, e) → over_by new.numbers made ≡ Some (q, e) → IsUp new (st.last_db + 1) q e
+
+-- none is made
+pub none_up : (st new : Standing) → IsMadeUp st new None
+none_up st new q e b there is made = absurd (cc (made))
+
+up_step : (st new : Standing) (made : Option Index) → IsWell st → IsCatalogStep st new made → AreUp st → IsMadeUp st new made → AreUp new
+up_step st new made well step up its n q e b there is = by (step.indexes n q e b there is)
+  where
+    by : ((c : Base) × (base_at n st ≡ Some c) × (c.2 ≡ Some (q, e))) ⊎ ((n ≡ st.last_db + 1) × (over_by new.numbers made ≡ Some (q, e))) → IsUp new n q e
+    by (inl c) =
+        let f = index_at st n q e c.0 well c.1 c.2 in
+        let g = index_at new n q e b step.well there is in
+        up_from st new n q e (step.pairs n b there (low_number st n c.0 well c.1)) (step.pairs q g.base g.primary (low_number st q f.base well f.primary)) (λ t. inl (step.own t)) (up n q e c.0 c.1 c.2)
+    by (inr k) = subst (λ (m : ℕ). IsUp new m q e) (sym k.0) (its q e b (ap (λ (m : ℕ). base_at m new) (sym k.0) ∙ there) is k.1)
 
 all_each : {X : Type 0} (P Q : X → Type 0) → ((x : X) → P x → Q x) → (xs : List X) → AllByRecursion P xs → AllByRecursion Q xs
 all_each P Q f [] h = tt
 all_each P Q f (x ∷ xs) h = (f x h.0, all_each P Q f xs h.1)
 
-module _ (st new : Standing) (told : List AnsweredCall) (sound : AreSound st) (step : IsCatalogStep st new) where
+module _ (st new : Standing) (made : Option Index) (told : List AnsweredCall) (sound : AreSound st) (step : IsCatalogStep st new made) where
   stable : IsStable st new
   stable = record { stays = λ t n b used e. (step.same t n b used e).0; fresh = λ t q n b e used h k. step.fresh t q n b e used h k }
 
@@ -66,10 +95,11 @@ module _ (st new : Standing) (told : List AnsweredCall) (sound : AreSound st) (s
       still n b x e (inl r) = inl (record { pair = r.pair; there = subst (IsAmong r.pair) (sym e) r.there; named = r.named })
       still n b x e (inr w) = inr (record { txn = w.txn; change = w.change; there = subst (IsAmong (n, w.change)) (sym (step.own w.txn)) w.there; named = w.named })
 
-  pub known_catalog : IsKnown st told → IsKnown new told
-  known_catalog known = record {
+  pub known_catalog : IsMadeUp st new made → IsKnown st told → IsKnown new told
+  known_catalog its known = record {
     ground = record {
       well = step.well;
+      up = up_step st new made known.ground.well step known.ground.up its;
       fits = λ t. subst (AllByRecursion (IsFit new)) (sym (step.own t)) (fits_kept st new t sound (known.ground.fits t) stable);
       last = all_each (λ (c : AnsweredCall). c.txn.0 ≤ st.last_txn) (λ c. c.txn.0 ≤ new.last_txn) (λ c h. let k = step.last_txn in omega (arith, h, k)) told known.ground.last;
     };
@@ -126,14 +156,22 @@ used_other st t n m used unused e = nothing (subst (λ (q : List Lock × List Lo
 
 -- ---- each change
 
--- what a change of the catalog does to databases: those that stay are there, and each index was one before, or is of a new number
-pub record IsDone (numbers : Numbers) (last : ℕ) (store : Store) (new_numbers : Numbers) (new_last : ℕ) (new_store : Store) (stays : Database → Type 0) (is_new : ℕ → Type 0) : Type 0 where
+-- an index that is made
+abbrev pub IsOfNew : Numbers → Option Index → ℕ → Type 0
+IsOfNew numbers o q = (i : Index) × (o ≡ Some i) × (q ≡ numbers i.primary)
+
+-- what a change of the catalog does to databases, where it makes an index or none: those that stay are there; each index was one before, or is the one that is
+-- made; and each database had its records before, or has a new number
+pub record IsDone (numbers : Numbers) (last : ℕ) (store : Store) (new_numbers : Numbers) (new_last : ℕ) (new_store : Store) (stays : Database → Type 0) (made : Option Index) : Type 0 where
   pub numbered : AreNumbered new_numbers new_last new_store.databases
   pub over : AreOver new_store
   pub there : (d : Database) → IsAmong d store.databases → stays d
       → (e : Database) × IsAmong e new_store.databases × (new_numbers e.name ≡ numbers d.name) × (base_of new_numbers (Some e) ≡ base_of numbers (Some d)) × (e.pairs ≡ d.pairs)
   pub back : (e : Database) (o : ℕ × Extract) → IsAmong e new_store.databases → over_by new_numbers e.index ≡ Some o
-      → ((d : Database) × IsAmong d store.databases × (new_numbers e.name ≡ numbers d.name) × (over_by numbers d.index ≡ Some o)) ⊎ is_new o.0
+      → ((d : Database) × IsAmong d store.databases × (new_numbers e.name ≡ numbers d.name) × (over_by numbers d.index ≡ Some o)) ⊎ IsOfNew numbers made o.0
+  pub old : (e : Database) → IsAmong e new_store.databases
+      → ((d : Database) × IsAmong d store.databases × (new_numbers e.name ≡ numbers d.name) × (over_by new_numbers e.index ≡ over_by numbers d.index) × (e.pairs ≡ d.pairs))
+      ⊎ ((new_numbers e.name ≡ last + 1) × (over_by new_numbers e.index ≡ over_by new_numbers made))
 
 -- what an index is of stays, where its primary's number does
 over_stays : (numbers now : Numbers) (d : Database) → ((i : Index) → d.index ≡ Some i → now i.primary ≡ numbers i.primary) → over_by now d.index ≡ over_by numbers d.index
@@ -165,16 +203,9 @@ not_primary store db d i none a e is = both_ways (list_any (is_index_of db) stor
 none_some : {X : Type 0} (P : Type 0) (x : X) → None ≡ Some x → P
 none_some P x e = absurd (cc (e))
 
-abbrev pub no_new : ℕ → Type 0
-no_new q = ⊥
-
--- an index that is made
-abbrev pub IsOfNew : Numbers → Option Index → ℕ → Type 0
-IsOfNew numbers o q = (i : Index) × (o ≡ Some i) × (q ≡ numbers i.primary)
-
 pub made_done : (numbers : Numbers) (last : ℕ) (store : Store) (db : List ℕ) (kind : Kind) (o : Option Index) → AreNumbered numbers last store.databases → AreOver store → database_of db store ≡ None
     → IsStore (record { databases = databases_with (new_database db kind o) store.databases }) → ((i : Index) → o ≡ Some i → (kind ≡ Dup) × ((p : Database) × IsAmong p store.databases × (p.name ≡ i.primary) × (p.kind ≡ Plain) × (p.index ≡ None)))
-    → IsDone numbers last store (with_number db (last + 1) numbers) (last + 1) (record { databases = databases_with (new_database db kind o) store.databases }) (λ d. Unit {0}) (IsOfNew numbers o)
+    → IsDone numbers last store (with_number db (last + 1) numbers) (last + 1) (record { databases = databases_with (new_database db kind o) store.databases }) (λ d. Unit {0}) o
 made_done numbers last store db kind o k over none right fit = record {
   numbered = record {
     allocated = λ d a. by_allocated d (with_is (new_database db kind o) d store.databases a);
@@ -183,6 +214,7 @@ made_done numbers last store db kind o k over none right fit = record {
   over = λ d i a is. by_over d i (with_is (new_database db kind o) d store.databases a) is;
   there = λ d a t. (d, with_has (new_database db kind o) d store.databases a (not_there store db d none a), old_number d a, base_stays numbers (with_number db (last + 1) numbers) d (old_primary d a), refl);
   back = λ e p a h. by_back e p (with_is (new_database db kind o) e store.databases a) h;
+  old = λ e a. by_old e (with_is (new_database db kind o) e store.databases a);
 }
   where
     old_number : (d : Database) → IsAmong d store.databases → with_number db (last + 1) numbers d.name ≡ numbers d.name
@@ -193,6 +225,12 @@ made_done numbers last store db kind o k over none right fit = record {
 
     new_number : (d : Database) → new_database db kind o ≡ d → with_number db (last + 1) numbers d.name ≡ last + 1
     new_number d e = number_its db (last + 1) numbers d.name (sym (ap (λ (x : Database). x.name) e))
+
+    by_old : (e : Database) → (new_database db kind o ≡ e) ⊎ IsAmong e store.databases
+        → ((d : Database) × IsAmong d store.databases × (with_number db (last + 1) numbers e.name ≡ numbers d.name) × (over_by (with_number db (last + 1) numbers) e.index ≡ over_by numbers d.index) × (e.pairs ≡ d.pairs))
+        ⊎ ((with_number db (last + 1) numbers e.name ≡ last + 1) × (over_by (with_number db (last + 1) numbers) e.index ≡ over_by (with_number db (last + 1) numbers) o))
+    by_old e (inl is) = inr (new_number e is, ap (λ (x : Database). over_by (with_number db (last + 1) numbers) x.index) (sym is))
+    by_old e (inr a) = inl (e, a, old_number e a, over_stays numbers (with_number db (last + 1) numbers) e (old_primary e a), refl)
 
     by_allocated : (d : Database) → (new_database db kind o ≡ d) ⊎ IsAmong d store.databases → with_number db (last + 1) numbers d.name ≤ last + 1
     by_allocated d (inl e) = subst (λ (n : ℕ). n ≤ last + 1) (sym (new_number d e)) (omega arith)
@@ -245,7 +283,7 @@ left_has : (name : List ℕ) (d : Database) (ds : List Database) → IsAmong d d
 left_has name d ds a other = among_filter (λ (e : Database). not (is_same_bytes e.name name)) ds d a (ap not (other_bytes d.name name other))
 
 pub removed_done : (numbers : Numbers) (last : ℕ) (store : Store) (db : List ℕ) → AreNumbered numbers last store.databases → AreOver store → list_any (is_index_of db) store.databases ≡ false → IsStore (changed (Remove db) store)
-    → IsDone numbers last store (numbered (Remove db) last numbers) (last + 0) (changed (Remove db) store) (λ d. d.name ≡ db → ⊥) no_new
+    → IsDone numbers last store (numbered (Remove db) last numbers) (last + 0) (changed (Remove db) store) (λ d. d.name ≡ db → ⊥) None
 removed_done numbers last store db k over alone right = record {
   numbered = record {
     allocated = λ d a. let f = left_is db d store.databases a in subst (λ (n : ℕ). n ≤ last + 0) (sym (number_other db 0 numbers d.name f.1)) (let h = k.allocated d f.0 in omega (arith, h));
@@ -261,6 +299,8 @@ removed_done numbers last store db k over alone right = record {
   there = λ d a other. (d, left_has db d store.databases a other, number_other db 0 numbers d.name other, base_stays numbers (with_number db 0 numbers) d (old_primary d a), refl);
   back = λ e p a h. let f = left_is db e store.databases a in
       inl (e, f.0, number_other db 0 numbers e.name f.1, sym (over_stays numbers (with_number db 0 numbers) e (old_primary e f.0)) ∙ h);
+  old = λ e a. let f = left_is db e store.databases a in
+      inl (e, f.0, number_other db 0 numbers e.name f.1, over_stays numbers (with_number db 0 numbers) e (old_primary e f.0), refl);
 }
   where
     old_primary : (d : Database) → IsAmong d store.databases → (i : Index) → d.index ≡ Some i → with_number db 0 numbers i.primary ≡ numbers i.primary
@@ -270,7 +310,7 @@ removed_done numbers last store db k over alone right = record {
 
 pub renamed_done : (numbers : Numbers) (last : ℕ) (store : Store) (db to : List ℕ) (old : Database) → AreNumbered numbers last store.databases → AreOver store → IsStore store → database_of db store ≡ Some old → database_of to store ≡ None
     → IsStore (record { databases = databases_renamed (Some old) to store.databases })
-    → IsDone numbers last store (with_number to (numbers db) (with_number db 0 numbers)) (last + 0) (record { databases = databases_renamed (Some old) to store.databases }) (λ d. d.name ≡ db → ⊥) no_new
+    → IsDone numbers last store (with_number to (numbers db) (with_number db 0 numbers)) (last + 0) (record { databases = databases_renamed (Some old) to store.databases }) (λ d. d.name ≡ db → ⊥) None
 renamed_done numbers last store db to old k over right_old found none right = record {
   numbered = numbered_mapped (with_number to (numbers db) (with_number db 0 numbers)) (last + 0) (with_primary old.name to) (databases_with (with_name old to) (databases_without old.name store.databases)) (λ d. refl) (record {
     allocated = λ d a. by_allocated d (with_is (with_name old to) d (databases_without old.name store.databases) a);
@@ -286,6 +326,7 @@ renamed_done numbers last store db to old k over right_old found none right = re
     refl,
   );
   back = λ e p a h. by_back e p (mapped_among (with_primary old.name to) (databases_with (with_name old to) (databases_without old.name store.databases)) e a) h;
+  old = λ e a. by_old e (mapped_among (with_primary old.name to) (databases_with (with_name old to) (databases_without old.name store.databases)) e a);
 }
   where
     its : IsAmong old store.databases × (old.name ≡ db)
@@ -333,13 +374,28 @@ renamed_done numbers last store db to old k over right_old found none right = re
 
     -- a database under the new names is one of the old ones
     was : (z : Database) → (with_name old to ≡ z) ⊎ IsAmong z (databases_without old.name store.databases)
-        → (y : Database) × IsAmong y store.databases × (y.kind ≡ z.kind) × (y.index ≡ z.index) × (with_number to (numbers db) (with_number db 0 numbers) z.name ≡ numbers y.name)
-    was z (inl e) = (old, its.0, ap (λ (x : Database). x.kind) e, ap (λ (x : Database). x.index) e, new_number z e)
-    was z (inr a) = let f = left z a in (z, f.0, refl, refl, old_number z f.0 f.1)
+        → (y : Database) × IsAmong y store.databases × (y.kind ≡ z.kind) × (y.index ≡ z.index) × (with_number to (numbers db) (with_number db 0 numbers) z.name ≡ numbers y.name) × (y.pairs ≡ z.pairs)
+    was z (inl e) = (old, its.0, ap (λ (x : Database). x.kind) e, ap (λ (x : Database). x.index) e, new_number z e, ap (λ (x : Database). x.pairs) e)
+    was z (inr a) = let f = left z a in (z, f.0, refl, refl, old_number z f.0 f.1, refl)
+
+    by_old : (e : Database) → (z : Database) × IsAmong z (databases_with (with_name old to) (databases_without old.name store.databases)) × (with_primary old.name to z ≡ e)
+        → ((d : Database) × IsAmong d store.databases × (with_number to (numbers db) (with_number db 0 numbers) e.name ≡ numbers d.name)
+        × (over_by (with_number to (numbers db) (with_number db 0 numbers)) e.index ≡ over_by numbers d.index) × (e.pairs ≡ d.pairs))
+        ⊎ ((with_number to (numbers db) (with_number db 0 numbers) e.name ≡ last + 1) × (over_by (with_number to (numbers db) (with_number db 0 numbers)) e.index ≡ None))
+    by_old e (z, a, is) =
+        let y = was z (with_is (with_name old to) z (databases_without old.name store.databases) a) in
+        inl (
+          y.0,
+          y.1,
+          ap (λ (x : Database). with_number to (numbers db) (with_number db 0 numbers) x.name) (sym is) ∙ y.4,
+          ap (λ (x : Database). over_by (with_number to (numbers db) (with_number db 0 numbers)) x.index) (sym is)
+              ∙ (ap (λ (o : Option Index). over_by (with_number to (numbers db) (with_number db 0 numbers)) (option_map (index_renamed old.name to) o)) (sym y.3) ∙ renamed_over y.0 y.1),
+          ap (λ (x : Database). x.pairs) (sym is) ∙ sym y.5,
+        )
 
     by_back : (e : Database) (p : ℕ × Extract) → (z : Database) × IsAmong z (databases_with (with_name old to) (databases_without old.name store.databases)) × (with_primary old.name to z ≡ e)
         → over_by (with_number to (numbers db) (with_number db 0 numbers)) e.index ≡ Some p
-        → ((d : Database) × IsAmong d store.databases × (with_number to (numbers db) (with_number db 0 numbers) e.name ≡ numbers d.name) × (over_by numbers d.index ≡ Some p)) ⊎ no_new p.0
+        → ((d : Database) × IsAmong d store.databases × (with_number to (numbers db) (with_number db 0 numbers) e.name ≡ numbers d.name) × (over_by numbers d.index ≡ Some p)) ⊎ IsOfNew numbers None p.0
     by_back e p (z, a, is) h =
         let y = was z (with_is (with_name old to) z (databases_without old.name store.databases) a) in
         inl (
@@ -401,7 +457,7 @@ cond_index false d = refl
 
 pub emptied_done : (numbers : Numbers) (last : ℕ) (store : Store) (db : List ℕ) (old : Database) → AreNumbered numbers last store.databases → AreOver store → IsStore store → database_of db store ≡ Some old → old.index ≡ None
     → list_any (is_index_of db) store.databases ≡ false → IsStore (changed (Empty db) store)
-    → IsDone numbers last store (numbered (Empty db) last numbers) (last + 1) (changed (Empty db) store) (λ d. d.name ≡ db → ⊥) no_new
+    → IsDone numbers last store (numbered (Empty db) last numbers) (last + 1) (changed (Empty db) store) (λ d. d.name ≡ db → ⊥) None
 emptied_done numbers last store db old k over right_old found none alone right = record {
   numbered = record {
     allocated = λ d a. let m = mapped_among f store.databases d a in
@@ -426,6 +482,7 @@ emptied_done numbers last store db old k over right_old found none alone right =
       let name : e.name ≡ m.0.name = sym (sym (cond_name (is_same_bytes m.0.name db) m.0) ∙ ap (λ (x : Database). x.name) m.2) in
       let is : over_by (with_number db (last + 1) numbers) m.0.index ≡ Some p = ap (over_by (with_number db (last + 1) numbers)) same ∙ h in
       inl (m.0, m.1, ap (with_number db (last + 1) numbers) name ∙ number_other db (last + 1) numbers m.0.name (not_it m.0 m.1 p is), sym (over_stays numbers (with_number db (last + 1) numbers) m.0 (old_primary m.0 m.1)) ∙ is);
+  old = λ e a. let m = mapped_among f store.databases e a in by_old e m.0 m.1 m.2 (is_same_bytes m.0.name db) refl;
 }
   where
     f : Database → Database
@@ -436,6 +493,26 @@ emptied_done numbers last store db old k over right_old found none alone right =
 
     same_there : (d : Database) → IsAmong d store.databases → (d.name ≡ db → ⊥) → IsAmong d (map f store.databases)
     same_there d a other = subst (λ (x : Database). IsAmong x (map f store.databases)) (cond-false (is_same_bytes d.name db) (with_pairs d []) d (other_bytes d.name db other)) (among_map f store.databases d a)
+
+    by_old : (e d : Database) → IsAmong d store.databases → cond (is_same_bytes d.name db) (with_pairs d []) d ≡ e → (b : Bool) → is_same_bytes d.name db ≡ b
+        → ((x : Database) × IsAmong x store.databases × (with_number db (last + 1) numbers e.name ≡ numbers x.name) × (over_by (with_number db (last + 1) numbers) e.index ≡ over_by numbers x.index) × (e.pairs ≡ x.pairs))
+        ⊎ ((with_number db (last + 1) numbers e.name ≡ last + 1) × (over_by (with_number db (last + 1) numbers) e.index ≡ None))
+    by_old e d a is true k =
+        let i = found_is (λ (x : Database). is_same_bytes x.name db) store.databases old found in
+        let same : d ≡ old = one_database store d old right_old a i.0 (bytes_exact d.name db k ∙ sym (bytes_exact old.name db i.1)) in
+        inr (
+          number_its db (last + 1) numbers e.name (ap (λ (x : Database). x.name) (sym is) ∙ (cond_name (is_same_bytes d.name db) d ∙ bytes_exact d.name db k)),
+          ap (over_by (with_number db (last + 1) numbers)) (ap (λ (x : Database). x.index) (sym is) ∙ (cond_index (is_same_bytes d.name db) d ∙ (ap (λ (x : Database). x.index) same ∙ none))),
+        )
+    by_old e d a is false k =
+        let it : d ≡ e = sym (cond-false (is_same_bytes d.name db) (with_pairs d []) d k) ∙ is in
+        inl (
+          d,
+          a,
+          ap (λ (x : Database). with_number db (last + 1) numbers x.name) (sym it) ∙ cond-false (is_same_bytes d.name db) (last + 1) (numbers d.name) k,
+          ap (λ (x : Database). over_by (with_number db (last + 1) numbers) x.index) (sym it) ∙ over_stays numbers (with_number db (last + 1) numbers) d (old_primary d a),
+          ap (λ (x : Database). x.pairs) (sym it),
+        )
 
     -- the emptied one is no index
     not_it : (d : Database) → IsAmong d store.databases → (p : ℕ × Extract) → over_by (with_number db (last + 1) numbers) d.index ≡ Some p → d.name ≡ db → ⊥

@@ -46,7 +46,11 @@ use Rattle.serial_replay.specs.Cycles.{waits_at, NeverWaitInCycle}
 use Rattle.serial_replay.specs.Laws.{CyclesNeverStand}
 use Rattle.serial_replay.proofs.WaitCycles.{waits_of, AreQueues, queues_of, released_free, released_queues, forgotten_free, forgotten_queues, all_got_free, back_free, wait_free}
 use Rattle.serial_replay.proofs.Victims.{waiting_now, sound_before, victims_keep}
-use Rattle.serial_replay.proofs.Replaying.{HasFault, faulted_refusal, fault_stays}
+use Rattle.serial_replay.proofs.Replaying.{AnyStore, HasFault, faulted_refusal, fault_stays}
+
+-- a fault has come, whatever the store holds
+abbrev HasAnyFault : Standing → Type 0
+HasAnyFault st = HasFault AnyStore st
 
 abbrev IsFree : Standing → Type 0
 IsFree st = HasNoCycle (waits_of st.locks)
@@ -249,10 +253,10 @@ event_free limit st (Turn line step answer) fault r free is = turn_free step ans
 abbrev AreResting : Standing → Type 0
 AreResting st = AreQueues st.locks × IsFree st
 
-rest_called : (st : Standing) (session line : ℕ) (call : Call) (answer : Answer) (vs : List Victim) → HasFault st → AreResting st → AreResting (after_call (early_refusal st session call) st session line call answer vs)
+rest_called : (st : Standing) (session line : ℕ) (call : Call) (answer : Answer) (vs : List Victim) → HasAnyFault st → AreResting st → AreResting (after_call (early_refusal st session call) st session line call answer vs)
 rest_called st session line call answer vs f q = subst (λ (o : Option Answer). AreResting (after_call o st session line call answer vs)) (sym (faulted_refusal st session call f.0 f.1)) q
 
-rest_resumed : (o : Option Wait) (st : Standing) (session line : ℕ) (answer : Answer) (vs : List Victim) → HasFault st → AreResting st → AreResting (after_resumed o st session line answer vs)
+rest_resumed : (o : Option Wait) (st : Standing) (session line : ℕ) (answer : Answer) (vs : List Victim) → HasAnyFault st → AreResting st → AreResting (after_resumed o st session line answer vs)
 rest_resumed None st session line answer vs f q = q
 rest_resumed (Some w) st session line answer vs f q = rest_called (resumed st w) session line w.call answer vs f (forgotten_queues w.txn st.locks q.0, forgotten_free w.txn st.locks q.1)
 
@@ -277,7 +281,7 @@ rest_turn Finish answer st q = rest_if answer st q
 rest_turn Flush answer st q = rest_if answer st q
 rest_turn SyncStep answer st q = rest_if answer st q
 
-rest_event : (st : Standing) (event : Event) → HasFault st → AreResting st → AreResting (after_event st event)
+rest_event : (st : Standing) (event : Event) → HasAnyFault st → AreResting st → AreResting (after_event st event)
 rest_event st (Called session line call answer victims) f q = rest_called st session line call answer victims f q
 rest_event st (Resume session line answer victims) f q = rest_resumed (wait_of session st.waiting) st session line answer victims f q
 rest_event st (End session) f q = rest_ended (active_of session st.actives) (record st { waiting = without_wait session st.waiting }) q
@@ -289,7 +293,7 @@ rest_event st (Turn line step answer) f q = rest_turn step answer st q
 -- ---- journals
 
 abbrev Carries : Standing → Type 0
-Carries st = ((st.fault ≡ None) × AreRight st × IsFree st) ⊎ (HasFault st × AreResting st)
+Carries st = ((st.fault ≡ None) × AreRight st × IsFree st) ⊎ (HasAnyFault st × AreResting st)
 
 free_now : (st : Standing) → Carries st → HasNoCycle (waits_at st)
 free_now st (inl c) = c.2
@@ -303,8 +307,8 @@ carried limit st event (inl c) is = by (after_event st event).fault refl
 
     by : (o : Option Fault) → (after_event st event).fault ≡ o → Carries (after_event st event)
     by None e = inl (e, right, event_free limit st event c.0 c.1 c.2 is)
-    by (Some first) e = inr ((first, e), (queues_of (after_event st event).locks right.sound.tables, event_free limit st event c.0 c.1 c.2 is))
-carried limit st event (inr c) is = inr (fault_stays st event c.0, rest_event st event c.0 c.1)
+    by (Some first) e = inr ((first, e, tt), (queues_of (after_event st event).locks right.sound.tables, event_free limit st event c.0 c.1 c.2 is))
+carried limit st event (inr c) is = inr (fault_stays AnyStore st event c.0, rest_event st event c.0 c.1)
 
 never : (limits : List (Option Answer)) (journal : List Event) (st : Standing) → Carries st → AnswersAsModel st limits journal → NeverWaitInCycle st journal
 never limits [] st c is = free_now st c
@@ -322,4 +326,4 @@ cycles_never-stand p limits journal is = never limits journal (alone p) (first p
   where
     first : (o : Option Fault) → p.fault ≡ o → Carries (alone p)
     first None e = inl (e, alone-is_right p, nothing)
-    first (Some f) e = inr ((f, e), (queues_of (alone p).locks (alone-is_right p).sound.tables, nothing))
+    first (Some f) e = inr ((f, e, tt), (queues_of (alone p).locks (alone-is_right p).sound.tables, nothing))

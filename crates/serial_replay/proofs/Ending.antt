@@ -1,5 +1,5 @@
 -- A transaction ends: what it leaves agrees with what was there at all names that it did not write, and it wrote none that another one read.
-use Rattle.std.proofs.Common.{◌≡◌, ◌≤◌, ◌+◌, inl, inr, ℕ, ◌==◌, Bool, true, false, not, List, [], ◌∷◌, ◌++◌, Option, None, Some, refl, ap, ap₂, sym, ◌∙◌, subst, ⊎_elim, arith}
+use Rattle.std.proofs.Common.{◌≡◌, ◌≤◌, ◌+◌, ◌⊎◌, inl, inr, ℕ, ◌==◌, Bool, true, false, not, List, [], ◌∷◌, ◌++◌, Option, None, Some, refl, ap, ap₂, sym, ◌∙◌, subst, ⊎_elim, arith}
 use Rattle.std.specs.List.{AllByRecursion}
 use Rattle.std.proofs.lemmas.Bool.{cases_Bool, cond-true, cond-false, both_ways, eqb-true}
 use Rattle.je_order.specs.declared.name.Name.{Name}
@@ -36,6 +36,8 @@ use Rattle.serial_replay.proofs.Holding.{Holds, release_keeps, clash}
 use Rattle.serial_replay.proofs.Occupied.{IsWritten, of_db_is}
 use Rattle.serial_replay.proofs.Shut.{place}
 use Rattle.serial_replay.proofs.Stores.{Base, Numbers, base_in, pairs_in, base_at, pairs_at, IsFit, AreNumbered, all_base, all_pairs, AreOver, all_right, over_all, numbered_all}
+use Rattle.serial_replay.proofs.Upkeep.{AreUp, up_own}
+use Rattle.serial_replay.proofs.IndexBases.{up_committed}
 use Rattle.serial_replay.proofs.Keeping.{occupied_at, IsStable, stable_same, IsWell, IsKept, own_same, fits_kept, keeps_kept, IsGround, EachBut, IsKnown}
 
 -- ---- a commit changes records alone
@@ -130,7 +132,14 @@ pub end_named : (st : Standing) (a : Active) (cs : List (ℕ × RecordChange)) (
 end_named st a cs changes e = end_by st a cs changes e (subst (AllByRecursion IsOfRecords) (sym e) (named_of_records st cs))
 
 module _ (st : Standing) (a : Active) (cs : List (ℕ × RecordChange)) (new : Standing) (told : List AnsweredCall) (sound : AreSound st) (there : IsAmong a st.actives) (ground : IsGround st told)
-    (its : (c : ℕ × RecordChange) → IsAmong c cs → IsAmong c (st.own a.txn.0)) (end : IsEndOf st a cs new) where
+    (whole : (cs ≡ []) ⊎ (cs ≡ st.own a.txn.0)) (end : IsEndOf st a cs new) where
+  its : (c : ℕ × RecordChange) → IsAmong c cs → IsAmong c (st.own a.txn.0)
+  its c k = by whole
+    where
+      by : (cs ≡ []) ⊎ (cs ≡ st.own a.txn.0) → IsAmong c (st.own a.txn.0)
+      by (inl e) = absurd (subst (IsAmong c) e k)
+      by (inr e) = subst (IsAmong c) e k
+
   fit : AllByRecursion (IsFit st) cs
   fit = all_of (IsFit st) cs (λ c k. all_at (IsFit st) (st.own a.txn.0) c (ground.fits a.txn.0) (its c k))
 
@@ -229,10 +238,26 @@ module _ (st : Standing) (a : Active) (cs : List (ℕ × RecordChange)) (new : S
     over = subst AreOver (sym end.store) (over_all st.numbers st.store cs st.store ground.well.over);
   }
 
+  -- indexes are kept up
+  up_end : (cs ≡ []) ⊎ (cs ≡ st.own a.txn.0) → AreUp new
+  up_end (inl e) = up_own st new (end.store ∙ ap (λ (l : List (ℕ × RecordChange)). all_changed (changes_named st l) st.store) e) end.numbers own_or_none ground.up
+    where
+      own_or_none : (t : ℕ) → (new.own t ≡ st.own t) ⊎ (new.own t ≡ [])
+      own_or_none t = ⊎_elim
+          (λ k. inr (end.own t ∙ cond-true (t == a.txn.0) [] (st.own t) k))
+          (λ k. inl (end.own t ∙ cond-false (t == a.txn.0) [] (st.own t) k))
+          (cases_Bool (t == a.txn.0))
+  up_end (inr e) = up_committed st a new told sound ground (record {
+    bases = same_base;
+    pairs = λ n b k. pairs_are n b k ∙ ap (λ (l : List (ℕ × RecordChange)). all_pairs_changed b.1 (of_db n l) (pairs_at n st)) e;
+    own = end.own;
+  })
+
   pub ground_end : IsGround new told
   ground_end = record {
     well = well_end;
     fits = fits_end;
+    up = up_end whole;
     last = subst (λ (l : ℕ). AllByRecursion (λ (c : AnsweredCall). c.txn.0 ≤ l) told) (sym end.last_txn) ground.last;
   }
 

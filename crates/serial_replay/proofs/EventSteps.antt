@@ -103,11 +103,8 @@ target_facts st told session call g may ground e = absurd may
 
 -- ---- a transaction ends without a commit
 
-no_own : (c : ℕ × RecordChange) (own : List (ℕ × RecordChange)) → IsAmong c [] → IsAmong c own
-no_own c own k = absurd k
-
 pub known_ended : (st : Standing) (a : Active) (told : List AnsweredCall) → AreSound st → IsAmong a st.actives → IsKnown st told → IsKnown (ended a st) told
-known_ended st a told sound there known = known_end st a [] (ended a st) told sound there known.ground (λ c k. no_own c (st.own a.txn.0) k) (end_is st a []) (λ b k apart. known.each b k)
+known_ended st a told sound there known = known_end st a [] (ended a st) told sound there known.ground (inl refl) (end_is st a []) (λ b k apart. known.each b k)
 
 -- ---- a call on records, of a transaction that may run it
 
@@ -252,17 +249,16 @@ module _ (st : Standing) (a : Active) (call : Call) (g : Target) (told : List An
         ap (λ (l : List Change). change_in m.0.1.name m.1 ∷ l) (all_named ms (λ x i. there x (inr i)))
         ∙ ap (λ (o : Option Database). changes_in o m.1 ++ changes_named done (with_numbers ms)) (sym (there m (inl refl)))
 
-    among_behind : (xs ys : List (ℕ × RecordChange)) (c : ℕ × RecordChange) → IsAmong c ys → IsAmong c (xs ++ ys)
-    among_behind [] ys c k = k
-    among_behind (x ∷ xs) ys c k = inr (among_behind xs ys c k)
+    -- they are all its own
+    whole : st.own a.txn.0 ≡ [] → with_numbers (made st a call g) ≡ done.own a.txn.0
+    whole bare =
+        ap (λ (l : List (ℕ × RecordChange)). l ++ with_numbers (made st a call g)) (sym bare)
+        ∙ sym (own_its st a call g told may m.right.sound known.ground on free done step)
 
-    its : (c : ℕ × RecordChange) → IsAmong c (with_numbers (made st a call g)) → IsAmong c (done.own a.txn.0)
-    its c k = subst (IsAmong c) (sym (own_its st a call g told may m.right.sound known.ground on free done step)) (among_behind (st.own a.txn.0) (with_numbers (made st a call g)) c k)
-
-    pub known_committed : IsKnown (ended a (committed_if_any (with_names (changes_with st a g (outcome_of st a call g).changes)) done)) told
-    known_committed =
+    pub known_committed : st.own a.txn.0 ≡ [] → IsKnown (ended a (committed_if_any (with_names (changes_with st a g (outcome_of st a call g).changes)) done)) told
+    known_committed bare =
         known_end done a (with_numbers (made st a call g)) (ended a (committed_if_any (with_names (changes_with st a g (outcome_of st a call g).changes)) done)) told sound_done (there_is st a m)
-        (ground_call st a call g told may m.right.sound known.ground on free done step) its
+        (ground_call st a call g told may m.right.sound known.ground on free done step (there_is st a m)) (inr (whole bare))
         (end_named done a (with_numbers (made st a call g)) (with_names (changes_with st a g (outcome_of st a call g).changes))
         (all_named (made st a call g) (made_there st a call g told may m.right.sound known.ground on free)))
         (others_call st a call g told may m.right.sound known.ground on free done step (there_is st a m) (λ b k apart. known.each b k))

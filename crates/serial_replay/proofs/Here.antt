@@ -50,10 +50,6 @@ abbrev pub HasRecords : Standing → Active → Type 0
 HasRecords st a = (x p : Numbered) (e : Extract) (key primary_key : List ℕ) → database_at x.0 st ≡ Some x.1 → database_at p.0 st ≡ Some p.1 → over_by st.numbers x.1.index ≡ Some (p.0, e)
     → IsAmong (key, primary_key) (view_in st a x) → (value : List ℕ) × IsAmong (primary_key, value) (view_in st a p)
 
--- of each transaction at repeatable read
-abbrev pub AreComplete : Standing → Type 0
-AreComplete st = (a : Active) → IsAmong a st.actives → a.level ≡ RepeatableRead → HasRecords st a
-
 module _ (st : Standing) (a : Active) (told : List AnsweredCall) (sound : AreSound st) (ground : IsGround st told) (x : Numbered) (it : database_at x.0 st ≡ Some x.1) where
   abbrev pub base_there : Base
   base_there = (x.1.name, x.1.kind, over_by st.numbers x.1.index)

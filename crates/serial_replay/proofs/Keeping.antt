@@ -39,6 +39,7 @@ use Rattle.serial_replay.proofs.Holding.{Sort, IsSort, Holds, ranges, any_lock, 
 use Rattle.serial_replay.proofs.Occupied.{IsOccupied, flat_has}
 use Rattle.serial_replay.proofs.Shut.{Closed, is_inside, place, IsThere, IsShut, only}
 use Rattle.serial_replay.proofs.Stores.{Numbers, Over, over_by, Base, base_of, pairs_of, numbered_in, IsBased, based, base_at, pairs_at, IsFit, AreNumbered, AreOver, pairs_rise, named_same}
+use Rattle.serial_replay.proofs.Upkeep.{AreUp}
 use Rattle.serial_replay.proofs.Through.{records_number, changed_by, answered_by, in_index, with_all, reply_changes, same_data, IsFound, found_target, changes_are, same_reply}
 
 -- ---- a call that was answered
@@ -492,6 +493,7 @@ fits_kept st new t sound fit stable = all_of (IsFit new) (st.own t) (λ c a.
 pub record IsGround (st : Standing) (told : List AnsweredCall) : Type 0 where
   pub well : IsWell st
   pub fits : (t : ℕ) → AllByRecursion (IsFit st) (st.own t)
+  pub up : AreUp st
   pub last : AllByRecursion (λ c. c.txn.0 ≤ st.last_txn) told
 
 abbrev pub KeepsIf : Standing → List AnsweredCall → Active → Type 0

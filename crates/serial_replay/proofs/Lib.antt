@@ -16,6 +16,8 @@ pub mod EdgeOrder
 pub mod Shut
 -- Databases by name and by number, and how changes of records change a store.
 pub mod Stores
+-- Indexes by the numbers of databases, which transactions keep up.
+pub mod Upkeep
 -- Databases with their numbers, in rising order.
 pub mod NumberedLists
 -- What a call comes to through indexes.
@@ -24,14 +26,22 @@ pub mod Through
 pub mod Places
 -- What holds of each transaction's calls, and of the environment that they were answered in.
 pub mod Keeping
+-- An index and its primary, and a commit.
+pub mod IndexBases
 -- The calls on records, one by one.
 pub mod Calls
 -- A database as a transaction sees it.
 pub mod Here
+-- Pairs of indexes, as transactions see them.
+pub mod SeenIndexes
 -- A transaction ends.
 pub mod Ending
 -- A call gets its locks and is evaluated.
 pub mod Calling
+-- What a call changes, in which databases.
+pub mod OneCall
+-- A call keeps indexes up.
+pub mod CallUpkeep
 -- A call that was evaluated is told.
 pub mod Told
 -- Steps that change locks alone.
@@ -50,10 +60,14 @@ pub mod Victims
 pub mod EventSteps
 -- Each event keeps what holds of the calls.
 pub mod EventsKeep
--- Pairs of indexes, as transactions see them.
-pub mod SeenIndexes
+-- Indexes by name and by number.
+pub mod IndexesSeen
 -- What is owed at a commit, and journals.
 pub mod Replaying
+-- An event that met a disk fault, with another answer.
+pub mod Succeeding
+-- Standings that journals lead to, and attempted commits.
+pub mod Attempts
 -- Who waits for whom after each step of the locks.
 pub mod WaitCycles
 -- No cycle stands after an event.

@@ -20,6 +20,7 @@ use Rattle.standing_laws.proofs.Among.{IsAmong}
 use Rattle.serial_replay.specs.Replay.{AnsweredCall}
 use Rattle.serial_replay.proofs.Holding.{Sort, IsSort, Holds, all_got_keeps}
 use Rattle.serial_replay.proofs.Stores.{Numbers, base_in, pairs_in, base_at, pairs_at, IsFit}
+use Rattle.serial_replay.proofs.Upkeep.{up_own}
 use Rattle.serial_replay.proofs.Keeping.{occupied_at, IsStable, stable_same, well_same, IsKept, own_same, fits_kept, KeepsOf, KeepsPlaces, keeps, keeps_kept, IsGround, IsKnown}
 use Rattle.serial_replay.proofs.Calling.{back_keeps, back_none}
 
@@ -89,6 +90,7 @@ module _ (st new : Standing) (told : List AnsweredCall) (sound : AreSound st) (q
   ground_quiet ground = record {
     well = well_same st new quiet.store quiet.numbers quiet.last_db ground.well;
     fits = λ t. subst (AllByRecursion (IsFit new)) (sym (quiet.own t)) (fits_kept st new t sound (ground.fits t) stable);
+    up = up_own st new quiet.store quiet.numbers (λ t. inl (quiet.own t)) ground.up;
     last = all_each (λ (c : AnsweredCall). c.txn.0 ≤ st.last_txn) (λ c. c.txn.0 ≤ new.last_txn) (λ c h. let k = quiet.last_txn in omega (arith, h, k)) told ground.last;
   }
 

@@ -8,7 +8,7 @@ use Rattle.store_model.specs.declared.isolation.Isolation.{Isolation}
 use Rattle.store_model.specs.declared.isolation.Isolation.TheVariants.{ReadUncommitted, ReadCommitted, RepeatableRead, Serializable}
 use Rattle.je_order.specs.declared.name.Name.{Name}
 use Rattle.store_model.specs.declared.call.Call.{Call}
-use Rattle.store_model.specs.declared.call.Call.TheVariants.{Commit, CreateIndex}
+use Rattle.store_model.specs.declared.call.Call.TheVariants.{Commit}
 use Rattle.store_model.specs.declared.store.Database.{Database}
 use Rattle.store_model.specs.declared.index.Index.{Index}
 use Rattle.store_model.specs.declared.extract.Extract.{Extract}
@@ -25,7 +25,7 @@ use Rattle.store_model.specs.declared.answer.Answer.TheVariants.{Done, Rec, Inde
 use Rattle.store_model.specs.declared.event.Event.{Event}
 use Rattle.store_model.specs.declared.event.Event.TheVariants.{Call as Called, Resume, End, WriteOut, SyncBegin, SyncEnd, Turn}
 use Rattle.store_model.specs.Store.{Pair, name_of, IsStore, database_of, change_in, all_changed, all_pairs_changed}
-use Rattle.store_model.specs.Indexes.{HasNoIndex, Numbered, all_changes, answer_through}
+use Rattle.store_model.specs.Indexes.{IsIndex, AreIndexed, Numbered, all_changes, answer_through}
 use Rattle.store_model.specs.Reads.{at_name}
 use Rattle.store_model.specs.Records.{Evaluated, evaluation}
 use Rattle.store_model.specs.Refusals.{or_refusal}
@@ -35,21 +35,22 @@ use Rattle.je_answers.specs.Standing.{Standing, active_of, wait_of, without_wait
 use Rattle.je_answers.specs.Views.{Target, target, of_db, with_numbers, with_names, changes_in, changes_named}
 use Rattle.je_answers.specs.Refusals.{fault_refusal, waits_refusal, abort_refusal, txn_refusal, early_refusal, late_refusal, number_refusal}
 use Rattle.je_answers.specs.Events.{resumed, IsCallAnswered, IsAnswered}
-use Rattle.je_answers.specs.After.{ended_if_any, faulted_if, after_begin, after_turn, after_call, after_resumed, after_event, AnswersAsModel}
+use Rattle.je_answers.specs.After.{ended_if_any, faulted_if, after_begin, after_turn, after_call, after_resumed, after_event, after_events, AnswersAsModel}
 use Rattle.je_answers.specs.Journal.{changes_ended, changes_evaluated, changes_of, changes_by}
 use Rattle.je_answers.specs.Alone.{Alone, alone, records_of, evaluated_on, changes_of_call}
-use Rattle.standing_laws.specs.Right.{AreRight, MayWait}
+use Rattle.standing_laws.specs.Right.{AreRight}
+use Rattle.standing_laws.specs.Laws.{AreBare}
 use Rattle.standing_laws.proofs.Among.{IsAmong, all_at, all_of, find_some, found_is, any_from, its_session}
 use Rattle.standing_laws.proofs.StandingsStay.{standings_stay-right}
+use Rattle.standing_laws.proofs.StandingsBare.{standings_stay-bare}
 use Rattle.standing_laws.proofs.AloneRight.{alone-is_right}
 use Rattle.serial_replay.specs.Replay.{HasPair, primary_in, over_in, AnsweredCall, Positions, Reply, calls_of, is_of_cursors, cursor_of, nowhere, position_of, positions_after, comes_to, on_store, replayed, GivesAgain, IsRecordOf, StandsAgain, IsOwedTo, is_committed, IsOwedBy, IsOwedAt, told_by, with_told, ReplaysFrom}
-use Rattle.serial_replay.specs.Laws.{HaveNumbers, AsksNoIndex, HasNoIndexCall, SeesIndexes, AlwaysSeeIndexes, IndexedJournalsReplay, JournalsReplay}
-use Rattle.serial_replay.proofs.SeenIndexes.{sees_records}
-use Rattle.je_answers.proofs.WithoutIndexes.{IsNoIndexing, MakesNone, event_keeps_no_index}
-use Rattle.serial_replay.proofs.Here.{AreComplete}
+use Rattle.indexed_standings.specs.Indexed.{AreIndexedFor}
+use Rattle.serial_replay.specs.Laws.{HaveNumbers, JournalsReplay, IsIndexedAt, StaysIndexed, IndexesStay, NoneIsIndexed}
+use Rattle.serial_replay.proofs.IndexesSeen.{first_up, are_indexed, are_seen}
 use Rattle.serial_replay.proofs.Stores.{Numbers, Base, over_by, base_of, IsBased, pairs_of, base_at, pairs_at, based, numbered_in, number_of_found, same_bytes, IsFit, named_in, named_same, AreNumbered, named_append, all_append, all_base, all_pairs, all_right, numbered_all, by_number, by_found, AreOver, indexed_over, over_all}
 use Rattle.serial_replay.proofs.Through.{records_number, changed_by, answered_by, in_index, reply_changes, IsFound, found_target, changes_are, same_reply, all_there}
-use Rattle.serial_replay.proofs.Keeping.{Said, see_with, IsSer, IsHeldIn, IsHeldOver, IsSerAs, IsSerial, IsRepeatableAs, IsRepeatable, Follows, follows_from, before_own, call_by, KeepsOf, keeps, IsGround, IsKnown}
+use Rattle.serial_replay.proofs.Keeping.{Said, see_with, IsSer, IsHeldIn, IsHeldOver, IsSerAs, IsSerial, IsRepeatableAs, IsRepeatable, Follows, follows_from, before_own, call_by, KeepsOf, keeps, IsWell, IsGround, IsKnown}
 use Rattle.serial_replay.proofs.Replies.{early_other}
 use Rattle.serial_replay.proofs.EventsKeep.{event_known}
 
@@ -370,103 +371,98 @@ owed_faulted limit st (Called session line Commit answer vs) told first e is =
     not_owed (is_committed answer) (active_of session st.actives) st told (changes_by st (Called session line Commit answer vs)) (ap is_committed refusal.0)
 owed_faulted limit st event told first e is = tt
 
--- and the fault stays
-abbrev pub HasFault : Standing → Type 0
-HasFault st = (first : Fault) × (st.fault ≡ Some first)
+-- whatever the store holds
+abbrev pub AnyStore : Store → Type 0
+AnyStore store = Unit {0}
 
-fault_called : (st : Standing) (session line : ℕ) (call : Call) (answer : Answer) (vs : List Victim) → HasFault st → HasFault (after_call (early_refusal st session call) st session line call answer vs)
-fault_called st session line call answer vs f = subst (λ (o : Option Answer). HasFault (after_call o st session line call answer vs)) (sym (faulted_refusal st session call f.0 f.1)) f
+-- and the fault stays, and so does what holds of the store
+module _ (P : Store → Type 0) where
+  abbrev pub HasFault : Standing → Type 0
+  HasFault st = (first : Fault) × (st.fault ≡ Some first) × P st.store
 
-fault_resumed : (o : Option Wait) (st : Standing) (session line : ℕ) (answer : Answer) (vs : List Victim) → HasFault st → HasFault (after_resumed o st session line answer vs)
-fault_resumed None st session line answer vs f = f
-fault_resumed (Some w) st session line answer vs f = fault_called (resumed st w) session line w.call answer vs f
+  fault_called : (st : Standing) (session line : ℕ) (call : Call) (answer : Answer) (vs : List Victim) → HasFault st → HasFault (after_call (early_refusal st session call) st session line call answer vs)
+  fault_called st session line call answer vs f = subst (λ (o : Option Answer). HasFault (after_call o st session line call answer vs)) (sym (faulted_refusal st session call f.0 f.1)) f
 
-fault_ended : (o : Option Active) (st : Standing) → HasFault st → HasFault (ended_if_any o st)
-fault_ended None st f = f
-fault_ended (Some a) st f = f
+  fault_resumed : (o : Option Wait) (st : Standing) (session line : ℕ) (answer : Answer) (vs : List Victim) → HasFault st → HasFault (after_resumed o st session line answer vs)
+  fault_resumed None st session line answer vs f = f
+  fault_resumed (Some w) st session line answer vs f = fault_called (resumed st w) session line w.call answer vs f
 
-fault_if : (answer : Answer) (st : Standing) → HasFault st → HasFault (faulted_if answer st)
-fault_if DiskFault st f = (Disk, refl)
-fault_if answer st f = f
+  fault_ended : (o : Option Active) (st : Standing) → HasFault st → HasFault (ended_if_any o st)
+  fault_ended None st f = f
+  fault_ended (Some a) st f = f
 
-fault_begun : (answer : Answer) (st : Standing) → HasFault st → HasFault (after_begin st answer)
-fault_begun Done st f = f
-fault_begun DiskFault st f = (Disk, refl)
-fault_begun answer st f = f
+  fault_if : (answer : Answer) (st : Standing) → HasFault st → HasFault (faulted_if answer st)
+  fault_if DiskFault st f = (Disk, refl, f.2)
+  fault_if answer st f = f
 
-fault_turned : (step : Step) (answer : Answer) (st : Standing) → HasFault st → HasFault (after_turn step st answer)
-fault_turned BeginStep Done st f = f
-fault_turned Finish Done st f = f
-fault_turned BeginStep answer st f = fault_if answer st f
-fault_turned Finish answer st f = fault_if answer st f
-fault_turned Flush answer st f = fault_if answer st f
-fault_turned SyncStep answer st f = fault_if answer st f
+  fault_begun : (answer : Answer) (st : Standing) → HasFault st → HasFault (after_begin st answer)
+  fault_begun Done st f = f
+  fault_begun DiskFault st f = (Disk, refl, f.2)
+  fault_begun answer st f = f
 
-pub fault_stays : (st : Standing) (event : Event) → HasFault st → HasFault (after_event st event)
-fault_stays st (Called session line call answer victims) f = fault_called st session line call answer victims f
-fault_stays st (Resume session line answer victims) f = fault_resumed (wait_of session st.waiting) st session line answer victims f
-fault_stays st (End session) f = fault_ended (active_of session st.actives) (record st { waiting = without_wait session st.waiting }) f
-fault_stays st (WriteOut answer) f = fault_if answer st f
-fault_stays st (SyncBegin answer) f = fault_begun answer st f
-fault_stays st (SyncEnd answer) f = fault_if answer (record st { begun = None }) f
-fault_stays st (Turn line step answer) f = fault_turned step answer st f
+  fault_turned : (step : Step) (answer : Answer) (st : Standing) → HasFault st → HasFault (after_turn step st answer)
+  fault_turned BeginStep Done st f = f
+  fault_turned Finish Done st f = f
+  fault_turned BeginStep answer st f = fault_if answer st f
+  fault_turned Finish answer st f = fault_if answer st f
+  fault_turned Flush answer st f = fault_if answer st f
+  fault_turned SyncStep answer st f = fault_if answer st f
+
+  pub fault_stays : (st : Standing) (event : Event) → HasFault st → HasFault (after_event st event)
+  fault_stays st (Called session line call answer victims) f = fault_called st session line call answer victims f
+  fault_stays st (Resume session line answer victims) f = fault_resumed (wait_of session st.waiting) st session line answer victims f
+  fault_stays st (End session) f = fault_ended (active_of session st.actives) (record st { waiting = without_wait session st.waiting }) f
+  fault_stays st (WriteOut answer) f = fault_if answer st f
+  fault_stays st (SyncBegin answer) f = fault_begun answer st f
+  fault_stays st (SyncEnd answer) f = fault_if answer (record st { begun = None }) f
+  fault_stays st (Turn line step answer) f = fault_turned step answer st f
 
 -- ---- journals
 
--- what holds of the indexes before each event, so that each pair that is seen has its record
-module _ (P : Standing → List Event → Type 0) (complete : (st : Standing) (told : List AnsweredCall) (event : Event) (events : List Event) → P st (event ∷ events) → AreRight st → IsGround st told → AreComplete st)
-    (next : (st : Standing) (event : Event) (events : List Event) → P st (event ∷ events) → AreRight st → P (after_event st event) events) where
-  -- what is carried along a journal: all that holds of the calls, until a fault comes
-  abbrev Carries : Standing → List AnsweredCall → List Event → Type 0
-  Carries st told events = ((st.fault ≡ None) × AreRight st × IsKnown st told × P st events) ⊎ HasFault st
+-- what is carried along a journal: all that holds of the calls, until a fault comes
+abbrev Carries : Standing → List AnsweredCall → Type 0
+Carries st told = ((st.fault ≡ None) × AreRight st × AreBare st × IsKnown st told) ⊎ HasFault AreIndexed st
 
-  carried : (limit : Option Answer) (st : Standing) (event : Event) (events : List Event) (told : List AnsweredCall) → Carries st told (event ∷ events) → IsAnswered limit st event → Carries (after_event st event) (with_told (told_by st event) told) events
-  carried limit st event events told (inl c) is = by (after_event st event).fault refl
-    where
-      by : (o : Option Fault) → (after_event st event).fault ≡ o → Carries (after_event st event) (with_told (told_by st event) told) events
-      by None e = inl (
-        e,
-        standings_stay-right limit st event c.0 c.1 is,
-        event_known limit st event told (complete st told event events c.3 c.1 c.2.ground) c.0 c.1 c.2 is,
-        next st event events c.3 c.1,
-      )
-      by (Some first) e = inr (first, e)
-  carried limit st event events told (inr f) is = inr (fault_stays st event f)
+carried : (limit : Option Answer) (st : Standing) (event : Event) (told : List AnsweredCall) → Carries st told → IsAnswered limit st event → Carries (after_event st event) (with_told (told_by st event) told)
+carried limit st event told (inl c) is = by (after_event st event).fault refl
+  where
+    known : IsKnown (after_event st event) (with_told (told_by st event) told)
+    known = event_known limit st event told c.2 c.0 c.1 c.3 is
 
-  owed : (limit : Option Answer) (st : Standing) (event : Event) (events : List Event) (told : List AnsweredCall) → Carries st told (event ∷ events) → IsAnswered limit st event → IsOwedAt st told event
-  owed limit st event events told (inl c) is = owed_event limit st event told c.2 is
-  owed limit st event events told (inr f) is = owed_faulted limit st event told f.0 f.1 is
+    by : (o : Option Fault) → (after_event st event).fault ≡ o → Carries (after_event st event) (with_told (told_by st event) told)
+    by None e = inl (e, standings_stay-right limit st event c.0 c.1 is, standings_stay-bare limit st event c.0 c.1 c.2 is, known)
+    by (Some first) e = inr (first, e, are_indexed (after_event st event) (with_told (told_by st event) told) known.ground)
+carried limit st event told (inr f) is = inr (fault_stays AreIndexed st event f)
 
-  replays : (limits : List (Option Answer)) (journal : List Event) (st : Standing) (told : List AnsweredCall) → Carries st told journal → AnswersAsModel st limits journal → ReplaysFrom st told journal
-  replays limits [] st told c is = tt
-  replays [] (event ∷ journal) st told c is = absurd is
-  replays (limit ∷ limits) (event ∷ journal) st told c is =
-      (owed limit st event journal told c is.0, replays limits journal (after_event st event) (with_told (told_by st event) told) (carried limit st event journal told c is.0) is.1)
+owed : (limit : Option Answer) (st : Standing) (event : Event) (told : List AnsweredCall) → Carries st told → IsAnswered limit st event → IsOwedAt st told event
+owed limit st event told (inl c) is = owed_event limit st event told c.3 is
+owed limit st event told (inr f) is = owed_faulted limit st event told f.0 f.1 is
 
--- where no database is an index
-plain_over : (store : Store) → HasNoIndex store → AreOver store
-plain_over store plain d index a is = let k = sym (all_at (λ (x : Database). x.index ≡ None) store.databases d plain a) ∙ is in absurd (cc (k))
+replays : (limits : List (Option Answer)) (journal : List Event) (st : Standing) (told : List AnsweredCall) → Carries st told → AnswersAsModel st limits journal → ReplaysFrom st told journal
+replays limits [] st told c is = tt
+replays [] (event ∷ journal) st told c is = absurd is
+replays (limit ∷ limits) (event ∷ journal) st told c is =
+    (owed limit st event told c is.0, replays limits journal (after_event st event) (with_told (told_by st event) told) (carried limit st event told c is.0) is.1)
 
-complete_plain : (st : Standing) → HasNoIndex st.store → AreComplete st
-complete_plain st plain a k level x p e key primary_key here there is m =
-    let none = all_at (λ (d : Database). d.index ≡ None) st.store.databases x.1 plain (found_is (λ (d : Database). st.numbers d.name == x.0) st.store.databases x.1 here).0 in
-    let n = sym (ap (over_by st.numbers) none) ∙ is in absurd (cc (n))
+-- ---- indexes
 
-asks_of : (call : Call) → AsksNoIndex call → IsNoIndexing call
-asks_of (CreateIndex db index) asks = absurd asks
-asks_of call asks = tt
+indexed_at : (st : Standing) (told : List AnsweredCall) → Carries st told → IsIndexedAt st
+indexed_at st told (inl c) = record {
+  store = are_indexed st told c.3.ground;
+  seen = λ e. all_of (AreIndexedFor st) st.actives (λ a k. are_seen st told c.3.ground c.1.sound a);
+}
+indexed_at st told (inr f) = record { store = f.2; seen = λ e. let h = sym e ∙ f.1 in absurd (cc (h)) }
 
-waits_none : (call : Call) → MayWait call → IsNoIndexing call
-waits_none (CreateIndex db index) may = absurd may
-waits_none call may = tt
+stays : (limits : List (Option Answer)) (journal : List Event) (st : Standing) (told : List AnsweredCall) → Carries st told → AnswersAsModel st limits journal → StaysIndexed st journal
+stays limits [] st told c is = indexed_at st told c
+stays [] (event ∷ journal) st told c is = absurd is
+stays (limit ∷ limits) (event ∷ journal) st told c is =
+    (indexed_at st told c, stays limits journal (after_event st event) (with_told (told_by st event) told) (carried limit st event told c is.0) is.1)
 
-makes_none : (st : Standing) (event : Event) → HasNoIndexCall event → AreRight st → MakesNone st event
-makes_none st (Called session line call answer victims) asks r = asks_of call asks
-makes_none st (Resume session line answer victims) asks r = λ w is. waits_none w.call (all_at (λ (v : Wait). MayWait v.call) st.waiting w r.calls (found_is (λ (v : Wait). v.session == session) st.waiting w is).0)
-makes_none st event asks r = tt
-
-abbrev HasNone : Standing → List Event → Type 0
-HasNone st events = HasNoIndex st.store × AllByRecursion HasNoIndexCall events
+ends : (limits : List (Option Answer)) (journal : List Event) (st : Standing) (told : List AnsweredCall) → Carries st told → AnswersAsModel st limits journal → IsIndexedAt (after_events st journal)
+ends limits [] st told c is = indexed_at st told c
+ends [] (event ∷ journal) st told c is = absurd is
+ends (limit ∷ limits) (event ∷ journal) st told c is = ends limits journal (after_event st event) (with_told (told_by st event) told) (carried limit st event told c is.0) is.1
 
 -- ---- the beginning
 
@@ -481,25 +477,33 @@ numbered_first store last numbers k = record {
   apart = λ d e a b h. k.apart d.name e.name (is_some_found store d a) h;
 }
 
-known_first : (p : Alone) → IsStore p.store → HaveNumbers p.store p.last_db p.numbers → AreOver p.store → IsKnown (alone p) []
-known_first p right numbers over = record {
-  ground = record { well = record { store = right; numbers = numbered_first p.store p.last_db p.numbers numbers; over = over }; fits = λ t. tt; last = tt };
+known_first : (p : Alone) → IsStore p.store → HaveNumbers p.store p.last_db p.numbers → AreIndexed p.store → IsKnown (alone p) []
+known_first p right numbers indexed = record {
+  ground = record { well = well; fits = λ t. tt; up = first_up (alone p) well indexed (λ t. refl); last = tt };
   each = λ a k. absurd k;
 }
+  where
+    well : IsWell (alone p)
+    well = record { store = right; numbers = numbered_first p.store p.last_db p.numbers numbers; over = indexed_over p.store indexed }
+
+first : (p : Alone) → IsStore p.store → HaveNumbers p.store p.last_db p.numbers → AreIndexed p.store → Carries (alone p) []
+first p right numbers indexed = by p.fault refl
+  where
+    by : (o : Option Fault) → p.fault ≡ o → Carries (alone p) []
+    by None e = inl (e, alone-is_right p, tt, known_first p right numbers indexed)
+    by (Some f) e = inr (f, e, indexed)
 
 pub journals-replay : JournalsReplay
-journals-replay p limits journal right numbers plain asks is =
-    replays HasNone (λ st told event events h r ground. complete_plain st h.0) (λ st event events h r. (event_keeps_no_index st event (makes_none st event h.1.0 r) h.0, h.1.1)) limits journal (alone p) [] (first p.fault refl) is
-  where
-    first : (o : Option Fault) → p.fault ≡ o → ((p.fault ≡ None) × AreRight (alone p) × IsKnown (alone p) [] × HasNone (alone p) journal) ⊎ HasFault (alone p)
-    first None e = inl (e, alone-is_right p, known_first p right numbers (plain_over p.store plain), (plain, asks))
-    first (Some f) e = inr (f, e)
+journals-replay p limits journal right numbers indexed is = replays limits journal (alone p) [] (first p right numbers indexed) is
 
-pub indexed_journals-replay : IndexedJournalsReplay
-indexed_journals-replay p limits journal right numbers indexed sees is =
-    replays AlwaysSeeIndexes (λ st told event events h r ground a k level. sees_records st a ground.well (all_at (λ (b : Active). b.level ≡ RepeatableRead → SeesIndexes st b) st.actives a h.0 k level)) (λ st event events h r. h.1)
-    limits journal (alone p) [] (first p.fault refl) is
-  where
-    first : (o : Option Fault) → p.fault ≡ o → ((p.fault ≡ None) × AreRight (alone p) × IsKnown (alone p) [] × AlwaysSeeIndexes (alone p) journal) ⊎ HasFault (alone p)
-    first None e = inl (e, alone-is_right p, known_first p right numbers (indexed_over p.store indexed), sees)
-    first (Some f) e = inr (f, e)
+-- and at a journal's end
+pub indexed_after : (p : Alone) (limits : List (Option Answer)) (journal : List Event) → IsStore p.store → HaveNumbers p.store p.last_db p.numbers → AreIndexed p.store → AnswersAsModel (alone p) limits journal
+    → IsIndexedAt (after_events (alone p) journal)
+indexed_after p limits journal right numbers indexed is = ends limits journal (alone p) [] (first p right numbers indexed) is
+
+pub indexes-stay : IndexesStay
+indexes-stay p limits journal right numbers indexed is = stays limits journal (alone p) [] (first p right numbers indexed) is
+
+pub none_is-indexed : NoneIsIndexed
+none_is-indexed store none = all_of (λ d. IsIndex store d d.index) store.databases (λ d a.
+    subst (IsIndex store d) (sym (all_at (λ (x : Database). x.index ≡ None) store.databases d none a)) tt)

@@ -1,23 +1,26 @@
 -- A pair of an index, as a transaction sees it, has its record in the primary.
-use Rattle.std.proofs.Common.{◌≡◌, ◌⊎◌, inl, inr, ℕ, ◌==◌, not, List, [], ◌∷◌, filter, Option, None, Some, refl, ap, sym, ◌∙◌, subst, ⊎_elim, is_lt, is_gt, is_eq}
-use Rattle.je_order.specs.Order.{name_cmp, is_same_bytes}
+use Rattle.std.proofs.Common.{◌≡◌, ◌⊎◌, inl, inr, ℕ, not, List, [], ◌∷◌, filter, Option, None, Some, refl, ap, ap₂, sym, ◌∙◌, subst, ⊎_elim, is_lt, is_gt, is_eq}
+use Rattle.je_order.specs.Order.{name_cmp}
 use Rattle.je_order.specs.declared.name.Name.{Name}
-use Rattle.store_model.specs.declared.store.Database.{Database}
-use Rattle.store_model.specs.declared.index.Index.{Index}
 use Rattle.store_model.specs.declared.extract.Extract.{Extract}
-use Rattle.store_model.specs.declared.kind.Kind.TheVariants.{Dup}
+use Rattle.store_model.specs.declared.kind.Kind.{Kind}
+use Rattle.store_model.specs.declared.kind.Kind.TheVariants.{Plain, Dup}
+use Rattle.store_model.specs.declared.isolation.Isolation.{Isolation}
+use Rattle.store_model.specs.declared.isolation.Isolation.TheVariants.{RepeatableRead}
 use Rattle.store_model.specs.declared.record_change.RecordChange.{RecordChange}
 use Rattle.store_model.specs.declared.record_change.RecordChange.TheVariants.{Set, Unset}
-use Rattle.store_model.specs.Store.{Pair, named, name_of, pairs_changed, all_pairs_changed, changed_name, database_of}
-use Rattle.store_model.specs.Indexes.{key_in, put_in, pairs_put, index_pairs}
+use Rattle.store_model.specs.Store.{Pair, named, name_of, pairs_changed, all_pairs_changed, changed_name}
+use Rattle.store_model.specs.Indexes.{Numbered, key_in, put_in, pairs_put, index_pairs}
 use Rattle.je_answers.specs.declared.active.Active.{Active}
 use Rattle.je_answers.specs.Standing.{Standing, database_at}
-use Rattle.je_answers.specs.Views.{view_in}
-use Rattle.standing_laws.proofs.Among.{IsAmong, all_at, among_append, filter_among, found_is}
-use Rattle.serial_replay.specs.Laws.{IsSeenFrom, IsIndexSeen, SeesIndexes}
+use Rattle.je_answers.specs.Views.{of_db, seen_changes, view_in}
+use Rattle.standing_laws.proofs.Among.{IsAmong, among_append, filter_among}
+use Rattle.serial_replay.specs.Replay.{AnsweredCall}
 use Rattle.serial_replay.proofs.Occupied.{flat_is}
-use Rattle.serial_replay.proofs.Stores.{over_by, bytes_exact, number_of_found, by_number}
-use Rattle.serial_replay.proofs.Keeping.{IsWell}
+use Rattle.serial_replay.proofs.Stores.{Base, over_by, base_of, pairs_of, pairs_at}
+use Rattle.serial_replay.proofs.Upkeep.{IsUp}
+use Rattle.serial_replay.proofs.Keeping.{IsGround}
+use Rattle.serial_replay.proofs.IndexBases.{IsIndexAt, index_at, one_base}
 use Rattle.serial_replay.proofs.Here.{HasRecords}
 
 -- a pair that stands after changes stood before, or one of them is of its name
@@ -54,37 +57,30 @@ pair_has extract records key primary_key a = by (all_is (pairs_put extract recor
         (f.0.1, subst (λ (n : List ℕ). IsAmong (n, f.0.1) records) own f.1)
     by (inr k) = absurd k
 
-pub sees_records : (st : Standing) (a : Active) → IsWell st → SeesIndexes st a → HasRecords st a
-sees_records st a well sees x p e key primary_key here there is m = by x.1.index refl
+-- a pair of an index, as a transaction at repeatable read sees it, has its record
+pub has_records : (st : Standing) (a : Active) (told : List AnsweredCall) → IsGround st told → a.level ≡ RepeatableRead → HasRecords st a
+has_records st a told ground level x p e key primary_key here there is m = pair_has e (view_in st a p) key primary_key (subst (IsAmong (key, primary_key)) seen m)
   where
-    f : IsAmong x.1 st.store.databases × (st.numbers x.1.name ≡ x.0)
-    f = ((found_is (λ (d : Database). st.numbers d.name == x.0) st.store.databases x.1 here).0, number_of_found st.numbers x.0 st.store x.1 here)
+    base : Base
+    base = (x.1.name, x.1.kind, over_by st.numbers x.1.index)
 
-    seen : IsIndexSeen st a x.1 x.1.index
-    seen = all_at (λ (d : Database). IsIndexSeen st a d d.index) st.store.databases x.1 sees f.0
+    f : IsIndexAt st p.0 (x.1.name, x.1.kind, over_by st.numbers x.1.index)
+    f = index_at st x.0 p.0 e base ground.well (ap (base_of st.numbers) here) is
 
-    mine : IsAmong (key, primary_key) (view_in st a (st.numbers x.1.name, x.1))
-    mine = subst (λ (n : ℕ). IsAmong (key, primary_key) (view_in st a (n, x.1))) (sym f.1) m
+    u : IsUp st x.0 p.0 e
+    u = ground.up x.0 p.0 e base (ap (base_of st.numbers) here) is
 
-    some_is : (u v : Database) → Some u ≡ Some v → u ≡ v
-    some_is u v k = cc (k)
+    plain : p.1.kind ≡ Plain
+    plain = ap (λ (b : Base). b.1) (one_base st p.0 (p.1.name, p.1.kind, over_by st.numbers p.1.index) f.base (ap (base_of st.numbers) there) f.primary) ∙ f.plain
 
-    number_is : (i : Index) → over_by st.numbers (Some i) ≡ Some (p.0, e) → st.numbers i.primary ≡ p.0
-    number_is i k = ap (λ (z : ℕ × Extract). z.0) (over_is (st.numbers i.primary, i.extract) (p.0, e) k)
-      where
-        over_is : (u v : ℕ × Extract) → Some u ≡ Some v → u ≡ v
-        over_is u v h = cc (h)
+    own : seen_changes a.level st a.txn.0 ≡ st.own a.txn.0
+    own = ap (λ (l : Isolation). seen_changes l st a.txn.0) level
 
-    of_primary : (i : Index) → st.numbers i.primary ≡ p.0 → (o : Option Database) → database_of i.primary st.store ≡ o → IsSeenFrom st a o i (view_in st a (st.numbers x.1.name, x.1)) → (value : List ℕ) × IsAmong (primary_key, value) (view_in st a p)
-    of_primary i n None k s = absurd s
-    of_primary i n (Some d) k s =
-        let same : d ≡ p.1 = some_is d p.1 (sym (by_number st.numbers st.last_db st.store i.primary d well.numbers k) ∙ (ap (λ (j : ℕ). database_at j st) n ∙ there)) in
-        let name : d.name ≡ i.primary = bytes_exact d.name i.primary (found_is (λ (z : Database). is_same_bytes z.name i.primary) st.store.databases d k).1 in
-        let r = pair_has i.extract (view_in st a (st.numbers d.name, d)) key primary_key (subst (IsAmong (key, primary_key)) s mine) in (
-          r.0,
-          subst (λ (z : Database). IsAmong (primary_key, r.0) (view_in st a (p.0, z))) same (subst (λ (j : ℕ). IsAmong (primary_key, r.0) (view_in st a (j, d))) (ap st.numbers name ∙ n) r.1),
-        )
+    -- it sees its own changes
+    view_is : (z : Numbered) (kind : Kind) → database_at z.0 st ≡ Some z.1 → z.1.kind ≡ kind → view_in st a z ≡ all_pairs_changed kind (of_db z.0 (st.own a.txn.0)) (pairs_at z.0 st)
+    view_is z kind h k =
+        ap₂ (λ (c : Kind) (cs : List (ℕ × RecordChange)). all_pairs_changed c (of_db z.0 cs) z.1.pairs) k own
+        ∙ ap (all_pairs_changed kind (of_db z.0 (st.own a.txn.0))) (sym (ap pairs_of h))
 
-    by : (o : Option Index) → x.1.index ≡ o → (value : List ℕ) × IsAmong (primary_key, value) (view_in st a p)
-    by None k = let h = sym (ap (over_by st.numbers) k) ∙ is in absurd (cc (h))
-    by (Some i) k = of_primary i (number_is i (sym (ap (over_by st.numbers) k) ∙ is)) (database_of i.primary st.store) refl (subst (IsIndexSeen st a x.1) k seen)
+    seen : view_in st a x ≡ index_pairs e (view_in st a p)
+    seen = view_is x Dup here f.dup ∙ ((u.keeps a.txn.0).same ∙ ap (index_pairs e) (sym (view_is p Plain there plain)))

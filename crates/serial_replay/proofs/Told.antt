@@ -27,6 +27,7 @@ use Rattle.serial_replay.proofs.Stores.{Base, over_by, base_of, base_at, IsFit, 
 use Rattle.serial_replay.proofs.Places.{on_records, moved_at, moved_is, after_is, IsMoved, moved_found, position_same, IsAtCursor, IsTargetOf, other_session}
 use Rattle.serial_replay.proofs.Keeping.{Said, occupied_at, IsSerAs, IsSerial, IsRepeatable, IsShutPlace, IsStable, IsWell, well_same, IsKept, own_same, fits_kept, place_kept, serial_kept, repeatable_kept, Follows, positions_by, call_by, AreWhere, AreShutPlaces, KeepsOf, keeps, before_own, same_calls, keeps_kept, IsGround, EachBut, KeepsIf, IsKnown}
 use Rattle.serial_replay.proofs.Here.{HasRecords, base_there}
+use Rattle.serial_replay.proofs.CallUpkeep.{up_called}
 use Rattle.serial_replay.proofs.Calling.{made, made_there, made_proper, IsCallOf, said_now, stable_call, kept_other, kept_own, own_other, own_its, base_new, base_is, place_now, ser_now, repeatable_now}
 
 -- ---- lists
@@ -96,7 +97,7 @@ numbered_le last (b ∷ bs) a h (inr k) = numbered_le last bs a h.2 k
 -- ---- one more call is told
 
 pub ground_told : (st : Standing) (told : List AnsweredCall) (c : AnsweredCall) → IsGround st told → c.txn.0 ≤ st.last_txn → IsGround st (told ++ c ∷ [])
-ground_told st told c ground h = record { well = ground.well; fits = ground.fits; last = all_push (λ (d : AnsweredCall). d.txn.0 ≤ st.last_txn) told c ground.last h }
+ground_told st told c ground h = record { well = ground.well; fits = ground.fits; up = ground.up; last = all_push (λ (d : AnsweredCall). d.txn.0 ≤ st.last_txn) told c ground.last h }
 
 -- of its transaction, as it holds now, and of the others, of which it tells nothing
 pub each_told : (st new : Standing) (a : Active) (told : List AnsweredCall) (c : AnsweredCall) → AreSound st → IsAmong a st.actives → c.txn ≡ a.txn → KeepsIf new (told ++ c ∷ []) a → EachBut a.txn new told st.actives
@@ -169,10 +170,11 @@ module _ (st : Standing) (a : Active) (call : Call) (g : Target) (told : List An
       itself : t ≡ a.txn.0 → (t == a.txn.0) ≡ true
       itself k = ap (λ (m : ℕ). m == a.txn.0) k ∙ same_itself a.txn
 
-  pub ground_call : IsGround new told
-  ground_call = record {
+  pub ground_call : IsAmong a st.actives → IsGround new told
+  ground_call there = record {
     well = well_new;
     fits = fits_new;
+    up = up_called st a call g told may sound ground on free there new step.store step.numbers step.own;
     last = subst (λ (l : ℕ). AllByRecursion (λ (c : AnsweredCall). c.txn.0 ≤ l) told) (sym step.last_txn) ground.last;
   }
 
@@ -276,6 +278,6 @@ module _ (st : Standing) (a : Active) (call : Call) (g : Target) (told : List An
   pub known_call : IsAmong a st.actives → new.actives ≡ st.actives → a.is_auto ≡ false → name_on (target_of st a.session call) ≡ g.database.name → is_evaluated (outcome_of st a call g).answer ≡ true → (a.level ≡ RepeatableRead → HasRecords st a) → IsKnown st told
       → IsKnown new (told ++ told_now ∷ [])
   known_call there same auto named evaluated complete known = record {
-    ground = ground_told new told told_now ground_call (subst (λ (l : ℕ). a.txn.0 ≤ l) (sym step.last_txn) (numbered_le st.last_txn st.actives a sound.numbers there));
+    ground = ground_told new told told_now (ground_call there) (subst (λ (l : ℕ). a.txn.0 ≤ l) (sym step.last_txn) (numbered_le st.last_txn st.actives a sound.numbers there));
     each = λ b k. each_told st new a told told_now sound there refl (λ keep. own_call keep auto named evaluated complete (known.each a there keep)) (others_call there (λ c i apart. known.each c i)) b (subst (IsAmong b) same k);
   }

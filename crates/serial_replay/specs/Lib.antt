@@ -1,4 +1,5 @@
 pub mod Replay
 pub mod Cycles
 pub mod Laws
+pub mod Reached
 pub mod Worked

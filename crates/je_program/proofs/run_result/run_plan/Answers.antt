@@ -1,4 +1,4 @@
-use Rattle.std.proofs.Common.{◌≡◌, ℕ, ◌∙◌, true, true≢false, List, [], None, sym, ap, subst}
+use Rattle.std.proofs.Common.{◌≡◌, ◌∙◌, true, true≢false, List, [], None, sym, ap, subst}
 use Rattle.je_disk.specs.Moments.{now}
 use Rattle.store_model.specs.declared.event.Event.{Event}
 use Rattle.store_model.specs.declared.plan.ScriptLine.{ScriptLine}
@@ -15,7 +15,6 @@ use Rattle.je_program.proofs.FinishLaws.{done_acknowledged, done_is_no_memory, r
 use Rattle.script_run.proofs.Pushed.{bounded_far, caused_earlier, synced_all}
 use Rattle.je_program.specs.declared.cause.Cause.{Cause}
 use Rattle.je_program.specs.Untouched.{LeavesUnreadable}
-use Rattle.je_program.proofs.IndexCalls.{none_made}
 use Rattle.je_program.proofs.ReplayLaws.{run_never_cycles, run_replays}
 use Rattle.je_program.proofs.StopLaws.{stopped_after_reading, stopped_caused, stopped_failed, stopped_numbers, stopped_runs, stopped_unreadable}
 use Rattle.je_program.proofs.UntouchedLaws.{ran_alone, stopped_alone}
@@ -63,8 +62,6 @@ returns-in-Ok-clause-run g c = λ is_opened.
     let under = ran.ensures.goes_on p starts in
     let valid : st.fault ≡ None = starts_valid observable (now old).reads opening st one.starts in
     let synced = synced_all st journal (under.running.synced [] tt) in
-    let front : (session : ℕ) → AreFirstLines (of_session session (lines_of journal)) (of_session session c.args.plan.lines) =
-    λ session. subst (λ (l : List ScriptLine). AreFirstLines (of_session session (lines_of journal)) (of_session session l)) c.into_vec.ensures (ran.ensures.given.front session) in
     let safe : observable ≡ true → IsSafeProgram old new st journal cause = λ observed. record {
       start = p.start;
       stable = (one.safe observed).stable;
@@ -76,7 +73,7 @@ returns-in-Ok-clause-run g c = λ is_opened.
       starts = one.starts;
       limits = under.running.limits;
       answers = under.running.answers;
-      replays = run_replays observable (now old).reads opening st under.running.limits journal one.starts under.running.answers (none_made journal c.args.plan.lines c.requires.lines front);
+      replays = run_replays observable (now old).reads opening st under.running.limits journal one.starts under.running.answers;
       no_cycle = run_never_cycles observable (now old).reads opening st under.running.limits journal one.starts under.running.answers;
       bounded = bounded_far p.first (reach_in one.starts.held one.starts.meaning) st journal under.running.limits one.reach under.running.bounded;
       synced_at_once = synced;
