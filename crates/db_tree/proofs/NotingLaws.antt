@@ -51,6 +51,10 @@ notes_then a b c first second level x = second level x ∙ first level x
 pub over_noted : (row : NodeRow) (x : Name) (e f : Name × Node) → IsOver row x e → IsOver row x f → e.1.noted ≡ f.1.noted
 over_noted row x e f first second = ap (λ (n : Node). n.noted) (same_Some e.1 f.1 (sym first.there ∙ ap (λ (y : Name). value_at y row) (over_once row x e f first second) ∙ second.there))
 
+-- and it has one mark
+pub over_from : (row : NodeRow) (x : Name) (e f : Name × Node) → IsOver row x e → IsOver row x f → e.1.from ≡ f.1.from
+over_from row x e f first second = ap (λ (n : Node). n.from) (same_Some e.1 f.1 (sym first.there ∙ ap (λ (y : Name). value_at y row) (over_once row x e f first second) ∙ second.there))
+
 -- a root was put above the top
 pub root_raised : (result : Result (Unit {0}) AllocError) (old new : List NodeRow) (root : Node) (noted : Bool) → 0 < length old → root.noted ≡ noted → noted ≡ is_noted_at old (length old - 1) least →
     OnOk result (HasRaised old new root) → OnOk result (take (length old) new ≡ old) → OnOk result (IsRaisedFrom true old new)

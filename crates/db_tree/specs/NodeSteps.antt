@@ -1,11 +1,11 @@
 -- How the nodes of a tree change, as far as their images go.
-use Rattle.std.specs.Prelude.{◌≡◌, ℕ, Bool, true, false, List, [], Option, None, Some, length, option_map, option_and_then, ◌++◌, if◌then◌else◌}
+use Rattle.std.specs.Prelude.{◌≡◌, ◌≤◌, ◌⊎◌, ℕ, suc, Bool, true, false, List, [], Option, None, Some, length, option_map, option_and_then, ◌++◌, if◌then◌else◌}
 use Rattle.je_order.specs.declared.name.Name.{Name}
 use Rattle.record_map.specs.declared.cell.Cell.{Cell}
 use Rattle.record_map.specs.Cells.{value_at}
 use Rattle.tree_nodes.specs.declared.node.Node.{Node}
-use Rattle.tree_nodes.specs.Nodes.{NodeRow, least, HasPut}
-use Rattle.tree_nodes.specs.Levels.{row_of, AreParts}
+use Rattle.tree_nodes.specs.Nodes.{NodeRow, least, HasPut, logged}
+use Rattle.tree_nodes.specs.Levels.{row_of, AreParts, HasMarkedAt, HasPutAt}
 use Rattle.tree_nodes.specs.Lows.{lows_of}
 use Rattle.db_tree.specs.declared.node_at.NodeAt.{NodeAt}
 use Rattle.db_tree.specs.declared.node_split.NodeSplit.{NodeSplit}
@@ -65,14 +65,39 @@ pub record AreSplitWaiting (first : ℕ) (splits : List NodeSplit) (old new : Li
 abbrev pub slot_splits : ℕ → Name → Shape → List NodeSplit
 slot_splits fanout x shape = if has_slot x shape then [] else splits_of fanout x shape
 
--- a tree of one node with a number, which has no image
+-- a tree of one node with a number, which has no image, and no mark
 pub record IsOneNode (rows : List NodeRow) (number : ℕ) : Type 0 where
   pub height : length rows ≡ 1
   pub root : Node
   pub put : HasPut [] (row_of rows 0) least root
   pub number_is : root.number ≡ number
   pub last : root.last ≡ None
+  pub from : root.from ≡ None
 
 -- where the change of a cell was logged, if it has one
 abbrev pub written_lsn : Option Cell → Option ℕ
 written_lsn o = option_and_then (λ cell. option_map (λ w. w.value.at) cell.write) o
+
+-- ---- marks
+
+-- the BIN over a name is marked from where the name's change was logged, if it has one
+abbrev pub IsMarkedFrom : Option ℕ → List NodeRow → List NodeRow → Name → Type 0
+IsMarkedFrom None old new x = new ≡ old
+IsMarkedFrom (Some from) old new x = HasMarkedAt old new 0 x from
+
+-- from which LSN on the node above one lacks what an image of that one has, which was logged at another LSN: from its mark on, if it has one
+abbrev pub mark_above : Option ℕ → ℕ → ℕ
+mark_above None at = at
+mark_above (Some from) at = from
+
+-- the node above the one of a level with a low is marked, if there is one
+abbrev pub IsHandedUp : List NodeRow → List NodeRow → ℕ → Name → ℕ → Type 0
+IsHandedUp old new level low from = ((length old ≤ suc level) × (new ≡ old)) ⊎ HasMarkedAt old new (suc level) low from
+
+-- the node of a level with a low got an image at an LSN, and has no mark now; the node above it has got its mark
+pub record IsLoggedUp (old new : List NodeRow) (level : ℕ) (low : Name) (at : ℕ) : Type 0 where
+  pub node : Node
+  pub there : value_at low (row_of old level) ≡ Some node
+  pub mid : List NodeRow
+  pub handed : IsHandedUp old mid level low (mark_above node.from at)
+  pub put : HasPutAt mid new level low (logged at node)

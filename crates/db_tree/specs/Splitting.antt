@@ -48,9 +48,9 @@ AreSameByName old new = (k : ℕ) (x : Name) → value_at x (row_of new k) ≡ v
 
 -- ---- splits that can be taken back
 
--- a node begins at a name of a level, noted where the node is that it was part of
+-- a node begins at a name of a level, noted where the node is that it was part of, and with its mark
 abbrev pub IsSplitOff : List NodeRow → List NodeRow → ℕ → Name → Type 0
-IsSplitOff old new level middle = (node : Node) × HasPutAt old new level middle node × ((e : Name × Node) → IsOver (row_of old level) middle e → node.noted ≡ e.1.noted)
+IsSplitOff old new level middle = (node : Node) × HasPutAt old new level middle node × ((e : Name × Node) → IsOver (row_of old level) middle e → (node.noted ≡ e.1.noted) × (node.from ≡ e.1.from))
 
 -- a node of a level was split: a new node begins at a name at which none began
 pub record IsSplitAt (old new : List NodeRow) (level : ℕ) (middle : Name) : Type 0 where
@@ -59,8 +59,9 @@ pub record IsSplitAt (old new : List NodeRow) (level : ℕ) (middle : Name) : Ty
   pub free : value_at middle (row_of old level) ≡ None
   pub node : Node
   pub put : HasPutAt old new level middle node
-  -- it is noted where the node is that it was part of
+  -- it is noted where the node is that it was part of, and has its mark
   pub noted : (e : Name × Node) → IsOver (row_of old level) middle e → node.noted ≡ e.1.noted
+  pub from : (e : Name × Node) → IsOver (row_of old level) middle e → node.from ≡ e.1.from
 
 -- nodes were split, one of each level from one on
 abbrev pub AreSplit : ℕ → List NodeSplit → List NodeRow → List NodeRow → Type 0

@@ -5,7 +5,7 @@ ghost use Rattle.log_entry.specs.Body.{IsEntry};
 ghost use Rattle.record_map.specs.Cells.{value_at, IsRising};
 ghost use Rattle.tree_nodes.specs.Levels.{row_of, AreParts};
 ghost use Rattle.db_tree.specs.Images.{Placed};
-ghost use Rattle.db_tree.specs.NodeSteps.{AreSameNodes, IsNoted};
+ghost use Rattle.db_tree.specs.NodeSteps.{AreSameNodes, IsHandedUp, IsLoggedUp, IsNoted, mark_above};
 ghost use Rattle.db_tree.specs.Notes.{AreNotesKept};
 ghost use Rattle.db_tree.specs.Shapes.{count_in, AreAlike};
 ghost use Rattle.db_tree.specs.Waiting.{waiting_of, still_waiting};
@@ -36,7 +36,7 @@ fn node_at(levels: &Levels, level: usize, low: &SortKey) -> Node
 
 // From which LSN on the node above one lacks what an image of that one has, which is logged at `at`.
 fn mark_above(node: &Node, at: Lsn) -> Lsn
-    ensures { (from : ℕ) → node.now.from ≡ Some from → result ≡ from }
+    ensures { result ≡ mark_above node.now.from at }
 {
     match node.from {
         Some(from) => from,
@@ -49,6 +49,7 @@ fn mark_above(node: &Node, at: Lsn) -> Lsn
 fn hand_on(levels: &mut Levels, level: usize, low: &SortKey, node: &Node, at: Lsn)
     requires { level < length levels.old }
     ensures handed { IsHandedOn levels.new level low.now node.now }
+    ensures up { IsHandedUp levels.old levels.new level low.now (mark_above node.now.from at) }
     ensures tree { (es : Placed) (base : ℕ) (newest : Name → ℕ) (held : Name → Option ℕ) → IsTreeOf es base newest levels.old held → IsTreeOf es base newest levels.new held }
     ensures row { row_of levels.new level ≡ row_of levels.old level }
     ensures others { (k : ℕ) → (k ≡ suc level → ⊥) → row_of levels.new k ≡ row_of levels.old k }
@@ -126,6 +127,7 @@ impl DbTree {
         ensures waits { waiting_of self.new.levels ≡ still_waiting (record { level = level; low = low.now } ∷ []) 0 (waiting_of self.old.levels) }
         ensures few { count_in self.new ≤ count_in self.old }
         ensures notes { AreNotesKept self.old.levels self.new.levels }
+        ensures up { IsSome (value_at low.now (row_of self.old.levels level)) → IsLoggedUp self.old.levels self.new.levels level low.now at }
         ensures cleared { (n : Kept) → level < length self.old.levels → value_at low.now (row_of self.new.levels level) ≡ Some n → n.from ≡ None }
         ensures noted { IsSome (value_at low.now (row_of self.old.levels level)) → IsNoted self.old.levels self.new.levels level low.now at }
         ensures tree { (es : Placed) (base : ℕ) (newest : Name → ℕ) → ((n : Kept) → value_at low.now (row_of self.old.levels level) ≡ Some n → IsImageOf es self.old.levels (held_by self.old.cells) level (low.now, n) at) → IsTree es base newest self.old.levels self.old.cells → IsTree es base newest self.new.levels self.new.cells }

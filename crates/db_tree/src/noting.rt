@@ -1,5 +1,6 @@
 // A checkpoint notes nodes.
 ghost use Rattle.std.specs.Prelude.{◌≡◌};
+ghost use Rattle.tree_nodes.specs.Levels.{AreParts};
 ghost use Rattle.tree_nodes.specs.Noted.{AreNoted};
 
 use crate::DbTree;
@@ -9,6 +10,7 @@ impl DbTree {
     pub fn note_dirty(&mut self)
         ensures noted { AreNoted self.old.levels self.new.levels }
         ensures cells { self.new.cells ≡ self.old.cells }
+        ensures parts { AreParts self.new.levels }
     {
         self.levels.note_dirty();
     }

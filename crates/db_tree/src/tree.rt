@@ -7,7 +7,7 @@ ghost use Rattle.std.specs.BTreeMap.{insert_entry};
 ghost use Rattle.record_map.specs.Cells.{value_at, fresh, with_write, committed, IsRising};
 ghost use Rattle.db_tree.specs.Images.{Placed};
 ghost use Rattle.tree_nodes.specs.Nodes.{least};
-ghost use Rattle.tree_nodes.specs.Levels.{row_of};
+ghost use Rattle.tree_nodes.specs.Levels.{row_of, HasMarkedAt};
 ghost use Rattle.tree_nodes.specs.Lows.{lows_of};
 ghost use Rattle.db_tree.specs.Content.{slot_for, record_slots, bin_image};
 ghost use Rattle.db_tree.specs.Trees.{IsTree, HasCell, cell_or_fresh, given_up};
@@ -15,7 +15,7 @@ ghost use Rattle.db_tree.specs.Seen.{occupied, seen, with_change, with_value};
 ghost use Rattle.db_tree.specs.Stored.{with_logged};
 ghost use Rattle.db_tree.specs.Stored.{HasLogged, loaded_cell};
 ghost use Rattle.record_tree.specs.Occupied.{after_commit, after_abort};
-ghost use Rattle.db_tree.specs.NodeSteps.{AreSameNodes, IsOneNode, written_lsn};
+ghost use Rattle.db_tree.specs.NodeSteps.{AreSameNodes, IsMarkedFrom, IsOneNode, written_lsn};
 ghost use Rattle.std.specs.Map.{set_value};
 ghost use Rattle.std.specs.BTreeMap.{is_at};
 ghost use Rattle.record_map.specs.declared.cell.Cell.{Cell as Kept};
@@ -215,6 +215,7 @@ impl DbTree {
         ensures waits { AreAlike self.old.levels self.new.levels }
         ensures nodes { AreSameNodes self.old.levels self.new.levels }
         ensures committed { (last : Option ℕ) × ((x : Name) → value_at x self.new.cells ≡ (if is_eq (name_cmp name.now x) then option_map (committed at last) (value_at name.now self.old.cells) else value_at x self.old.cells)) }
+        ensures marked { IsMarkedFrom (written_lsn (value_at name.now self.old.cells)) self.old.levels self.new.levels name.now }
         ensures tree { (es : Placed) (base : ℕ) (newest : Name → ℕ) → IfSome (written_lsn (value_at name.now self.old.cells)) (λ from. from ≤ newest name.now) → IsTree es base newest self.old.levels self.old.cells → IsTree es base newest self.new.levels self.new.cells }
     {
         let _before = self.cells.len();
@@ -295,6 +296,7 @@ impl DbTree {
         ensures cells { (last : Option ℕ) × ((x : Name) → value_at x self.new.cells ≡ (if is_eq (name_cmp name.now x) then option_map (committed at last) (value_at name.now self.old.cells) else value_at x self.old.cells)) }
         ensures waits { AreAlike self.old.levels self.new.levels }
         ensures nodes { AreSameNodes self.old.levels self.new.levels }
+        ensures marked { HasMarkedAt self.old.levels self.new.levels 0 name.now from }
         ensures tree { (es : Placed) (base : ℕ) (newest : Name → ℕ) → from ≤ newest name.now → IsTree es base newest self.old.levels self.old.cells → IsTree es base newest self.new.levels self.new.cells }
     {
         let _height = self.levels.height();

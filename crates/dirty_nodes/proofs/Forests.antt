@@ -1,10 +1,11 @@
 -- The trees of all databases, one after another.
-use Rattle.std.proofs.Common.{◌≡◌, ◌≤◌, ◌<◌, Ordering, Less, Equal, Greater, inl, inr, ◌++◌, ℕ, Bool, true, false, cond, List, [], ◌∷◌, Option, None, Some, append_assoc, arith, is_eq, refl, sym, ap, ap₂, subst, ◌∙◌}
-use Rattle.std.specs.List.{AllByRecursion}
+use Rattle.std.proofs.Common.{◌≡◌, ◌≤◌, ◌<◌, ◌⊎◌, Ordering, Less, Equal, Greater, inl, inr, ◌++◌, ℕ, Bool, true, false, cond, List, [], ◌∷◌, Option, None, Some, append_assoc, arith, is_eq, refl, sym, ap, ap₂, subst, ◌∙◌}
+use Rattle.std.specs.List.{All, AllByRecursion}
 use Rattle.std.specs.Ordering.{nat_cmp}
 use Rattle.std.specs.BTreeMap.{BTreeMap, get, is_at}
 use Rattle.std.specs.Map.{lookup}
 use Rattle.std.proofs.lemmas.List.{append-nil}
+use Rattle.std.proofs.lemmas.List.Elements.{All-contains, Contains-append_right}
 use Rattle.std.proofs.lemmas.Bool.{true≢false}
 use Rattle.std.proofs.lemmas.Cmp.{ranked}
 use Rattle.std.specs.Ordering.{MatchOrdering}
@@ -12,7 +13,7 @@ use Rattle.je_order.proofs.Lists.{all_push, all_weaker}
 use Rattle.record_map.specs.Cells.{IsRising}
 use Rattle.db_tree.specs.declared.tree.DbTree.{DbTree}
 use Rattle.tree_nodes.specs.Levels.{AreParts}
-use Rattle.dirty_nodes.specs.Marks.{AllFrom, AllSince, IsMarkOr}
+use Rattle.dirty_nodes.specs.Marks.{AllFrom, AllSince, IsMark, IsMarkOr}
 use Rattle.dirty_nodes.specs.Forest.{IsMarkOrIn}
 use Rattle.dirty_nodes.proofs.Marking.{marked_less}
 
@@ -86,12 +87,36 @@ each_get Q forest all d tree found = each_in Q forest.entries d tree all found
 pub from_less : (a b : ℕ) → b ≤ a → (x : ℕ × DbTree) → all_from_in a x → all_from_in b x
 from_less a b le x all = (λ level low n there. marked_less n.from a b le (all.0 level low n there), all.1, all.2)
 
+-- a mark of the tree of one of the entries
+pub record IsMarkAmong (entries : Entries) (lsn : ℕ) : Type 0 where
+  pub entry : ℕ × DbTree
+  pub before : Entries
+  pub after : Entries
+  pub there : entries ≡ before ++ entry ∷ after
+  pub mark : IsMark entry.1.levels lsn
+
+abbrev pub IsMarkOrAmong : ℕ → Entries → ℕ → Type 0
+IsMarkOrAmong bound entries lsn = (lsn ≡ bound) ⊎ IsMarkAmong entries lsn
+
+all_middle : (P : ℕ × DbTree → Type 0) (before after : Entries) (e : ℕ × DbTree) → All P (before ++ e ∷ after) → P e
+all_middle P before after e all = All-contains P (before ++ e ∷ after) e all (Contains-append_right before (e ∷ after) e (0, (omega arith), refl))
+
+-- where a map gives each of its entries, it gives that tree
+pub mark_found : (forest : BTreeMap ℕ DbTree) (bound lsn : ℕ) → All (λ e. get nat_cmp forest e.0 ≡ Some e.1) forest.entries → IsMarkOrAmong bound forest.entries lsn → IsMarkOrIn bound forest lsn
+mark_found forest bound lsn all (inl same) = inl same
+mark_found forest bound lsn all (inr m) = inr (record {
+  db = m.entry.0;
+  tree = m.entry.1;
+  there = all_middle (λ e. get nat_cmp forest e.0 ≡ Some e.1) m.before m.after m.entry (subst (All (λ e. get nat_cmp forest e.0 ≡ Some e.1)) m.there all);
+  mark = m.mark;
+})
+
 -- a mark of one of the trees
-pub mark_in : (forest : BTreeMap ℕ DbTree) (bound least next : ℕ) (Q : ℕ × DbTree → Type 0) (rest more : Entries) (e : ℕ × DbTree) → IsDone Q forest.entries rest → rest ≡ e ∷ more → IsMarkOr least e.1.levels next →
-    IsMarkOrIn bound forest least → IsMarkOrIn bound forest next
-mark_in forest bound least next Q rest more e d is (inl same) upto = subst (IsMarkOrIn bound forest) (sym same) upto
-mark_in forest bound least next Q rest more e d is (inr mark) upto =
-    inr (record { db = e.0; tree = e.1; before = d.done; after = more; there = d.is ∙ ap (λ (l : Entries). d.done ++ l) is; mark = mark })
+pub mark_in : (entries : Entries) (bound least next : ℕ) (Q : ℕ × DbTree → Type 0) (rest more : Entries) (e : ℕ × DbTree) → IsDone Q entries rest → rest ≡ e ∷ more → IsMarkOr least e.1.levels next →
+    IsMarkOrAmong bound entries least → IsMarkOrAmong bound entries next
+mark_in entries bound least next Q rest more e d is (inl same) upto = subst (IsMarkOrAmong bound entries) (sym same) upto
+mark_in entries bound least next Q rest more e d is (inr mark) upto =
+    inr (record { entry = e; before = d.done; after = more; there = d.is ∙ ap (λ (l : Entries). d.done ++ l) is; mark = mark })
 
 pub done_start : (Q : ℕ × DbTree → Type 0) (entries rest : Entries) → rest ≡ entries → IsDone Q entries rest
 done_start Q entries rest is = subst (IsDone Q entries) (sym is) (done_none Q entries)

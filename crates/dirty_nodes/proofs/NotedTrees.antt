@@ -58,7 +58,7 @@ one_then None (Some y) c first second = absurd first
 one_then (Some x) None c first second = absurd first
 one_then (Some x) (Some y) None first second = absurd second
 one_then (Some x) (Some y) (Some z) first second =
-    record { noted = noted_again x.levels y.levels z.levels first.noted second.noted; cells = second.cells ∙ first.cells }
+    record { noted = noted_again x.levels y.levels z.levels first.noted second.noted; cells = second.cells ∙ first.cells; parts = second.parts }
 
 noted_more : (m t : Bool) (a b c : Option DbTree) → IsNotedIf m a b → IsNotedIf t b c → IsNotedIf (m || t) a c
 noted_more true true a b c first second = one_then a b c first second

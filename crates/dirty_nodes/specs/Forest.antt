@@ -36,10 +36,11 @@ left_in forest = sum_by (λ e. count_all_due e.1.levels) forest.entries
 
 -- ---- noting
 
--- a database's tree has its dirty nodes noted and those above them, and no others; no record changed
+-- a database's tree has its dirty nodes noted and those above them, and no others; no record changed, and its levels part all names
 pub record IsNotedTree (old new : DbTree) : Type 0 where
   pub noted : AreNoted old.levels new.levels
   pub cells : new.cells ≡ old.cells
+  pub parts : AreParts new.levels
 
 -- so it is with each database
 abbrev pub IsNotedOne : Option DbTree → Option DbTree → Type 0
@@ -69,9 +70,7 @@ IsFrom forest least = (d : ℕ) (tree : DbTree) → get nat_cmp forest d ≡ Som
 pub record IsMarkIn (forest : BTreeMap ℕ DbTree) (lsn : ℕ) : Type 0 where
   pub db : ℕ
   pub tree : DbTree
-  pub before : List (ℕ × DbTree)
-  pub after : List (ℕ × DbTree)
-  pub there : forest.entries ≡ before ++ (db, tree) ∷ after
+  pub there : get nat_cmp forest db ≡ Some tree
   pub mark : IsMark tree.levels lsn
 
 abbrev pub IsMarkOrIn : ℕ → BTreeMap ℕ DbTree → ℕ → Type 0

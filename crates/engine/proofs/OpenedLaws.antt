@@ -235,7 +235,7 @@ pub fit_read : (r : Recovered Trees) → last_number_of r.trees < last_number �
 fit_read r more observable reads w base below =
     let again = w.is.fit in
     let es = placed (log_in w.held) in
-    again.fit base below (read_fits again.read es (last_checkpoint es) base again.formed again.roots below) more
+    again.fit base below (read_fits again.read es (last_checkpoint es) base again.formed again.roots below) more below
 
 -- the first file's number is at most that of an LSN at the log's end or behind it
 begins_up_to : (log : Log) (end : LogPos) (last since : ℕ) → IsLog log → EndsAt log end.file end.offset last → pos_lsn end ≤ since → BeginsUpTo log (since / 2 ^ 32)

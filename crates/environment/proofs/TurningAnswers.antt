@@ -6,6 +6,8 @@ use Rattle.store_model.specs.declared.answer.Answer.{Answer}
 use Rattle.record_tree.specs.declared.tree_err.TreeErr.{TreeErr}
 use Rattle.record_tree.specs.declared.tree_err.TreeErr.TheVariants.{Fault, Full, IdsEnded, Memory}
 use Rattle.in_tree.specs.declared.logged_trees.LogTrees.{LogTrees}
+use Rattle.in_tree.specs.Observed.{last_node_of}
+use Rattle.in_tree.proofs.MarksLeft.{marks_are_late}
 use Rattle.checkpointer.specs.declared.checkpointer.Checkpointer.{Checkpointer}
 use Rattle.checkpointer.specs.declared.ended.Ended.{Ended}
 use Rattle.checkpointer.specs.declared.ended.Ended.TheVariants.{Done as Logged, Left}
@@ -134,6 +136,8 @@ module _ {D : Type 0} where
           (record {
             redo = redo;
             by = finish_by kept (Ok (Logged redo)) is;
+            late = λ es base start lsn fits begun mark.
+                marks_are_late old.engine.trees.trees.forest es base (last_node_of old.engine.trees) lsn start fits (finish_by kept (Ok (Logged redo)) is).finishes.0 mark begun;
             since = ap (λ (k : Kept). k.since) kept_is;
             fault = ap (λ (k : Kept). k.fault) kept_is;
             ended = ap (λ (k : Kept). is_some k.checkpoints.under_way) kept_is ∙ ap (λ (o : Option UnderWay). is_some o) (done redo is);

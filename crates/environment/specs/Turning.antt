@@ -21,6 +21,8 @@ use Rattle.record_tree.specs.declared.tree_err.TreeErr.{TreeErr}
 use Rattle.record_tree.specs.declared.tree_err.TreeErr.TheVariants.{Fault, Full, IdsEnded, Memory}
 use Rattle.record_tree.specs.Logged.{IsFront}
 use Rattle.record_tree.specs.Occupied.{AreSame}
+use Rattle.log_trees.specs.Placed.{Placed}
+use Rattle.tree_images.specs.Notes.{has_begun, is_late}
 use Rattle.dirty_nodes.specs.Forest.{IsMarkIn, IsSince, is_dirty_in, is_noted_in, is_to_note_in, left_in}
 use Rattle.in_tree.specs.declared.logged_trees.LogTrees.{LogTrees}
 use Rattle.in_tree.specs.Checkpoints.{IsFullFor, MayEndTrees}
@@ -34,6 +36,7 @@ use Rattle.checkpointer.specs.Numbers.{number_after}
 use Rattle.checkpointer.specs.Steps.{Finishes, Flushes}
 use Rattle.environment.specs.declared.environment.Environment.{Environment}
 use Rattle.environment.specs.declared.written.OwnNames.{OwnNames}
+use Rattle.environment.specs.Valid.{fitting}
 use Rattle.environment.specs.Whole.{HasDone, IsAt, IsGuarded}
 
 -- a first LSN, if there is one, is not above this one
@@ -170,10 +173,12 @@ module _ {D : Type 0} where
       pub is_under_way : old.engine.kept.checkpoints.under_way ≡ Some checkpoint
       pub finishes : FinishesTrees finish checkpoint old.engine.trees new.engine.trees result
 
-    -- the end was logged: from then on a redo may begin at its redo LSN
+    -- The end was logged: from then on a redo may begin at its redo LSN. That is the least of the checkpoint's beginning, the first LSNs of the
+    -- transactions under way, and the marks that nodes have; and these are late for each checkpoint that began in this life of the environment.
     pub record HasFinished (owed : ℕ) (old new : Environment D) : Type 0 where
       pub redo : ℕ
       pub by : FinishesBy owed old new (Ok (Logged redo))
+      pub late : (es : List Placed) (base start lsn : ℕ) → fitting old.engine.trees es base → has_begun es base start ≡ true → IsMarkIn old.engine.trees.trees.forest lsn → is_late es base start lsn ≡ true
       pub since : new.engine.kept.since ≡ redo
       pub fault : new.engine.kept.fault ≡ old.engine.kept.fault
       pub ended : is_some new.engine.kept.checkpoints.under_way ≡ false

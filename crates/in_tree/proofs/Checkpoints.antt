@@ -1,5 +1,5 @@
 -- What a checkpoint logs of the trees.
-use Rattle.std.proofs.Common.{◌≡◌, ◌≤◌, ◌<◌, ◌⊎◌, ◌==◌, ◌&&◌, ◌++◌, ◌||◌, ℕ, suc, zero, cond, Bool, true, false, List, [], ◌∷◌, Option, None, Some, is_some, IsSome, length, filter, nat_lt, ◌-◌, refl, ap, ap₂, sym, subst, ◌∙◌, inl, inr, arith, not}
+use Rattle.std.proofs.Common.{◌≡◌, ◌≤◌, ◌<◌, ◌⊎◌, ◌==◌, ◌&&◌, ◌++◌, ◌||◌, ℕ, suc, zero, cond, Bool, true, false, List, [], ◌∷◌, Option, None, Some, is_some, IsSome, length, map, filter, nat_lt, ◌-◌, refl, ap, ap₂, sym, subst, ◌∙◌, inl, inr, arith, not}
 use Rattle.std.specs.List.{AllByRecursion, list_any}
 use Rattle.std.specs.Ordering.{is_eq, nat_cmp}
 use Rattle.std.specs.Map.{keys_of}
@@ -47,7 +47,10 @@ use Rattle.dirty_nodes.proofs.Forests.{all_since_in, each_get}
 use Rattle.in_tree.specs.declared.logged_trees.LogTrees.{LogTrees}
 use Rattle.in_tree.specs.declared.trees.Trees.{Trees}
 use Rattle.in_tree.specs.Carrying.{LogFact, carries_then}
-use Rattle.in_tree.specs.Checkpoints.{IsAloneIn, IsAloneOf, IsCheckpointEntry, IsClean, IsEndEntry, MayEndTrees}
+use Rattle.tree_images.specs.Notes.{is_late, is_root_due, is_start, may_stay}
+use Rattle.tree_images.proofs.LateMarks.{or_right}
+use Rattle.tree_images.proofs.NotedNodes.{notes_weaker}
+use Rattle.in_tree.specs.Checkpoints.{HasGot, IsAloneIn, IsAloneOf, IsCheckpointEntry, IsClean, IsEndEntry, MayEndTrees}
 use Rattle.in_tree.specs.Fitting.{fitting_then, fitting_tried, fitting_unchanged}
 use Rattle.in_tree.specs.Growing.{trees_at, none_due, GrewForest, TreesGrew}
 use Rattle.in_tree.specs.Limits.{GrewFitting, TriedFitting}
@@ -102,15 +105,10 @@ below_logged rows (suc k) low children is below = λ q c there between. (
 
 -- ---- a checkpoint's end
 
--- what is of each of some elements is of the one among them
-all_among : (Q : ℕ × DbTree → Type 0) (before after : List (ℕ × DbTree)) (e : ℕ × DbTree) → AllByRecursion Q (before ++ e ∷ after) → Q e
-all_among Q [] after e all = all.0
-all_among Q (x ∷ before) after e all = all_among Q before after e all.1
-
 -- an LSN that is a mark of a node is not before one since which images lack something
 pub mark_since : (forest : Forest) (since lsn : ℕ) → IsSince forest since → IsMarkIn forest lsn → since ≤ lsn
 mark_since forest since lsn all mark =
-    let each = all_among (all_since_in since) mark.before mark.after (mark.db, mark.tree) (subst (AllByRecursion (all_since_in since)) mark.there all) in
+    let each = each_get (all_since_in since) forest all mark.db mark.tree mark.there in
     by_test (nat_lt lsn since) refl (either (mark.mark.node.forced) (is_marked_before mark.mark.node.from since) (each mark.mark.level mark.mark.low mark.mark.node mark.mark.there))
   where
     either : (a b : Bool) → (a || b) ≡ false → b ≡ false
@@ -175,24 +173,26 @@ plain_follows e is = absurd is
 
 module _ {D : Type 0} (observable : Bool) (history : D → History) (sync_out read_out : D → Option ℕ) (read_of : D → ℕ) (faults : D → ℕ) where
   -- an entry was logged of which the trees have nothing
-  pub plain_grows : (old mid new : LogBuffer D) (e : Entry) (at : ℕ) (before after : Trees) → IsUnchanged old mid → GrewFitting observable history sync_out read_out read_of faults mid new (e ∷ []) →
-      at ≡ pos_lsn (placed_at (file_max_of mid) (end_of mid) (size_of e)) → after ≡ before →
+  pub plain_grows : (old new : LogBuffer D) (e : Entry) (at : ℕ) (before after : Trees) → HasGot observable history sync_out read_out read_of faults old new e at → is_start e ≡ false → after ≡ before →
       TreesGrew observable history sync_out read_out read_of faults old new before.last_node after.last_node (trees_at before.forest) (trees_at after.forest) (e ∷ [])
-  plain_grows old mid new e at before after same grew at_is trees_same =
+  plain_grows old new e at before after got plain trees_same =
       subst (λ (t : Trees). TreesGrew observable history sync_out read_out read_of faults old new before.last_node t.last_node (trees_at before.forest) (trees_at t.forest) (e ∷ [])) (sym trees_same) here
     where
+      mid : LogBuffer D
+      mid = got.mid
+
       kept : GrewFitting observable history sync_out read_out read_of faults old mid []
-      kept = fitting_unchanged observable history sync_out read_out read_of faults old mid same
+      kept = fitting_unchanged observable history sync_out read_out read_of faults old mid got.same
 
       Fits : LogFact
       Fits es base = ForestFits es base before.last_node (trees_at before.forest)
 
       here : TreesGrew observable history sync_out read_out read_of faults old new before.last_node before.last_node (trees_at before.forest) (trees_at before.forest) (e ∷ [])
       here = record {
-        fitting = fitting_then observable history sync_out read_out read_of faults old mid new [] (e ∷ []) kept grew;
+        fitting = fitting_then observable history sync_out read_out read_of faults old mid new [] (e ∷ []) kept got.grew;
         fits = carries_then observable history sync_out read_out read_of faults old mid [] (e ∷ []) Fits Fits Fits kept (λ log base has begun f. f)
-            (λ log base has begun f. (let a = is_appended observable history sync_out read_out read_of faults mid new e log base at grew at_is has begun in
-            subst (λ (es : List Placed). Fits es base) (sym a.is) (forest_stays (placed log) ((at, e) ∷ []) base before.last_node before.last_node (trees_at before.forest) (trees_at before.forest) none_due (le_refl before.last_node) (λ d. refl) f)));
+            (λ log base has begun f. (let a = is_appended observable history sync_out read_out read_of faults mid new e log base at got.grew got.at_is has begun in
+            subst (λ (es : List Placed). Fits es base) (sym a.is) (forest_stays (placed log) ((at, e) ∷ []) base before.last_node before.last_node (trees_at before.forest) (trees_at before.forest) none_due (le_refl before.last_node) (λ d. refl) (plain, tt) f)));
         still = λ none. absurd (some_entry e none);
       }
 
@@ -239,7 +239,14 @@ module _ {D : Type 0} (observable : Bool) (history : D → History) (sync_out re
       due d = due_one place.db (image ∷ []) d ++ []
 
       owes : (es : List Placed) (base : ℕ) → Fits es base → ForestDue es base before.last_node (trees_at before.forest) due
-      owes es base f = record { home = f.home; fits = λ d tree there. by_test d tree there (place.db == d) refl; writes = f.writes } where
+      owes es base f = record {
+        home = f.home;
+        fits = λ d tree there. by_test d tree there (place.db == d) refl;
+        writes = f.writes;
+        notes = λ d tree there start begun.
+            notes_weaker (may_stay es base start [] tree.levels) (may_stay es base start (map node_of (due d)) tree.levels) tree.levels
+            (λ level x lsn h. or_right (is_root_due (map node_of (due d)) tree.levels level x) (is_late es base start lsn) h) (f.notes d tree there start begun);
+      } where
         by_test : (d : ℕ) (tree : DbTree) → trees_at before.forest d ≡ Some tree → (t : Bool) → place.db == d ≡ t → FitsDue es base f.home before.last_node d tree (cond t (image ∷ []) [] ++ [])
         by_test d tree there true is =
             let own : place.db ≡ d = eqb-true place.db d is in

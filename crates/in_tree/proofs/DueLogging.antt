@@ -1,11 +1,11 @@
 -- Images that are due are logged, and changes behind them: the trees fit the longer log.
-use Rattle.std.proofs.Common.{◌≡◌, ◌≤◌, ◌<◌, ◌==◌, ◌&&◌, ◌++◌, ℕ, Bool, true, cond, List, [], ◌∷◌, Option, None, Some, IsSome, length, refl, ap, ap₂, sym, subst, ◌∙◌, arith, is_eq}
+use Rattle.std.proofs.Common.{◌≡◌, ◌≤◌, ◌<◌, ◌==◌, ◌&&◌, ◌++◌, ◌⊎◌, inl, inr, ℕ, suc, Bool, true, false, cond, map, List, [], ◌∷◌, Option, None, Some, IsSome, length, refl, ap, ap₂, sym, subst, ◌∙◌, arith, is_eq}
 use Rattle.std.specs.Prelude.{Box, IfSome}
 use Rattle.std.specs.Global.{Global}
 use Rattle.std.specs.List.{AllByRecursion}
 use Rattle.std.specs.Ordering.{nat_cmp}
 use Rattle.std.specs.BTreeMap.{get}
-use Rattle.std.proofs.lemmas.Bool.{eq-eqb, ne_eqb, cond-true, cond-false}
+use Rattle.std.proofs.lemmas.Bool.{true≢false, eq-eqb, eqb-true, ne_eqb, cond-true, cond-false}
 use Rattle.std.proofs.lemmas.Option.{same_Some}
 use Rattle.std.specs.Option.{option_and_then}
 use Rattle.std.proofs.Math.Nat.{le_refl, le_trans}
@@ -16,43 +16,52 @@ use Rattle.je_order.specs.declared.txn_id.TxnId.{TxnId}
 use Rattle.log_entry.specs.Body.{IsEntry}
 use Rattle.log_entry.specs.Encoding.{size_of}
 use Rattle.log_entry.specs.declared.entry.Entry.{Entry}
-use Rattle.log_entry.specs.declared.entry.Entry.TheVariants.{Put}
+use Rattle.log_entry.specs.declared.entry.Entry.TheVariants.{Put, In, Bin}
 use Rattle.log_file.specs.Log.{Log}
 use Rattle.log_buffer.specs.declared.buffer.LogBuffer.{LogBuffer}
+use Rattle.log_buffer.specs.declared.log_pos.LogPos.{LogPos}
 use Rattle.log_buffer.specs.Buffer.{disk_of, end_of, file_max_of}
-use Rattle.log_buffer.specs.Flip.{pos_lsn, placed_at}
+use Rattle.log_buffer.specs.Flip.{end_after, pos_lsn, placed_at}
 use Rattle.log_buffer.specs.Growth.{longer}
 use Rattle.log_buffer.specs.Laws.{placed_by}
 use Rattle.log_buffer.specs.Log.{HasLog}
 use Rattle.record_map.specs.declared.cell.Cell.{Cell}
 use Rattle.record_map.specs.declared.write.Write.{Write}
 use Rattle.record_map.specs.Cells.{value_at}
-use Rattle.record_map.proofs.NameLaws.{name_same}
-use Rattle.record_tree.specs.Logged.{entry_for}
+use Rattle.record_map.proofs.NameLaws.{name_same, same_or_other}
+use Rattle.record_tree.specs.Logged.{entry_for, AreImages, IsImage}
+use Rattle.tree_nodes.specs.Nodes.{NodeRow}
 use Rattle.tree_nodes.specs.Levels.{row_of, AreParts}
+use Rattle.tree_nodes.specs.Lows.{lows_of}
 use Rattle.tree_nodes.specs.declared.node.Node.{Node}
 use Rattle.log_trees.specs.Placed.{Placed, placed}
 use Rattle.log_trees.specs.Sound.{Home}
 use Rattle.log_trees.specs.Trees.{data_in, data_of}
 use Rattle.log_meaning.specs.Redo.{Redo, redo_entry, redone, set_at, unset_at}
 use Rattle.log_meaning.proofs.RedoLaws.{redone-in}
+use Rattle.db_tree.specs.declared.node_at.NodeAt.{NodeAt}
 use Rattle.db_tree.specs.declared.node_image.NodeImage.{NodeImage}
 use Rattle.db_tree.specs.declared.tree.DbTree.{DbTree}
 use Rattle.db_tree.specs.Content.{held_by}
-use Rattle.db_tree.specs.NodeImages.{finished, IsLoggable}
-use Rattle.db_tree.specs.NodeSteps.{IsNoted}
+use Rattle.db_tree.specs.NodeImages.{finished, node_of, IsLoggable}
+use Rattle.db_tree.specs.NodeSteps.{IsLoggedUp, IsNoted}
 use Rattle.db_tree.specs.Trees.{IsTree, IsImageOf}
+use Rattle.db_tree.specs.Waiting.{is_among, is_same_name}
 use Rattle.db_tree.proofs.NodeLogging.{entry_is_last}
-use Rattle.tree_images.specs.Forest.{latest_at, latest_of, logged_at, AreLogged, FitsDue, ForestDue, IsDue}
+use Rattle.tree_images.specs.Forest.{latest_at, latest_of, logged_at, AreLogged, FitsDue, ForestDue, IsDue, IsLoggedWrite}
 use Rattle.tree_images.specs.LogLaws.{AreDue, IsNextLogged}
+use Rattle.tree_images.specs.Notes.{HasNotes, has_begun, has_changed, is_change_by, is_late, is_root_due, is_start, may_stay}
 use Rattle.tree_images.specs.TreeSteps.{HasWritten}
 use Rattle.tree_images.proofs.DueImages.{due_logged}
-use Rattle.tree_images.proofs.ForestSteps.{tree_stays, fits_stay, writes_stay, forest_here, forest_step}
+use Rattle.tree_images.proofs.ForestSteps.{tree_stays, fits_stay, notes_stay, writes_stay, forest_here, forest_step}
 use Rattle.tree_images.proofs.ForestWrites.{written_fits, written_logged}
 use Rattle.tree_images.proofs.Latest.{latest_own, latest_behind}
+use Rattle.tree_images.proofs.LateMarks.{HasNoStart, and_true, begun_back, begun_before, both, changed_last, late_behind, late_grows, or_cases, or_left, or_right}
 use Rattle.tree_images.proofs.Logged.{none_named}
+use Rattle.tree_images.proofs.NotedNodes.{notes_logged}
+use Rattle.tree_images.proofs.Splits.{lows_height}
 use Rattle.in_tree.specs.Forest.{Forest, Replaces, IsStepIn}
-use Rattle.in_tree.specs.Growing.{trees_at, GrewTree, GrewForest, GrewSlot}
+use Rattle.in_tree.specs.Growing.{trees_at, IsFitDue, GrewTree, GrewForest, GrewSlot}
 use Rattle.in_tree.specs.Limits.{GrewFitting}
 use Rattle.in_tree.specs.Logging.{LogsImage}
 use Rattle.in_tree.specs.Placing.{due_one}
@@ -71,6 +80,7 @@ pub record HasNoted (image : NodeImage) (at : ℕ) (before after : DbTree) : Typ
   pub cells : after.cells ≡ before.cells
   pub parts : AreParts after.levels
   pub noted : IsSome (value_at image.low (row_of before.levels image.level)) → IsNoted before.levels after.levels image.level image.low at
+  pub up : IsSome (value_at image.low (row_of before.levels image.level)) → IsLoggedUp before.levels after.levels image.level image.low at
   pub keeps : (es : List Placed) (base : ℕ) (newest : Name → ℕ) → ((n : Node) → value_at image.low (row_of before.levels image.level) ≡ Some n → IsImageOf es before.levels (held_by before.cells) image.level (image.low, n) at) →
       IsTree es base newest before.levels before.cells → IsTree es base newest after.levels after.cells
 
@@ -90,6 +100,65 @@ image_noted es base home last d before after image images at h behind entry is =
     next : IsNextLogged es home last d is.before before.levels before.cells image images at
     next = due_logged es home last d is.before before.levels before.cells image images at is.due behind entry
 
+names_same : (a b : Name) → is_same_name a b ≡ true → a ≡ b
+names_same a b same = by_name (same_or_other a b)
+  where
+    by_name : (a ≡ b) ⊎ (is_eq (name_cmp a b) ≡ false) → a ≡ b
+    by_name (inl is) = is
+    by_name (inr apart) = absurd (true≢false (sym same ∙ apart))
+
+-- a node elsewhere is among those of the other images
+among_rest : (n : NodeAt) (nodes : List NodeAt) (k : ℕ) (x : Name) → (k ≡ n.level → x ≡ n.low → ⊥) → is_among (n ∷ nodes) k x ≡ true → is_among nodes k x ≡ true
+among_rest n nodes k x away h = by_side (or_cases ((n.level == k) && is_same_name n.low x) (is_among nodes k x) h)
+  where
+    by_side : (((n.level == k) && is_same_name n.low x) ≡ true) ⊎ (is_among nodes k x ≡ true) → is_among nodes k x ≡ true
+    by_side (inl here) =
+        let parts = both (n.level == k) (is_same_name n.low x) here in
+        absurd (away (sym (eqb-true n.level k parts.0)) (sym (names_same n.low x parts.1)))
+    by_side (inr rest) = rest
+
+-- what a checkpoint noted is noted still where the image that is due first is logged: its node's mark is the node's above it
+image_notes : (es : List Placed) (base at : ℕ) (e : Entry) (before after : List NodeRow) (image : NodeImage) (images : List NodeImage) → AllByRecursion (λ p. p.0 < at) es → base ≤ at → is_start e ≡ false → length after ≡ length before →
+    IsLoggedUp before after image.level image.low at → HasNotes es base (image ∷ images) before → HasNotes (es ++ (at, e) ∷ []) base images after
+image_notes es base at e before after image images behind le plain height up notes start begun_now =
+    notes_logged (may_stay es base start (map node_of (image ∷ images)) before) (may_stay (es ++ (at, e) ∷ []) base start (map node_of images) after) before after image.level image.low at up
+    others handed (λ x. or_right (is_root_due (map node_of images) after (suc image.level) x) (is_late (es ++ (at, e) ∷ []) base start at) late_now) (notes start begun)
+  where
+    begun : has_begun es base start ≡ true
+    begun = begun_back es ((at, e) ∷ []) base start (plain, tt) begun_now
+
+    late_now : is_late (es ++ (at, e) ∷ []) base start at ≡ true
+    late_now = late_behind (es ++ (at, e) ∷ []) base start at (let lt = begun_before es base start at behind begun in omega (arith, lt))
+
+    grows : (lsn : ℕ) → is_late es base start lsn ≡ true → is_late (es ++ (at, e) ∷ []) base start lsn ≡ true
+    grows lsn h = late_grows es ((at, e) ∷ []) base start lsn h
+
+    others : (k : ℕ) (x : Name) (lsn : ℕ) → (k ≡ image.level → x ≡ image.low → ⊥) → may_stay es base start (map node_of (image ∷ images)) before k x lsn ≡ true → may_stay (es ++ (at, e) ∷ []) base start (map node_of images) after k x lsn ≡ true
+    others k x lsn away h = by_side (or_cases (is_root_due (map node_of (image ∷ images)) before k x) (is_late es base start lsn) h)
+      where
+        by_side : (is_root_due (map node_of (image ∷ images)) before k x ≡ true) ⊎ (is_late es base start lsn ≡ true) → may_stay (es ++ (at, e) ∷ []) base start (map node_of images) after k x lsn ≡ true
+        by_side (inr late) = or_right (is_root_due (map node_of images) after k x) (is_late (es ++ (at, e) ∷ []) base start lsn) (grows lsn late)
+        by_side (inl due) =
+            let parts = both (is_among (map node_of (image ∷ images)) k x) (suc k == length before) due in
+            or_left (is_root_due (map node_of images) after k x) (is_late (es ++ (at, e) ∷ []) base start lsn)
+            (and_true (is_among (map node_of images) k x) (suc k == length after) (among_rest (node_of image) (map node_of images) k x away parts.0) (subst (λ (n : ℕ). (suc k == n) ≡ true) (sym height) parts.1))
+
+    handed : (x : Name) (lsn : ℕ) → suc image.level < length before → may_stay es base start (map node_of (image ∷ images)) before image.level image.low lsn ≡ true →
+        may_stay (es ++ (at, e) ∷ []) base start (map node_of images) after (suc image.level) x lsn ≡ true
+    handed x lsn lt h = by_side (or_cases (is_root_due (map node_of (image ∷ images)) before image.level image.low) (is_late es base start lsn) h)
+      where
+        by_side : (is_root_due (map node_of (image ∷ images)) before image.level image.low ≡ true) ⊎ (is_late es base start lsn ≡ true) → may_stay (es ++ (at, e) ∷ []) base start (map node_of images) after (suc image.level) x lsn ≡ true
+        by_side (inr late) = or_right (is_root_due (map node_of images) after (suc image.level) x) (is_late (es ++ (at, e) ∷ []) base start lsn) (grows lsn late)
+        by_side (inl due) =
+            let top : suc image.level ≡ length before = eqb-true (suc image.level) (length before) (both (is_among (map node_of (image ∷ images)) image.level image.low) (suc image.level == length before) due).1 in absurd (omega (arith, lt, top))
+
+-- the images that are due first are of nodes that are there
+due_there_now : (es : List Placed) (base : ℕ) (home : ℕ → Home) (last d : ℕ) (tree : DbTree) (image : NodeImage) (images : List NodeImage) → IsDue es base home last d tree (image ∷ images) → IsSome (value_at image.low (row_of tree.levels image.level))
+due_there_now es base home last d tree image images is = is.due.order.0
+
+lows_length : (old new : List NodeRow) → lows_of new ≡ lows_of old → length new ≡ length old
+lows_length old new same = sym (lows_height new) ∙ ap (λ (l : List (List Name)). length l) same ∙ lows_height old
+
 -- the tree that took a place
 pub is_next : (before after : Forest) (db : ℕ) (next t : DbTree) → Replaces before after db (Some next) → trees_at after db ≡ Some t → next ≡ t
 is_next before after db next t has there = same_Some next t (sym (replaced before after db (Some next) has) ∙ there)
@@ -104,18 +173,37 @@ due_here db images = cond-true (db == db) images [] (eq-eqb db db refl)
 pub due_there : (db : ℕ) (images : List NodeImage) (d : ℕ) → (d ≡ db → ⊥) → due_one db images d ≡ []
 due_there db images d away = cond-false (db == d) images [] (ne_eqb db d (λ same. away (sym same)))
 
+-- an image is no beginning of a checkpoint
+image_plain : (e : Entry) → IsImage e → is_start e ≡ false
+image_plain (In db node level slots) image = refl
+image_plain (Bin db node slots) image = refl
+image_plain e image = absurd image
+
+pub images_plain : (m : ℕ) (p : LogPos) (images : List Entry) → AreImages images → HasNoStart (placed_by m p images)
+images_plain m p [] all = tt
+images_plain m p (e ∷ images) all = (image_plain e all.0, images_plain m (end_after m p (size_of e)) images all.1)
+
+-- nor is a change
+change_plain : (txn : TxnId) (db : ℕ) (name : Name) (value : Option (List ℕ)) → is_start (entry_for txn db name value) ≡ false
+change_plain txn db name None = refl
+change_plain txn db name (Some v) = refl
+
 -- there is an entry
 pub some_entry : (e : Entry) → e ∷ [] ≡ [] → ⊥
 some_entry e none = absurd (omega (arith, ap length none))
 
 module _ {D : Type 0} (observable : Bool) (history : D → History) (sync_out read_out : D → Option ℕ) (read_of : D → ℕ) (faults : D → ℕ) where
   pub image_logged : (old new : LogBuffer D) (before after : DbTree) (image : NodeImage) (at : ℕ) → GrewFitting observable history sync_out read_out read_of faults old new ((finished before.levels image).entry ∷ []) →
-      at ≡ pos_lsn (placed_at (file_max_of old) (end_of old) (size_of (finished before.levels image).entry)) → IsEntry (finished before.levels image).entry → HasNoted image at before after →
+      at ≡ pos_lsn (placed_at (file_max_of old) (end_of old) (size_of (finished before.levels image).entry)) → IsEntry (finished before.levels image).entry → is_start (finished before.levels image).entry ≡ false → HasNoted image at before after →
       GrewTree observable history sync_out read_out read_of faults old new before after (image ∷ []) [] ((finished before.levels image).entry ∷ [])
-  image_logged old new before after image at grew at_is entry h = record {
+  image_logged old new before after image at grew at_is entry plain h = record {
     fitting = grew;
     fits = λ home last d rest log base has begun is. (let a = is_appended observable history sync_out read_out read_of faults old new (finished before.levels image).entry log base at grew at_is has begun in
-        subst (λ (es : List Placed). FitsDue es base home last d after rest) (sym a.is) (image_noted (placed log) base home last d before after image rest at h a.behind entry is));
+        let there = due_there_now (placed log) base home last d before image rest is.0 in
+        subst (λ (es : List Placed). IsFitDue home last d after rest es base) (sym a.is) (
+          image_noted (placed log) base home last d before after image rest at h a.behind entry is.0,
+          image_notes (placed log) base at (finished before.levels image).entry before.levels after.levels image rest a.behind a.begun plain (lows_length before.levels after.levels (h.noted there).lows) (h.up there) is.1,
+        ));
     still = λ none. absurd (some_entry (finished before.levels image).entry none);
   }
 
@@ -129,14 +217,14 @@ module _ {D : Type 0} (observable : Bool) (history : D → History) (sync_out re
       (λ loggable grew at_is h. (
         (finished before.levels image).entry,
         loggable.1,
-        image_logged old new before after image at grew at_is loggable.0 (record { cells = h.cells; parts = h.parts; noted = h.noted; keeps = h.keeps }),
+        image_logged old new before after image at grew at_is loggable.0 (image_plain (finished before.levels image).entry loggable.1) (record { cells = h.cells; parts = h.parts; noted = h.noted; up = h.up; keeps = h.keeps }),
       ))
 
   -- ---- the images of a slot
 
   pub room_logged : (old new : LogBuffer D) (before after : Forest) (db : ℕ) (tree next : DbTree) (images : List NodeImage) (entries : List Entry) → Some tree ≡ get nat_cmp before db → Replaces before after db (Some next) →
-      next.cells ≡ tree.cells → GrewTree observable history sync_out read_out read_of faults old new tree next images [] entries → GrewSlot observable history sync_out read_out read_of faults old new before after db images entries
-  room_logged old new before after db tree next images entries was has cells grew due = record { fitting = grew.fitting; fits = λ last log base hl begun f. fits last log base hl begun f; still = λ none es base last f. still none es base last f } where
+      next.cells ≡ tree.cells → AreImages entries → GrewTree observable history sync_out read_out read_of faults old new tree next images [] entries → GrewSlot observable history sync_out read_out read_of faults old new before after db images entries
+  room_logged old new before after db tree next images entries was has cells plain grew due = record { fitting = grew.fitting; fits = λ last log base hl begun f. fits last log base hl begun f; still = λ none es base last f. still none es base last f } where
     more : List Placed
     more = placed_by (file_max_of old) (end_of old) entries
 
@@ -145,10 +233,15 @@ module _ {D : Type 0} (observable : Bool) (history : D → History) (sync_out re
         (forest_here es base last last db (trees_at before) (trees_at after) (λ d. due_one db images d ++ due d) due f.home f (λ number within. refl) (le_refl last)
         (λ d away. others_away before after db (Some next) has d away) (λ d away. sym (ap (λ (l : List NodeImage). l ++ due d) (due_there db images d away)))
         (λ t there. subst (λ (u : DbTree). FitsDue es base f.home last db u (due db)) (is_next before after db next t has there)
-        (grew.still none es base f.home last db (due db)
-        (subst (λ (l : List NodeImage). FitsDue es base f.home last db tree (l ++ due db)) (due_here db images) (f.fits db tree (sym was)))))
+        (one none es base last f).0)
         (λ t there. subst (λ (u : DbTree). AreLogged es base db u.cells) (is_next before after db next t has there)
-        (subst (λ (l : List (Name × Cell)). AreLogged es base db l) (sym cells) (f.writes db tree (sym was))))).0
+        (subst (λ (l : List (Name × Cell)). AreLogged es base db l) (sym cells) (f.writes db tree (sym was))))
+        (λ t there. subst (λ (u : DbTree). HasNotes es base (due db) u.levels) (is_next before after db next t has there) (one none es base last f).1)).0
+      where
+        one : entries ≡ [] → (es : List Placed) (base last : ℕ) (f : ForestDue es base last (trees_at before) (λ d. due_one db images d ++ due d)) → IsFitDue f.home last db next (due db) es base
+        one none es base last f =
+            grew.still none es base f.home last db (due db)
+            (subst (λ (l : List NodeImage). IsFitDue f.home last db tree (l ++ due db) es base) (due_here db images) (f.fits db tree (sym was), f.notes db tree (sym was)))
 
     fits : (last : ℕ) (log : Log) (base : ℕ) → HasLog observable (now (history (disk_of old))) old log → base ≤ pos_lsn (end_of old) → ForestDue (placed log) base last (trees_at before) (λ d. due_one db images d ++ due d) →
         ForestDue (placed (longer old entries log)) base last (trees_at after) due
@@ -156,18 +249,20 @@ module _ {D : Type 0} (observable : Bool) (history : D → History) (sync_out re
         subst (λ (es : List Placed). ForestDue es base last (trees_at after) due) (sym longer_is)
         ((forest_step (placed log) more base last last db (trees_at before) (trees_at after) (λ d. due_one db images d ++ due d) due f.home f (λ number within. refl) (le_refl last)
         (λ d away. others_away before after db (Some next) has d away) (λ d away. sym (ap (λ (l : List NodeImage). l ++ due d) (due_there db images d away)))
-        (λ t there. subst (λ (u : DbTree). FitsDue (placed log ++ more) base f.home last db u (due db)) (is_next before after db next t has there) here)
+        (λ t there. subst (λ (u : DbTree). FitsDue (placed log ++ more) base f.home last db u (due db)) (is_next before after db next t has there) here.0)
         (λ t there. subst (λ (u : DbTree). AreLogged (placed log ++ more) base db u.cells) (is_next before after db next t has there)
-        (subst (λ (l : List (Name × Cell)). AreLogged (placed log ++ more) base db l) (sym cells) (writes_stay (placed log) more base db tree.cells (f.writes db tree (sym was)))))).0)
+        (subst (λ (l : List (Name × Cell)). AreLogged (placed log ++ more) base db l) (sym cells) (writes_stay (placed log) more base db tree.cells (f.writes db tree (sym was)))))
+        (images_plain (file_max_of old) (end_of old) entries plain)
+        (λ t there. subst (λ (u : DbTree). HasNotes (placed log ++ more) base (due db) u.levels) (is_next before after db next t has there) here.1)).0)
       where
         longer_is : placed (longer old entries log) ≡ placed log ++ more
         longer_is = more_placed observable history sync_out read_out read_of faults old entries log hl
 
-        here : FitsDue (placed log ++ more) base f.home last db next (due db)
+        here : IsFitDue f.home last db next (due db) (placed log ++ more) base
         here =
-            subst (λ (es : List Placed). FitsDue es base f.home last db next (due db)) longer_is
+            subst (λ (es : List Placed). IsFitDue f.home last db next (due db) es base) longer_is
             (grew.fits f.home last db (due db) log base hl begun
-            (subst (λ (l : List NodeImage). FitsDue (placed log) base f.home last db tree (l ++ due db)) (due_here db images) (f.fits db tree (sym was))))
+            (subst (λ (l : List NodeImage). IsFitDue f.home last db tree (l ++ due db) (placed log) base) (due_here db images) (f.fits db tree (sym was), f.notes db tree (sym was))))
 
   -- ---- a change
 
@@ -193,6 +288,15 @@ module _ {D : Type 0} (observable : Bool) (history : D → History) (sync_out re
           subst (λ (t : Bool). at ≤ latest_of db name ((redone base es).done ++ cond t ((redone base es).pending txn.0 ++ set_at at db name v ∷ []) ((redone base es).pending txn.0))) (sym (eq-eqb txn.0 txn.0 refl))
           (le_trans (latest_own db name ((redone base es).pending txn.0) (set_at at db name v) (own_name db name)) (latest_behind db name (redone base es).done ((redone base es).pending txn.0 ++ set_at at db name v ∷ [])))
 
+  -- an entry of a change is one of its transaction
+  change_own : (es : List Placed) (base at : ℕ) (txn : TxnId) (db : ℕ) (name : Name) (value : Option (List ℕ)) → base ≤ at → has_changed (es ++ (at, entry_for txn db name value) ∷ []) base txn.0 at ≡ true
+  change_own es base at txn db name value le =
+      changed_last es base txn.0 at (entry_for txn db name value) le (by_value value)
+    where
+      by_value : (v : Option (List ℕ)) → is_change_by txn.0 (entry_for txn db name v) ≡ true
+      by_value None = eq-eqb txn.0 txn.0 refl
+      by_value (Some v) = eq-eqb txn.0 txn.0 refl
+
   pub change_written : (old new : LogBuffer D) (before after : Forest) (txn : TxnId) (db : ℕ) (name : Name) (value : Option (List ℕ)) (write : Box Write Global) (at : ℕ) →
       GrewFitting observable history sync_out read_out read_of faults old new (entry_for txn db name value ∷ []) → at ≡ pos_lsn (placed_at (file_max_of old) (end_of old) (size_of (entry_for txn db name value))) →
       IsStepIn db (HasWritten name write) before after → write.value ≡ record { txn = txn; at = at; value = value } → (due : ℕ → List NodeImage) →
@@ -216,5 +320,10 @@ module _ {D : Type 0} (observable : Bool) (history : D → History) (sync_out re
         (fits_stay (placed log) ((at, entry) ∷ []) base f.home f.home last last db s.tree (due db) (λ number within. refl) (le_refl last) was)))
         (λ t there. subst (λ (u : DbTree). AreLogged es base db u.cells) (is_next before after db s.next t s.has there)
         (written_logged es base db name write s.tree s.next s.step
-        (subst (λ (w : Write). w.at ≤ logged_at base es db name w.txn.0) (sym write_is) (change_counts (placed log) base at txn db name value a.begun))
-        (writes_stay (placed log) ((at, entry) ∷ []) base db s.tree.cells (f.writes db s.tree s.was))))).0)
+        (subst (λ (w : Write). IsLoggedWrite es base db name w) (sym write_is)
+        (record { upto = change_counts (placed log) base at txn db name value a.begun; own = change_own (placed log) base at txn db name value a.begun }))
+        (writes_stay (placed log) ((at, entry) ∷ []) base db s.tree.cells (f.writes db s.tree s.was))))
+        (change_plain txn db name value, tt)
+        (λ t there. subst (λ (u : DbTree). HasNotes es base (due db) u.levels) (is_next before after db s.next t s.has there)
+        (subst (λ (rows : List NodeRow). HasNotes es base (due db) rows) (sym s.step.levels)
+        (notes_stay (placed log) ((at, entry) ∷ []) base (due db) s.tree.levels (change_plain txn db name value, tt) (f.notes db s.tree s.was))))).0)

@@ -21,9 +21,10 @@ use Rattle.db_tree.specs.Splits.{has_slot, logged_by, made_for, splits_of}
 use Rattle.db_tree.proofs.SplitLaws.{level_cases}
 use Rattle.tree_images.specs.Forest.{AreLogged, FitsDue, ForestDue}
 use Rattle.tree_images.specs.Laws.{AgreesUpTo}
+use Rattle.tree_images.specs.Notes.{HasNotes}
 use Rattle.tree_images.specs.PlaceLaws.{home_with}
 use Rattle.tree_images.specs.TreeSteps.{HasSlot}
-use Rattle.tree_images.proofs.ForestPlaces.{placed_fits, placed_logged}
+use Rattle.tree_images.proofs.ForestPlaces.{placed_fits, placed_logged, placed_notes}
 use Rattle.tree_images.proofs.ForestSteps.{FitsWith, fits_here, forest_here}
 use Rattle.tree_images.proofs.Grown.{homes_agree, root_home}
 use Rattle.in_tree.specs.Forest.{Forest}
@@ -62,6 +63,7 @@ same_grows es base last later old new due f home agrees le same = record {
     home = home;
     fits = λ d tree there. fits_here es base f.home home last later d tree (due d) agrees le (f.fits d tree (sym (same d) ∙ there));
     writes = λ d tree there. f.writes d tree (sym (same d) ∙ there);
+    notes = λ d tree there. f.notes d tree (sym (same d) ∙ there);
   };
   agrees = agrees;
 }
@@ -132,6 +134,11 @@ one_grows es base fanout last db x room old mid due f p few bound = by_new room.
             (subst (λ (l : List NodeImage). FitsDue es base f.home last db p.tree l) none (f.fits db p.tree p.was)))))
             (λ t there. subst (λ (u : DbTree). AreLogged es base db u.cells) (is_next old mid db p.next t p.has there)
             (placed_logged es base fanout (first_behind last) db x room p.tree p.next slot (f.writes db p.tree p.was)))
+            (λ t there. subst (λ (u : DbTree). HasNotes es base (due_with db room.images.items due db) u.levels) (is_next old mid db p.next t p.has there)
+            (subst (λ (l : List NodeImage). HasNotes es base l p.next.levels) due_is
+            (placed_notes es base f.home last db fanout x room (first_behind last) (last + made_by room) p.tree p.next slot (omega (arith, first_is)) (omega (arith, first_is)) (omega (arith, bound))
+            (subst (λ (l : List NodeImage). FitsDue es base f.home last db p.tree l) none (f.fits db p.tree p.was))
+            (subst (λ (l : List NodeImage). HasNotes es base l p.tree.levels) none (f.notes db p.tree p.was)))))
 
 -- ---- the root of a new database
 
@@ -151,6 +158,7 @@ rooted es base last (Some d) trees due f = record {
       home = home_with f.home (last + 1) d [];
       fits = λ b tree there. fits_here es base f.home (home_with f.home (last + 1) d []) last (last + 1) b tree (due b) (homes_agree f.home last (last + 1) d [] (omega arith)) (omega arith) (f.fits b tree there);
       writes = f.writes;
+      notes = f.notes;
     };
     agrees = homes_agree f.home last (last + 1) d [] (omega arith);
   };

@@ -1,5 +1,5 @@
 -- Changes that are ready to be logged: the trees fit their log but for the images of their names' slots.
-use Rattle.std.proofs.Common.{◌≡◌, ◌≤◌, ◌+◌, ◌==◌, ◌⊎◌, ◌++◌, ℕ, min, Bool, true, false, cond, List, [], ◌∷◌, Option, None, Some, IsSome, is_some, refl, ap, ap₂, sym, subst, ◌∙◌, inl, inr, arith}
+use Rattle.std.proofs.Common.{◌≡◌, ◌≤◌, ◌+◌, ◌==◌, ◌⊎◌, ◌++◌, ℕ, min, Bool, true, false, cond, List, [], ◌∷◌, Option, None, Some, IsSome, is_some, map, refl, ap, ap₂, sym, subst, ◌∙◌, inl, inr, arith}
 use Rattle.std.specs.Prelude.{IfSome}
 use Rattle.std.specs.List.{AllByRecursion}
 use Rattle.std.specs.Ordering.{nat_cmp}
@@ -17,14 +17,17 @@ use Rattle.tree_nodes.specs.Nodes.{least}
 use Rattle.db_tree.specs.declared.node_image.NodeImage.{NodeImage}
 use Rattle.db_tree.specs.declared.slot_room.SlotRoom.{SlotRoom}
 use Rattle.db_tree.specs.declared.tree.DbTree.{DbTree}
+use Rattle.db_tree.specs.NodeImages.{node_of}
 use Rattle.db_tree.specs.Seen.{occupied, seen}
 use Rattle.db_tree.specs.Shapes.{IsCellMade, made_by}
 use Rattle.db_tree.proofs.Seen.{seen_at}
 use Rattle.db_tree.proofs.SplitLaws.{level_cases}
 use Rattle.tree_images.specs.Forest.{FitsDue, ForestDue, ForestFits, AreLogged}
+use Rattle.tree_images.specs.Notes.{HasNotes, may_stay}
 use Rattle.tree_images.specs.Sound.{IsNumber}
 use Rattle.tree_images.specs.TreeSteps.{IsNewTree}
 use Rattle.tree_images.proofs.ForestWrites.{new_fits, new_logged}
+use Rattle.tree_images.proofs.NotedRoots.{notes_one_node}
 use Rattle.in_tree.specs.Forest.{Forest, cells_of, cells_seen, is_there}
 use Rattle.in_tree.specs.Growing.{trees_at, none_due}
 use Rattle.in_tree.specs.Limits.{one_made}
@@ -153,6 +156,7 @@ ready_fits es base fanout last later changes rooms old mid new fitted made makes
   home = grown.grown.forest.home;
   fits = λ d tree there. fits_by d tree (made d tree there);
   writes = λ d tree there. writes_by d tree (made d tree there);
+  notes = λ d tree there. notes_by d tree (made d tree there);
 }
   where
     sum : later ≡ last + numbers_of changes rooms
@@ -172,3 +176,9 @@ ready_fits es base fanout last later changes rooms old mid new fitted made makes
     writes_by d tree (inl there) = grown.grown.forest.writes d tree there
     writes_by d tree (inr new_tree) =
         let at = made_at grown.grown.forest.home last later changes rooms d tree grown.roots sum bound new_tree in new_logged es base d at.number tree at.is_new
+
+    notes_by : (d : ℕ) (tree : DbTree) → (get nat_cmp mid d ≡ Some tree) ⊎ IsMadeBy last changes rooms d tree → HasNotes es base (due_of changes rooms d) tree.levels
+    notes_by d tree (inl there) = grown.grown.forest.notes d tree there
+    notes_by d tree (inr new_tree) = λ start begun.
+        let at = made_at grown.grown.forest.home last later changes rooms d tree grown.roots sum bound new_tree in
+        notes_one_node (may_stay es base start (map node_of (due_of changes rooms d)) tree.levels) tree.levels at.number at.is_new.root

@@ -34,3 +34,5 @@ pub mod LoadedLaws
 pub mod NotedTrees
 -- What a checkpoint logs of the trees.
 pub mod Checkpoints
+-- The marks that are left where no noted node is dirty.
+pub mod MarksLeft

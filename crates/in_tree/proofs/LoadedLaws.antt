@@ -2,6 +2,7 @@
 use Rattle.std.proofs.Common.{◌≡◌, ◌≤◌, ◌<◌, ◌==◌, ◌+◌, ◌^◌, ◌⊎◌, ℕ, zero, suc, Bool, true, false, cond, List, [], Option, None, Some, IsSome, is_some, length, refl, ap, sym, subst, ◌∙◌, inl, inr, is_eq, arith, Result, Ok, Err, OnOk}
 use Rattle.std.specs.Prelude.{IfSome, option_map}
 use Rattle.std.specs.Option.{option_and_then}
+use Rattle.std.specs.List.{AllByRecursion}
 use Rattle.std.specs.Ordering.{nat_cmp}
 use Rattle.std.specs.BTreeMap.{get}
 use Rattle.std.proofs.lemmas.Bool.{true≢false, cases_eq}
@@ -24,13 +25,14 @@ use Rattle.db_tree.specs.Loading.{loaded_by, loaded_in, IsLoaded}
 use Rattle.db_tree.specs.NodeSteps.{IsOneNode}
 use Rattle.db_tree.specs.Stored.{stored_under}
 use Rattle.tree_images.specs.Fits.{FitsTree}
-use Rattle.tree_images.specs.Forest.{ForestFits, AreLogged, logged_at, latest_at}
+use Rattle.tree_images.specs.Forest.{ForestFits, AreLogged, IsLoggedWrite, latest_at}
 use Rattle.tree_images.specs.PlaceLaws.{home_with}
 use Rattle.tree_images.specs.RedoSteps.{HasRedone}
 use Rattle.tree_images.specs.TreeSteps.{IsNewTree}
 use Rattle.tree_images.proofs.ForestSteps.{forest_here}
 use Rattle.tree_images.proofs.ForestWrites.{new_fits, new_logged}
 use Rattle.tree_images.proofs.Grown.{homes_agree, root_home}
+use Rattle.tree_images.proofs.LateMarks.{none_begun}
 use Rattle.tree_images.proofs.ReadForest.{forests_fit}
 use Rattle.tree_images.proofs.RedoneTrees.{redone_fit}
 use Rattle.in_tree.specs.Forest.{Forest, Replaces, IsStepIn, IsSameForest, cells_of, cells_at, is_there}
@@ -170,26 +172,28 @@ node_put db number level low as_read old mid new ensured step = record {
 -- ---- what trees fit
 
 pub make_fits : (es : List Placed) (base last number db : ℕ) (old new : Forest) (tree : DbTree) → number ≡ suc last → ((d : ℕ) → (d ≡ db → ⊥) → get nat_cmp new d ≡ get nat_cmp old d) → IsNewTree number tree → get nat_cmp new db ≡ Some tree →
-    ForestFits es base last (get nat_cmp old) → ForestFits es base number (get nat_cmp new)
-make_fits es base last number db old new tree is others is_new here f =
+    AllByRecursion (λ p. p.0 < base) es → ForestFits es base last (get nat_cmp old) → ForestFits es base number (get nat_cmp new)
+make_fits es base last number db old new tree is others is_new here below f =
     (forest_here es base last number db (get nat_cmp old) (get nat_cmp new) (λ d. []) (λ d. []) (home_with f.home number db []) f (homes_agree f.home last number db [] (omega (arith, is))) (omega (arith, is)) others (λ b away. refl)
     (λ t there. subst (λ (u : DbTree). FitsTree es base (latest_at base es db) (home_with f.home number db []) number db u.levels u.cells) (same_Some tree t (sym here ∙ there)) (new_fits es base (home_with f.home number db []) number db number tree is_new (root_home f.home number db)))
-    (λ t there. subst (λ (u : DbTree). AreLogged es base db u.cells) (same_Some tree t (sym here ∙ there)) (new_logged es base db number tree is_new))).0
+    (λ t there. subst (λ (u : DbTree). AreLogged es base db u.cells) (same_Some tree t (sym here ∙ there)) (new_logged es base db number tree is_new))
+    (λ t there start begun. absurd (none_begun es base start below begun))).0
 
 pub made_up_to : (es : List Placed) (base last number later db : ℕ) (old new : Forest) (before inside : Trees) → inside ≡ before → last < 0x7fffffffffffffff → number ≡ suc last → later ≡ number → ((d : ℕ) → (d ≡ db → ⊥) → get nat_cmp new d ≡ get nat_cmp inside.forest d) →
-    (tree : DbTree) × IsNewTree number tree × (get nat_cmp new db ≡ Some tree) → (after : Forest) → after ≡ new → last ≡ inside.last_node → FitsUpTo before.last_node before.forest es base → ForestFits es base later (get nat_cmp after)
-made_up_to es base last number later db old new before inside same less is later_is others tree after after_is last_is fits =
+    (tree : DbTree) × IsNewTree number tree × (get nat_cmp new db ≡ Some tree) → (after : Forest) → after ≡ new → last ≡ inside.last_node → FitsUpTo before.last_node before.forest es base → AllByRecursion (λ p. p.0 < base) es → ForestFits es base later (get nat_cmp after)
+made_up_to es base last number later db old new before inside same less is later_is others tree after after_is last_is fits below =
     subst (λ (f : Forest). ForestFits es base later (get nat_cmp f)) (sym after_is)
     (subst (λ (n : ℕ). ForestFits es base n (get nat_cmp new)) (sym later_is)
-    (make_fits es base last number db inside.forest new tree.0 is others tree.1 tree.2
+    (make_fits es base last number db inside.forest new tree.0 is others tree.1 tree.2 below
     (subst (λ (n : ℕ). ForestFits es base n (get nat_cmp inside.forest)) (sym last_is)
-    (subst (λ (t : Trees). FitsUpTo t.last_node t.forest es base) (sym same) fits (omega (arith, less, last_is))))))
+    (subst (λ (t : Trees). FitsUpTo t.last_node t.forest es base) (sym same) fits (omega (arith, less, last_is)) below))))
 
 pub dropped_fits : (es : List Placed) (base last db : ℕ) (old new : Forest) → ((d : ℕ) → get nat_cmp new d ≡ cond (d == db) None (get nat_cmp old d)) → ForestFits es base last (get nat_cmp old) → ForestFits es base last (get nat_cmp new)
 dropped_fits es base last db old new gone f = record {
   home = f.home;
   fits = λ d tree is. f.fits d tree (by_test d tree (d == db) (sym (gone d) ∙ is));
   writes = λ d tree is. f.writes d tree (by_test d tree (d == db) (sym (gone d) ∙ is));
+  notes = λ d tree is. f.notes d tree (by_test d tree (d == db) (sym (gone d) ∙ is));
 }
   where
     by_test : (d : ℕ) (tree : DbTree) (t : Bool) → cond t None (get nat_cmp old d) ≡ Some tree → get nat_cmp old d ≡ Some tree
@@ -207,15 +211,16 @@ logged_data es d x at None is = tt
 logged_data es d x at (Some v) is = ap (option_and_then (data_in d x)) is.1 ∙ data_is d x is.0 ∙ is.2
 
 pub redo_fits : (es : List Placed) (base last later db fanout : ℕ) (number : Option ℕ) (x : Name) (value : Option (List ℕ)) (first at made : ℕ) (old new : Forest) → IfSome number (λ n. n ≡ suc last) → last + made ≤ later → later < 2 ^ 64 →
-    first < base → IsLoggedAt es db x at value → IsStepIn db (HasRedone fanout number x value first at made) old new → IsQuiet new → ForestFits es base last (get nat_cmp old) → ForestFits es base later (get nat_cmp new)
-redo_fits es base last later db fanout number x value first at made old new is few within less logged step quiet f =
+    first < base → IsLoggedAt es db x at value → IsStepIn db (HasRedone fanout number x value first at made) old new → IsQuiet new → AllByRecursion (λ p. p.0 < base) es → ForestFits es base last (get nat_cmp old) → ForestFits es base later (get nat_cmp new)
+redo_fits es base last later db fanout number x value first at made old new is few within less logged step quiet below f =
     let after = redone_fit es base (latest_at base es db) f.home last later db fanout number x value first at made step.tree step.next is few within less (logged_data es db x at value logged) step.step (f.fits db step.tree step.was) in
     (forest_here es base last later db (get nat_cmp old) (get nat_cmp new) (λ d. []) (λ d. []) after.0 f after.1 (omega (arith, few)) (others_away old new db (Some step.next) step.has) (λ b away. refl)
     (λ t there. subst (λ (u : DbTree). FitsTree es base (latest_at base es db) after.0 later db u.levels u.cells) (same_Some step.next t (sym (replaced old new db (Some step.next) step.has) ∙ there)) after.2)
-    (λ t there y cell at_y. subst (λ w. IfSome w (λ w. w.value.at ≤ logged_at base es db y w.value.txn.0)) (sym ((quiet db).quiet y cell (ap (value_at y) (ap cells_of there) ∙ at_y))) tt)).0
+    (λ t there y cell at_y. subst (λ w. IfSome w (λ w. IsLoggedWrite es base db y w.value)) (sym ((quiet db).quiet y cell (ap (value_at y) (ap cells_of there) ∙ at_y))) tt)
+    (λ t there start begun. absurd (none_begun es base start below begun))).0
 
 pub read_fits : LoadedTreesFit
-read_fits trees es c base formed read below numbers =
+read_fits trees es c base formed read below numbers earlier =
     forests_fit es c (nodes_of trees.forest) (stored_of trees.forest) trees.last_node base (get nat_cmp trees.forest) read numbers below
     (λ d tree is. record {
       parts = formed.parts d tree is;

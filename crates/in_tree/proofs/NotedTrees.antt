@@ -3,11 +3,12 @@ use Rattle.std.proofs.Common.{◌≡◌, ◌≤◌, ◌⊎◌, inl, inr, ◌==�
 use Rattle.std.specs.Ordering.{nat_cmp}
 use Rattle.std.specs.BTreeMap.{get}
 use Rattle.std.proofs.lemmas.Option.{same_Some}
+use Rattle.std.proofs.Math.Nat.{le_refl}
 use Rattle.je_disk.specs.Moments.{History}
 use Rattle.je_order.specs.declared.name.Name.{Name}
 use Rattle.log_entry.specs.declared.entry.Entry.{Entry}
 use Rattle.log_buffer.specs.declared.buffer.LogBuffer.{LogBuffer}
-use Rattle.log_trees.specs.Placed.{Placed}
+use Rattle.log_trees.specs.Placed.{Placed, placed}
 use Rattle.log_trees.specs.Sound.{Home}
 use Rattle.record_map.specs.Cells.{value_at}
 use Rattle.record_tree.specs.Occupied.{AreSame}
@@ -27,18 +28,26 @@ use Rattle.db_tree.specs.Splits.{count_waiting}
 use Rattle.db_tree.proofs.NotingLaws.{noted_alike, noted_nodes, noted_tree}
 use Rattle.tree_images.specs.Fits.{FitsTree}
 use Rattle.tree_images.specs.Forest.{AreLogged, ForestFits, latest_at}
+use Rattle.tree_images.specs.Notes.{may_stay}
+use Rattle.tree_images.proofs.ForestSteps.{fits_stay, writes_stay}
 use Rattle.tree_images.proofs.NodeSteps.{same_imaged}
+use Rattle.tree_images.proofs.NotedRoots.{notes_begun}
 use Rattle.dirty_nodes.specs.Marks.{is_dirty_at, is_noted_at, is_one, is_to_note_at}
 use Rattle.dirty_nodes.specs.Forest.{AreNotedTrees, IsNotedOne, IsNotedTree, at_place, is_dirty_in, is_noted_in, is_to_note_in}
-use Rattle.in_tree.specs.Checkpoints.{IsAloneIn, IsClean}
-use Rattle.in_tree.specs.Fitting.{fitting_none}
+use Rattle.in_tree.specs.Checkpoints.{HasGot, IsAloneIn, IsClean}
+use Rattle.in_tree.specs.Carrying.{LogFact, carries_then}
+use Rattle.in_tree.specs.Fitting.{fitting_then, fitting_unchanged}
+use Rattle.in_tree.specs.Limits.{GrewFitting}
 use Rattle.in_tree.specs.Forest.{Forest, HasSameCells, HasSameTrees, Replaces, cells_of, cells_seen, is_there}
 use Rattle.in_tree.specs.declared.logged_trees.LogTrees.{LogTrees}
-use Rattle.in_tree.specs.Growing.{TreesGrew, trees_at, trees_grew_then}
+use Rattle.in_tree.specs.declared.trees.Trees.{Trees}
+use Rattle.in_tree.specs.Growing.{TreesGrew, trees_at}
 use Rattle.in_tree.specs.Observed.{GrewTrees}
 use Rattle.in_tree.specs.Shapes.{shape_of, shapes_of}
 use Rattle.in_tree.specs.Waits.{waits_in}
 use Rattle.dirty_nodes.proofs.Forests.{nat_same}
+use Rattle.in_tree.proofs.Appending.{is_appended}
+use Rattle.in_tree.proofs.DueLogging.{some_entry}
 use Rattle.in_tree.proofs.Forests.{others, replaced}
 use Rattle.in_tree.proofs.Waits.{alike_levels, shapes_at, waits_same}
 
@@ -111,51 +120,66 @@ module _ (old new : Forest) (are : AreNotedTrees old new) where
       by_place (Some t) None h = absurd h
       by_place (Some t) (Some u) h = noted_one t.levels u.levels h.noted p.level p.low p.node
 
-  -- trees that fit a log fit it
-  noted_fits : (es : List Placed) (base last : ℕ) → ForestFits es base last (trees_at old) → ForestFits es base last (trees_at new)
-  noted_fits es base last f = record {
+  -- what the nodes of a tree were noted from, and its cells
+  noted_tree_at : (d : ℕ) (tree : DbTree) → get nat_cmp new d ≡ Some tree → (t : DbTree) × (get nat_cmp old d ≡ Some t) × IsNotedTree t tree
+  noted_tree_at d tree there = by_old (get nat_cmp old d) refl (are d)
+    where
+      by_old : (o : Option DbTree) → get nat_cmp old d ≡ o → IsNotedOne (get nat_cmp old d) (get nat_cmp new d) → (t : DbTree) × (get nat_cmp old d ≡ Some t) × IsNotedTree t tree
+      by_old None is h = absurd (subst (λ (o : Option DbTree). IsNotedOne o (Some tree)) is (subst (λ (n : Option DbTree). IsNotedOne (get nat_cmp old d) n) there h))
+      by_old (Some t) is h = (t, is, subst (λ (o : Option DbTree). IsNotedOne o (Some tree)) is (subst (λ (n : Option DbTree). IsNotedOne (get nat_cmp old d) n) there h))
+
+  -- trees that fit a log fit it with entries more, also with the beginning of a checkpoint
+  noted_fits : (es more : List Placed) (base last : ℕ) → ForestFits es base last (trees_at old) → ForestFits (es ++ more) base last (trees_at new)
+  noted_fits es more base last f = record {
     home = f.home;
-    fits = λ d tree there. fits_at d tree there (get nat_cmp old d) refl (are d);
-    writes = λ d tree there. writes_at d tree there (get nat_cmp old d) refl (are d);
+    fits = λ d tree there. fits_stay es more base f.home f.home last last d tree [] (λ number within. refl) (le_refl last) (fits_at d tree (noted_tree_at d tree there));
+    writes = λ d tree there. writes_stay es more base d tree.cells (writes_at d tree (noted_tree_at d tree there));
+    notes = λ d tree there start begun. (let n = noted_tree_at d tree there in notes_begun (may_stay (es ++ more) base start [] tree.levels) n.0.levels tree.levels n.2.parts n.2.noted);
   }
     where
-      fits_at : (d : ℕ) (tree : DbTree) → get nat_cmp new d ≡ Some tree → (o : Option DbTree) → get nat_cmp old d ≡ o → IsNotedOne (get nat_cmp old d) (get nat_cmp new d) →
-          FitsTree es base (latest_at base es d) f.home last d tree.levels tree.cells
-      fits_at d tree there None is h = absurd (subst (λ (o : Option DbTree). IsNotedOne o (Some tree)) is (subst (λ (n : Option DbTree). IsNotedOne (get nat_cmp old d) n) there h))
-      fits_at d tree there (Some t) is h =
-          let n : IsNotedTree t tree = subst (λ (o : Option DbTree). IsNotedOne o (Some tree)) is (subst (λ (n : Option DbTree). IsNotedOne (get nat_cmp old d) n) there h) in
-          let fits = f.fits d t is in
-          subst (λ cells. FitsTree es base (latest_at base es d) f.home last d tree.levels cells) (sym n.cells)
+      fits_at : (d : ℕ) (tree : DbTree) → (t : DbTree) × (get nat_cmp old d ≡ Some t) × IsNotedTree t tree → FitsTree es base (latest_at base es d) f.home last d tree.levels tree.cells
+      fits_at d tree n =
+          let fits = f.fits d n.0 n.1 in
+          subst (λ cells. FitsTree es base (latest_at base es d) f.home last d tree.levels cells) (sym n.2.cells)
           (record {
-            tree = noted_tree t.levels tree.levels n.noted es base (latest_at base es d) (held_by t.cells) fits.tree;
-            imaged = same_imaged es f.home last d [] t.levels tree.levels (noted_nodes t.levels tree.levels n.noted) fits.imaged;
+            tree = noted_tree n.0.levels tree.levels n.2.noted es base (latest_at base es d) (held_by n.0.cells) fits.tree;
+            imaged = same_imaged es f.home last d [] n.0.levels tree.levels (noted_nodes n.0.levels tree.levels n.2.noted) fits.imaged;
             recorded = fits.recorded;
           })
 
-      writes_at : (d : ℕ) (tree : DbTree) → get nat_cmp new d ≡ Some tree → (o : Option DbTree) → get nat_cmp old d ≡ o → IsNotedOne (get nat_cmp old d) (get nat_cmp new d) → AreLogged es base d tree.cells
-      writes_at d tree there None is h = absurd (subst (λ (o : Option DbTree). IsNotedOne o (Some tree)) is (subst (λ (n : Option DbTree). IsNotedOne (get nat_cmp old d) n) there h))
-      writes_at d tree there (Some t) is h =
-          let n : IsNotedTree t tree = subst (λ (o : Option DbTree). IsNotedOne o (Some tree)) is (subst (λ (n : Option DbTree). IsNotedOne (get nat_cmp old d) n) there h) in
-          subst (AreLogged es base d) (sym n.cells) (f.writes d t is)
-
-  module _ {D : Type 0} (observable : Bool) (history : D → History) (sync_out read_out : D → Option ℕ) (read_of : D → ℕ) (faults : D → ℕ) where
-    -- the log got entries, and nodes of the trees were noted behind it
-    pub noted_grew : (x y : LogBuffer D) (last later : ℕ) (before : ℕ → Option DbTree) (entries : List Entry) →
-        TreesGrew observable history sync_out read_out read_of faults x y last later before (trees_at old) entries → TreesGrew observable history sync_out read_out read_of faults x y last later before (trees_at new) (entries ++ [])
-    noted_grew x y last later before entries grew =
-        trees_grew_then observable history sync_out read_out read_of faults x y y last later later before (trees_at old) (trees_at new) entries [] grew
-        (record { fitting = fitting_none observable history sync_out read_out read_of faults y; fits = λ log base has begun fits. noted_fits _ base later fits; still = λ none es base fits. noted_fits es base later fits })
+      writes_at : (d : ℕ) (tree : DbTree) → (t : DbTree) × (get nat_cmp old d ≡ Some t) × IsNotedTree t tree → AreLogged es base d tree.cells
+      writes_at d tree n = subst (AreLogged es base d) (sym n.2.cells) (f.writes d n.0 n.1)
 
 -- ---- over the log
 
 module _ {D : Type 0} (observable : Bool) (history : D → History) (sync_out read_out : D → Option ℕ) (read_of : D → ℕ) (faults : D → ℕ) where
   -- the log got an entry, and nodes of the trees were noted behind it
-  pub noted_behind : (x y z : LogTrees D) (entry : Entry) → AreNotedTrees y.trees.forest z.trees.forest → z.trees.last_node ≡ y.trees.last_node → z.log ≡ y.log →
-      GrewTrees observable history sync_out read_out read_of faults x y (entry ∷ []) → GrewTrees observable history sync_out read_out read_of faults x z (entry ∷ [])
-  noted_behind x y z entry are last log grew =
+  pub noted_behind : (x y z : LogTrees D) (entry : Entry) (at : ℕ) → HasGot observable history sync_out read_out read_of faults x.log y.log entry at → y.trees ≡ x.trees → AreNotedTrees y.trees.forest z.trees.forest →
+      z.trees.last_node ≡ y.trees.last_node → z.log ≡ y.log → GrewTrees observable history sync_out read_out read_of faults x z (entry ∷ [])
+  noted_behind x y z entry at got trees are last log =
       subst (λ (l : LogBuffer D). TreesGrew observable history sync_out read_out read_of faults x.log l x.trees.last_node z.trees.last_node (trees_at x.trees.forest) (trees_at z.trees.forest) (entry ∷ [])) (sym log)
-      (subst (λ (n : ℕ). TreesGrew observable history sync_out read_out read_of faults x.log y.log x.trees.last_node n (trees_at x.trees.forest) (trees_at z.trees.forest) (entry ∷ [])) (sym last)
-      (noted_grew y.trees.forest z.trees.forest are observable history sync_out read_out read_of faults x.log y.log x.trees.last_node y.trees.last_node (trees_at x.trees.forest) (entry ∷ []) grew))
+      (subst (λ (n : ℕ). TreesGrew observable history sync_out read_out read_of faults x.log y.log x.trees.last_node n (trees_at x.trees.forest) (trees_at z.trees.forest) (entry ∷ [])) (sym (last ∙ ap (λ (t : Trees). t.last_node) trees)) here)
+    where
+      kept : GrewFitting observable history sync_out read_out read_of faults x.log got.mid []
+      kept = fitting_unchanged observable history sync_out read_out read_of faults x.log got.mid got.same
+
+      noted : AreNotedTrees x.trees.forest z.trees.forest
+      noted = subst (λ (t : Trees). AreNotedTrees t.forest z.trees.forest) trees are
+
+      Before : LogFact
+      Before es base = ForestFits es base x.trees.last_node (trees_at x.trees.forest)
+
+      After : LogFact
+      After es base = ForestFits es base x.trees.last_node (trees_at z.trees.forest)
+
+      here : TreesGrew observable history sync_out read_out read_of faults x.log y.log x.trees.last_node x.trees.last_node (trees_at x.trees.forest) (trees_at z.trees.forest) (entry ∷ [])
+      here = record {
+        fitting = fitting_then observable history sync_out read_out read_of faults x.log got.mid y.log [] (entry ∷ []) kept got.grew;
+        fits = carries_then observable history sync_out read_out read_of faults x.log got.mid [] (entry ∷ []) Before Before After kept (λ l base has begun f. f)
+            (λ l base has begun f. (let a = is_appended observable history sync_out read_out read_of faults got.mid y.log entry l base at got.grew got.at_is has begun in
+            subst (λ (es : List Placed). After es base) (sym a.is) (noted_fits x.trees.forest z.trees.forest noted (placed l) ((at, entry) ∷ []) base x.trees.last_node f)));
+        still = λ none. absurd (some_entry entry none);
+      }
 
 -- ---- a node that was logged
 

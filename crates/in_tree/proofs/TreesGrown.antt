@@ -22,6 +22,7 @@ use Rattle.log_buffer.specs.Flip.{pos_lsn, placed_at}
 use Rattle.record_map.specs.declared.cell.Cell.{Cell}
 use Rattle.record_map.specs.declared.write.Write.{Write}
 use Rattle.record_map.specs.Cells.{value_at}
+use Rattle.tree_nodes.specs.Nodes.{NodeRow}
 use Rattle.record_tree.specs.declared.tree_change.TreeChange.{TreeChange}
 use Rattle.record_tree.specs.declared.tree_name.TreeName.{TreeName}
 use Rattle.record_tree.specs.Logged.{LogsChanges, most_entries}
@@ -35,9 +36,11 @@ use Rattle.db_tree.specs.declared.tree.DbTree.{DbTree}
 use Rattle.db_tree.specs.Seen.{occupied, seen}
 use Rattle.db_tree.proofs.Seen.{seen_at}
 use Rattle.tree_images.specs.Forest.{latest_at, latest_of, logged_at, AreLogged, FitsDue, ForestDue, ForestFits}
+use Rattle.tree_images.specs.Notes.{HasNotes, has_begun, has_changed, is_late}
 use Rattle.tree_images.specs.TreeSteps.{HasCommitted, HasGivenUp}
 use Rattle.tree_images.proofs.ForestSteps.{forest_here, forest_same, forest_stays}
-use Rattle.tree_images.proofs.ForestWrites.{commit_is_latest, committed_fits, committed_logged, given_up_fits, given_up_logged}
+use Rattle.tree_images.proofs.ForestWrites.{commit_is_latest, committed_fits, committed_logged, committed_notes, given_up_fits, given_up_logged}
+use Rattle.tree_images.proofs.LateMarks.{begun_back, begun_before, late_committed}
 use Rattle.in_tree.specs.declared.logged_trees.LogTrees.{LogTrees}
 use Rattle.in_tree.specs.Carrying.{carries_then}
 use Rattle.in_tree.specs.Fitting.{fitting_none, fitting_then, fitting_unchanged}
@@ -109,10 +112,11 @@ free_stays t n old new (e ∷ names) has free = (
 
 -- names are committed where the log has their changes committed
 pub commits_fit : (es : List Placed) (base last at : ℕ) (t : TxnId) (names : List TreeName) (old new : Forest) → MakesSteps (CommitsName at) names old new → AreFree t old names →
-    ((d : ℕ) (x : Name) → logged_at base es d x t.0 ≤ latest_at base es d x) → ForestDue es base last (trees_at old) none_due → ForestDue es base last (trees_at new) none_due
-commits_fit es base last at t [] old new steps free le f = forest_same es base last (trees_at old) (trees_at new) none_due steps f
-commits_fit es base last at t (n ∷ names) old new steps free le f =
-    commits_fit es base last at t names steps.0 new steps.2 (free_stays t n old steps.0 names steps.1.seen free.1) le (by_step steps.1.step)
+    ((d : ℕ) (x : Name) → logged_at base es d x t.0 ≤ latest_at base es d x) → ((start : ℕ) → has_begun es base start ≡ true → (lsn : ℕ) → has_changed es base t.0 lsn ≡ true → is_late es base start lsn ≡ true) →
+    ForestDue es base last (trees_at old) none_due → ForestDue es base last (trees_at new) none_due
+commits_fit es base last at t [] old new steps free le late f = forest_same es base last (trees_at old) (trees_at new) none_due steps f
+commits_fit es base last at t (n ∷ names) old new steps free le late f =
+    commits_fit es base last at t names steps.0 new steps.2 (free_stays t n old steps.0 names steps.1.seen free.1) le late (by_step steps.1.step)
   where
     by_step : MayStepIn n.db (HasCommitted n.name at) old steps.0 → ForestDue es base last (trees_at steps.0) none_due
     by_step (inl same) = forest_same es base last (trees_at old) (trees_at steps.0) none_due same f
@@ -123,7 +127,9 @@ commits_fit es base last at t (n ∷ names) old new steps free le f =
         (committed_fits es base f.home last n.db n.name at s.tree s.next s.step
         (commit_is_latest es es base n.db n.name t.0 s.tree.cells (f.writes n.db s.tree s.was) own (le n.db n.name)) (f.fits n.db s.tree s.was)))
         (λ u there. subst (λ (v : DbTree). AreLogged es base n.db v.cells) (is_next old steps.0 n.db s.next u s.has there)
-        (committed_logged es base n.db n.name at s.tree s.next s.step (f.writes n.db s.tree s.was)))).0
+        (committed_logged es base n.db n.name at s.tree s.next s.step (f.writes n.db s.tree s.was)))
+        (λ u there. subst (λ (v : DbTree). HasNotes es base [] v.levels) (is_next old steps.0 n.db s.next u s.has there)
+        (committed_notes es base n.db n.name t.0 at s.tree s.next s.step (f.writes n.db s.tree s.was) own late (f.notes n.db s.tree s.was)))).0
       where
         seen_is : value_at n.name (cells_seen old n.db) ≡ seen (value_at n.name s.tree.cells)
         seen_is = ap (λ (o : Option DbTree). value_at n.name (occupied (cells_of o))) s.was ∙ seen_at s.tree.cells n.name s.step.rising
@@ -144,7 +150,9 @@ aborts_fit es base last (n ∷ names) old new steps f = aborts_fit es base last 
         (λ u there. subst (λ (v : DbTree). FitsDue es base f.home last n.db v []) (is_next old steps.0 n.db s.next u s.has there)
         (given_up_fits es base f.home last n.db n.name s.tree s.next s.step (f.fits n.db s.tree s.was)))
         (λ u there. subst (λ (v : DbTree). AreLogged es base n.db v.cells) (is_next old steps.0 n.db s.next u s.has there)
-        (given_up_logged es base n.db n.name s.tree s.next s.step (f.writes n.db s.tree s.was)))).0
+        (given_up_logged es base n.db n.name s.tree s.next s.step (f.writes n.db s.tree s.was)))
+        (λ u there. subst (λ (v : DbTree). HasNotes es base [] v.levels) (is_next old steps.0 n.db s.next u s.has there)
+        (subst (λ (rows : List NodeRow). HasNotes es base [] rows) (sym s.step.levels) (f.notes n.db s.tree s.was)))).0
 
 -- a tree goes
 pub drop_fits : (es : List Placed) (base last db : ℕ) (old new : Forest) → ((d : ℕ) → get nat_cmp new d ≡ cond (d == db) None (get nat_cmp old d)) → ForestDue es base last (trees_at old) none_due →
@@ -153,6 +161,7 @@ drop_fits es base last db old new gone f = record {
   home = f.home;
   fits = λ d tree there. f.fits d tree (was d tree there);
   writes = λ d tree there. f.writes d tree (was d tree there);
+  notes = λ d tree there. f.notes d tree (was d tree there);
 }
   where
     was : (d : ℕ) (tree : DbTree) → get nat_cmp new d ≡ Some tree → get nat_cmp old d ≡ Some tree
@@ -204,7 +213,8 @@ module _ {D : Type 0} (observable : Bool) (history : D → History) (sync_out re
     fits = λ log base has begun f. (let a = is_appended observable history sync_out read_out read_of faults old new (Commit t) log base at grew at_is has begun in
         subst (λ (es : List Placed). ForestFits es base last (trees_at after)) (sym a.is)
         (commits_fit (placed log ++ (at, Commit t) ∷ []) base last at t names before after steps free (λ d x. commit_latest (placed log) base at t d x a.begun)
-        (forest_stays (placed log) ((at, Commit t) ∷ []) base last last (trees_at before) (trees_at before) none_due (le_refl last) (λ d. refl) f)));
+        (λ start started lsn changed. late_committed (placed log) base start at lsn t (begun_before (placed log) base start at a.behind (begun_back (placed log) ((at, Commit t) ∷ []) base start (refl, tt) started)) changed)
+        (forest_stays (placed log) ((at, Commit t) ∷ []) base last last (trees_at before) (trees_at before) none_due (le_refl last) (λ d. refl) (refl, tt) f)));
     still = λ none. absurd (some_entry (Commit t) none);
   }
 

@@ -2,6 +2,7 @@
 use Rattle.std.specs.Prelude.{◌≡◌, ◌≤◌, ◌<◌, ◌++◌, ℕ, Bool, false, List, [], ◌∷◌, Option, Some, IsSome, map}
 use Rattle.std.specs.Ordering.{nat_cmp}
 use Rattle.std.specs.BTreeMap.{get}
+use Rattle.je_disk.specs.Moments.{History}
 use Rattle.je_lsn.specs.Naming.{last_file}
 use Rattle.je_order.specs.declared.name.Name.{Name}
 use Rattle.log_entry.specs.Body.{IsEntry}
@@ -10,8 +11,8 @@ use Rattle.log_entry.specs.declared.entry.Entry.{Entry}
 use Rattle.log_entry.specs.declared.entry.Entry.TheVariants.{CkptStart, CkptEnd}
 use Rattle.log_entry.specs.declared.root.Root.{Root}
 use Rattle.log_buffer.specs.declared.buffer.LogBuffer.{LogBuffer}
-use Rattle.log_buffer.specs.Buffer.{end_of}
-use Rattle.log_buffer.specs.Flip.{pos_lsn}
+use Rattle.log_buffer.specs.Buffer.{end_of, file_max_of, IsUnchanged}
+use Rattle.log_buffer.specs.Flip.{placed_at, pos_lsn}
 use Rattle.record_map.specs.Cells.{value_at, IsRising}
 use Rattle.record_tree.specs.declared.checkpoint_end.CheckpointEnd.{CheckpointEnd}
 use Rattle.record_tree.specs.declared.node_place.NodePlace.{NodePlace}
@@ -28,7 +29,7 @@ use Rattle.dirty_nodes.specs.Forest.{IsFrom, IsMarkOrIn}
 use Rattle.in_tree.specs.declared.trees.Trees.{Trees}
 use Rattle.in_tree.specs.Forest.{Forest}
 use Rattle.in_tree.specs.Growing.{trees_at}
-use Rattle.in_tree.specs.Limits.{commit_sizes, end_behind}
+use Rattle.in_tree.specs.Limits.{GrewFitting, commit_sizes, end_behind}
 
 -- an entry of a checkpoint, but for images of nodes
 abbrev pub IsCheckpointEntry : Entry → Type 0
@@ -77,3 +78,11 @@ pub record IsEndEntry {D : Type 0} (log : LogBuffer D) (trees : Trees) (end : Ch
   pub some : IsMarkOrIn bound trees.forest redo
   pub roots_are : AreRootsOf (trees_at trees.forest) roots
   pub below : bound < pos_lsn (end_of log)
+
+module _ {D : Type 0} (observable : Bool) (history : D → History) (sync_out read_out : D → Option ℕ) (read_of : D → ℕ) (faults : D → ℕ) where
+  -- the log got an entry at an LSN, behind what it had
+  pub record HasGot (old new : LogBuffer D) (entry : Entry) (at : ℕ) : Type 0 where
+    pub mid : LogBuffer D
+    pub same : IsUnchanged old mid
+    pub grew : GrewFitting observable history sync_out read_out read_of faults mid new (entry ∷ [])
+    pub at_is : at ≡ pos_lsn (placed_at (file_max_of mid) (end_of mid) (size_of entry))

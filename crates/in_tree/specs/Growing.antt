@@ -15,6 +15,7 @@ use Rattle.log_trees.specs.Sound.{Home}
 use Rattle.db_tree.specs.declared.node_image.NodeImage.{NodeImage}
 use Rattle.db_tree.specs.declared.tree.DbTree.{DbTree}
 use Rattle.tree_images.specs.Forest.{FitsDue, ForestDue, ForestFits}
+use Rattle.tree_images.specs.Notes.{HasNotes}
 use Rattle.in_tree.specs.Forest.{Forest}
 use Rattle.in_tree.specs.Placing.{due_one}
 use Rattle.in_tree.specs.Limits.{GrewFitting}
@@ -33,8 +34,9 @@ none_due d = []
 abbrev pub IsForestDue : ℕ → Forest → (ℕ → List NodeImage) → LogFact
 IsForestDue last forest due es base = ForestDue es base last (trees_at forest) due
 
+-- a tree fits a log but for images that are due, and what a checkpoint noted of it is noted still
 abbrev pub IsFitDue : (ℕ → Home) → ℕ → ℕ → DbTree → List NodeImage → LogFact
-IsFitDue home last d tree images es base = FitsDue es base home last d tree images
+IsFitDue home last d tree images es base = FitsDue es base home last d tree images × HasNotes es base images tree.levels
 
 module _ {D : Type 0} (observable : Bool) (history : D → History) (sync_out read_out : D → Option ℕ) (read_of : D → ℕ) (faults : D → ℕ) where
   -- the log got images that were due of one tree: others are left

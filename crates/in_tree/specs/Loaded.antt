@@ -1,5 +1,6 @@
 -- Trees while a log is read again.
 use Rattle.std.specs.Prelude.{◌≡◌, ◌≤◌, ◌<◌, ℕ, List, Option, None, Some}
+use Rattle.std.specs.List.{AllByRecursion}
 use Rattle.std.specs.Ordering.{nat_cmp}
 use Rattle.std.specs.BTreeMap.{get}
 use Rattle.je_order.specs.declared.name.Name.{Name}
@@ -41,6 +42,6 @@ nodes_of forest d level low = node_in (get nat_cmp forest d) level low
 
 -- ---- what trees fit
 
--- the trees fit a log, with node numbers up to a last one, unless these have ended
+-- the trees fit a log of earlier lives of the environment, with node numbers up to a last one, unless these have ended
 abbrev pub FitsUpTo : ℕ → Forest → List Placed → ℕ → Type 0
-FitsUpTo last forest es base = last < 0x7fffffffffffffff → ForestFits es base last (λ d. get nat_cmp forest d)
+FitsUpTo last forest es base = last < 0x7fffffffffffffff → AllByRecursion (λ p. p.0 < base) es → ForestFits es base last (λ d. get nat_cmp forest d)

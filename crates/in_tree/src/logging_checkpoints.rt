@@ -12,7 +12,7 @@ ghost use Rattle.record_tree.specs.declared.tree_err.TreeErr.{TreeErr as Reason}
 ghost use Rattle.db_tree.specs.NodeImages.{IsLoggable};
 ghost use Rattle.dirty_nodes.specs.Forest.{is_dirty_in, is_noted_in};
 ghost use Rattle.in_tree.specs.Forest.{cells_seen, HasSameCells, HasSameTrees};
-ghost use Rattle.in_tree.specs.Checkpoints.{IsAloneIn, IsCheckpointEntry, IsFullFor};
+ghost use Rattle.in_tree.specs.Checkpoints.{HasGot, IsAloneIn, IsCheckpointEntry, IsFullFor};
 ghost use Rattle.in_tree.specs.Limits.{GrewFitting, HasRoomFor, TriedFitting, commit_sizes, end_behind};
 ghost use Rattle.in_tree.specs.Logging.{LogsImage, LogsRoom, TriesImage};
 ghost use Rattle.in_tree.specs.Observed.{GrewTrees};
@@ -149,7 +149,7 @@ impl<D: Disk> LogTrees<D> {
         requires entry { IsEntry entry.now }
         requires plain { IsCheckpointEntry entry.now }
         ensures trees { self.new.trees ≡ self.old.trees }
-        ensures grew { OnOk result (GrewTrees D.observable D.history D.sync_out D.read_out D.read_of D.faults self.old self.new (entry.now ∷ [])) }
+        ensures got { IfOk result (HasGot D.observable D.history D.sync_out D.read_out D.read_of D.faults self.old.log self.new.log entry.now) }
         ensures left { OnOk result (HasRoomFor self.new.log (commit_sizes owed)) }
         ensures room { OnOk result (IsFullFor self.old.log (entry.now ∷ []) owed → ⊥) }
         ensures tried { IsEndOf Reason.Fault result ((front : List Logged) × IsFront front (entry.now ∷ []) × TriedFitting D.observable D.history D.sync_out D.read_out D.read_of D.faults self.old.log self.new.log front) }

@@ -1,5 +1,5 @@
 -- The trees of all databases while the log grows and one of them changes.
-use Rattle.std.proofs.Common.{◌≡◌, ◌≤◌, ◌⊎◌, ◌++◌, ℕ, List, [], ◌∷◌, Option, None, Some, map, refl, sym, subst, ◌∙◌, inl, inr}
+use Rattle.std.proofs.Common.{◌≡◌, ◌≤◌, ◌⊎◌, ◌++◌, ◌||◌, ℕ, Bool, true, false, List, [], ◌∷◌, Option, None, Some, map, refl, sym, subst, ◌∙◌, inl, inr}
 use Rattle.std.specs.Prelude.{IfSome, Box}
 use Rattle.std.specs.Global.{Global}
 use Rattle.std.proofs.lemmas.List.{append-nil}
@@ -17,11 +17,14 @@ use Rattle.db_tree.specs.NodeImages.{node_of}
 use Rattle.db_tree.specs.Trees.{IsTree}
 use Rattle.db_tree.proofs.Longer.{longer}
 use Rattle.db_tree.proofs.SplitLaws.{level_cases}
-use Rattle.tree_images.specs.Forest.{latest_at, logged_at, AreLogged, FitsDue, ForestDue}
+use Rattle.tree_images.specs.Forest.{latest_at, AreLogged, FitsDue, ForestDue, IsLoggedWrite}
 use Rattle.tree_images.specs.Laws.{AgreesUpTo}
 use Rattle.tree_images.specs.LogLaws.{AreDue}
+use Rattle.tree_images.specs.Notes.{HasNotes, is_late, is_root_due, may_stay}
 use Rattle.tree_images.proofs.Latest.{latest_rises, logged_rises}
+use Rattle.tree_images.proofs.LateMarks.{HasNoStart, begun_back, changed_grows, late_grows}
 use Rattle.tree_images.proofs.Longer.{imaged_stays, recorded_stays, trees_stay}
+use Rattle.tree_images.proofs.NotedNodes.{notes_weaker}
 
 -- ---- a longer log
 
@@ -57,9 +60,19 @@ fits_stay es more base home other last later d tree (image ∷ images) agrees le
 pub writes_stay : (es more : Placed) (base d : ℕ) (cells : List (Name × Cell)) → AreLogged es base d cells → AreLogged (es ++ more) base d cells
 writes_stay es more base d cells all x cell there = by_write cell.write (all x cell there)
   where
-    by_write : (o : Option (Box Write Global)) → IfSome o (λ w. w.value.at ≤ logged_at base es d x w.value.txn.0) → IfSome o (λ w. w.value.at ≤ logged_at base (es ++ more) d x w.value.txn.0)
+    by_write : (o : Option (Box Write Global)) → IfSome o (λ w. IsLoggedWrite es base d x w.value) → IfSome o (λ w. IsLoggedWrite (es ++ more) base d x w.value)
     by_write None h = h
-    by_write (Some w) h = le_trans h (logged_rises base es more d x w.value.txn.0)
+    by_write (Some w) h = record { upto = le_trans h.upto (logged_rises base es more d x w.value.txn.0); own = changed_grows es more base w.value.txn.0 w.value.at h.own }
+
+-- and what a checkpoint noted is noted still, where none begins
+pub notes_stay : (es more : Placed) (base : ℕ) (images : List NodeImage) (rows : List NodeRow) → HasNoStart more → HasNotes es base images rows → HasNotes (es ++ more) base images rows
+notes_stay es more base images rows none notes start begun =
+    notes_weaker (may_stay es base start (map node_of images) rows) (may_stay (es ++ more) base start (map node_of images) rows) rows
+    (λ level x lsn h. either_late level x lsn (is_root_due (map node_of images) rows level x) h) (notes start (begun_back es more base start none begun))
+  where
+    either_late : (level : ℕ) (x : Name) (lsn : ℕ) (b : Bool) → (b || is_late es base start lsn) ≡ true → (b || is_late (es ++ more) base start lsn) ≡ true
+    either_late level x lsn true h = refl
+    either_late level x lsn false h = late_grows es more base start lsn h
 
 -- the same where nothing is logged
 pub fits_here : (es : Placed) (base : ℕ) (home other : ℕ → Home) (last later d : ℕ) (tree : DbTree) (images : List NodeImage) → AgreesUpTo last home other → last ≤ later →
@@ -76,12 +89,13 @@ FitsWith es base home last trees due = (f : ForestDue es base last trees due) ×
 pub forest_step : (es more : Placed) (base last later d : ℕ) (old new : ℕ → Option DbTree) (due next_due : ℕ → List NodeImage) (other : ℕ → Home) (f : ForestDue es base last old due) →
     AgreesUpTo last f.home other → last ≤ later → ((b : ℕ) → (b ≡ d → ⊥) → new b ≡ old b) → ((b : ℕ) → (b ≡ d → ⊥) → next_due b ≡ due b) →
     ((tree : DbTree) → new d ≡ Some tree → FitsDue (es ++ more) base other later d tree (next_due d)) → ((tree : DbTree) → new d ≡ Some tree → AreLogged (es ++ more) base d tree.cells) →
-    FitsWith (es ++ more) base other later new next_due
-forest_step es more base last later d old new due next_due other f agrees le others same_due here writes = (
+    HasNoStart more → ((tree : DbTree) → new d ≡ Some tree → HasNotes (es ++ more) base (next_due d) tree.levels) → FitsWith (es ++ more) base other later new next_due
+forest_step es more base last later d old new due next_due other f agrees le others same_due here writes none notes = (
   record {
     home = other;
     fits = λ b tree there. fits_by b tree there (level_cases b d);
     writes = λ b tree there. writes_by b tree there (level_cases b d);
+    notes = λ b tree there. notes_by b tree there (level_cases b d);
   },
   refl,
 )
@@ -98,24 +112,32 @@ forest_step es more base last later d old new due next_due other f agrees le oth
         subst (λ (i : ℕ). AreLogged (es ++ more) base i tree.cells) (sym same) (writes tree (subst (λ (i : ℕ). new i ≡ Some tree) same there))
     writes_by b tree there (inr away) = writes_stay es more base b tree.cells (f.writes b tree (sym (others b away) ∙ there))
 
+    notes_by : (b : ℕ) (tree : DbTree) → new b ≡ Some tree → (b ≡ d) ⊎ (b ≡ d → ⊥) → HasNotes (es ++ more) base (next_due b) tree.levels
+    notes_by b tree there (inl same) =
+        subst (λ (i : ℕ). HasNotes (es ++ more) base (next_due i) tree.levels) (sym same) (notes tree (subst (λ (i : ℕ). new i ≡ Some tree) same there))
+    notes_by b tree there (inr away) =
+        subst (λ (l : List NodeImage). HasNotes (es ++ more) base l tree.levels) (sym (same_due b away)) (notes_stay es more base (due b) tree.levels none (f.notes b tree (sym (others b away) ∙ there)))
+
 -- where nothing is logged
 pub forest_here : (es : Placed) (base last later d : ℕ) (old new : ℕ → Option DbTree) (due next_due : ℕ → List NodeImage) (other : ℕ → Home) (f : ForestDue es base last old due) →
     AgreesUpTo last f.home other → last ≤ later → ((b : ℕ) → (b ≡ d → ⊥) → new b ≡ old b) → ((b : ℕ) → (b ≡ d → ⊥) → next_due b ≡ due b) →
     ((tree : DbTree) → new d ≡ Some tree → FitsDue es base other later d tree (next_due d)) → ((tree : DbTree) → new d ≡ Some tree → AreLogged es base d tree.cells) →
-    FitsWith es base other later new next_due
-forest_here es base last later d old new due next_due other f agrees le others same_due here writes =
+    ((tree : DbTree) → new d ≡ Some tree → HasNotes es base (next_due d) tree.levels) → FitsWith es base other later new next_due
+forest_here es base last later d old new due next_due other f agrees le others same_due here writes notes =
     subst (λ (l : Placed). FitsWith l base other later new next_due) (append-nil es)
     (forest_step es [] base last later d old new due next_due other f agrees le others same_due
     (λ tree there. subst (λ (l : Placed). FitsDue l base other later d tree (next_due d)) (sym (append-nil es)) (here tree there))
-    (λ tree there. subst (λ (l : Placed). AreLogged l base d tree.cells) (sym (append-nil es)) (writes tree there)))
+    (λ tree there. subst (λ (l : Placed). AreLogged l base d tree.cells) (sym (append-nil es)) (writes tree there)) tt
+    (λ tree there. subst (λ (l : Placed). HasNotes l base (next_due d) tree.levels) (sym (append-nil es)) (notes tree there)))
 
 -- all trees are as they were, and the log is longer
-pub forest_stays : (es more : Placed) (base last later : ℕ) (old new : ℕ → Option DbTree) (due : ℕ → List NodeImage) → last ≤ later → ((d : ℕ) → new d ≡ old d) → ForestDue es base last old due →
+pub forest_stays : (es more : Placed) (base last later : ℕ) (old new : ℕ → Option DbTree) (due : ℕ → List NodeImage) → last ≤ later → ((d : ℕ) → new d ≡ old d) → HasNoStart more → ForestDue es base last old due →
     ForestDue (es ++ more) base later new due
-forest_stays es more base last later old new due le same f = record {
+forest_stays es more base last later old new due le same none f = record {
   home = f.home;
   fits = λ d tree there. fits_stay es more base f.home f.home last later d tree (due d) (λ number within. refl) le (f.fits d tree (sym (same d) ∙ there));
   writes = λ d tree there. writes_stay es more base d tree.cells (f.writes d tree (sym (same d) ∙ there));
+  notes = λ d tree there. notes_stay es more base (due d) tree.levels none (f.notes d tree (sym (same d) ∙ there));
 }
 
 pub forest_same : (es : Placed) (base last : ℕ) (old new : ℕ → Option DbTree) (due : ℕ → List NodeImage) → ((d : ℕ) → new d ≡ old d) → ForestDue es base last old due → ForestDue es base last new due
@@ -123,4 +145,5 @@ forest_same es base last old new due same f = record {
   home = f.home;
   fits = λ d tree there. f.fits d tree (sym (same d) ∙ there);
   writes = λ d tree there. f.writes d tree (sym (same d) ∙ there);
+  notes = λ d tree there. f.notes d tree (sym (same d) ∙ there);
 }

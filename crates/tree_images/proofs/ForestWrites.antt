@@ -30,15 +30,17 @@ use Rattle.db_tree.specs.declared.tree.DbTree.{DbTree}
 use Rattle.db_tree.specs.Content.{record_slots, slot_for}
 use Rattle.db_tree.specs.Images.{Placed}
 use Rattle.db_tree.specs.NodeImages.{node_entry, number_of, IsNodeImage}
-use Rattle.db_tree.specs.NodeSteps.{written_lsn}
+use Rattle.db_tree.specs.NodeSteps.{IsMarkedFrom, written_lsn}
 use Rattle.db_tree.specs.Trees.{given_up}
 use Rattle.tree_images.specs.Sound.{IsNumber}
 use Rattle.tree_images.specs.Fits.{AreImaged, AreRecorded, IsRecorded}
-use Rattle.tree_images.specs.Forest.{latest_at, logged_at, AreLogged, FitsDue}
+use Rattle.tree_images.specs.Forest.{latest_at, logged_at, AreLogged, FitsDue, IsLoggedWrite}
 use Rattle.tree_images.specs.Laws.{HasSet}
 use Rattle.tree_images.specs.LogLaws.{AreDue}
+use Rattle.tree_images.specs.Notes.{HasNotes, NotesHold, has_begun, has_changed, is_late}
 use Rattle.tree_images.specs.TreeSteps.{HasWritten, HasCommitted, HasGivenUp, IsNewTree}
 use Rattle.tree_images.proofs.NodeSteps.{same_imaged, new_imaged}
+use Rattle.tree_images.proofs.NotedNodes.{notes_marked}
 use Rattle.tree_images.proofs.Recorded.{cells_are_set, write_recorded, committed_recorded, given_up_recorded}
 
 -- ---- what images show of cells
@@ -80,16 +82,16 @@ module _ (name : Name) (cell next : Cell) (same : next.version ≡ cell.version)
 
 -- changes of cells are logged still where a name's cell is set to one whose change is
 pub logged_set : (es : Placed) (base d : ℕ) (old new : List (Name × Cell)) (name : Name) (o : Option Cell) → HasSet old new name o →
-    IfSome o (λ cell. IfSome cell.write (λ w. w.value.at ≤ logged_at base es d name w.value.txn.0)) → AreLogged es base d old → AreLogged es base d new
+    IfSome o (λ cell. IfSome cell.write (λ w. IsLoggedWrite es base d name w.value)) → AreLogged es base d old → AreLogged es base d new
 logged_set es base d old new name o has set all x cell there = by_name (same_or_other name x)
   where
-    by_option : (p : Option Cell) → IfSome p (λ c. IfSome c.write (λ w. w.value.at ≤ logged_at base es d name w.value.txn.0)) → p ≡ Some cell → IfSome cell.write (λ w. w.value.at ≤ logged_at base es d name w.value.txn.0)
+    by_option : (p : Option Cell) → IfSome p (λ c. IfSome c.write (λ w. IsLoggedWrite es base d name w.value)) → p ≡ Some cell → IfSome cell.write (λ w. IsLoggedWrite es base d name w.value)
     by_option None h is = absurd (none-some cell is)
-    by_option (Some c) h is = subst (λ (e : Cell). IfSome e.write (λ w. w.value.at ≤ logged_at base es d name w.value.txn.0)) (same_Some c cell is) h
+    by_option (Some c) h is = subst (λ (e : Cell). IfSome e.write (λ w. IsLoggedWrite es base d name w.value)) (same_Some c cell is) h
 
-    by_name : (name ≡ x) ⊎ (is_eq (name_cmp name x) ≡ false) → IfSome cell.write (λ w. w.value.at ≤ logged_at base es d x w.value.txn.0)
+    by_name : (name ≡ x) ⊎ (is_eq (name_cmp name x) ≡ false) → IfSome cell.write (λ w. IsLoggedWrite es base d x w.value)
     by_name (inl same) =
-        subst (λ (y : Name). IfSome cell.write (λ w. w.value.at ≤ logged_at base es d y w.value.txn.0)) same
+        subst (λ (y : Name). IfSome cell.write (λ w. IsLoggedWrite es base d y w.value)) same
         (by_option o set (sym (same_gets name o (value_at name old)) ∙ sym (has name) ∙ ap (λ (y : Name). value_at y new) same ∙ there))
     by_name (inr other) = all x cell (sym (other_stays name x o (value_at x old) other) ∙ sym (has x) ∙ there)
 
@@ -141,11 +143,11 @@ written_fits es base home last d x write old new (image ∷ images) h stands is 
         (sym (ap (λ (cells : List (Name × Cell)). keys_of cells) h.list ∙ keys-set_value (is_at (name_cmp x)) old.cells (with_write (Some write) h.cell))) up
 
 -- and its changes are logged
-pub written_logged : (es : Placed) (base d : ℕ) (x : Name) (write : Box Write Global) (old new : DbTree) → HasWritten x write old new → write.value.at ≤ logged_at base es d x write.value.txn.0 →
+pub written_logged : (es : Placed) (base d : ℕ) (x : Name) (write : Box Write Global) (old new : DbTree) → HasWritten x write old new → IsLoggedWrite es base d x write.value →
     AreLogged es base d old.cells → AreLogged es base d new.cells
 written_logged es base d x write old new h le = logged_set es base d old.cells new.cells x (option_map (with_write (Some write)) (value_at x old.cells)) h.set (by_cell (value_at x old.cells))
   where
-    by_cell : (o : Option Cell) → IfSome (option_map (with_write (Some write)) o) (λ cell. IfSome cell.write (λ w. w.value.at ≤ logged_at base es d x w.value.txn.0))
+    by_cell : (o : Option Cell) → IfSome (option_map (with_write (Some write)) o) (λ cell. IfSome cell.write (λ w. IsLoggedWrite es base d x w.value))
     by_cell None = tt
     by_cell (Some cell) = le
 
@@ -168,14 +170,14 @@ pub committed_logged : (es : Placed) (base d : ℕ) (x : Name) (at : ℕ) (old n
 committed_logged es base d x at old new h = logged_set es base d old.cells new.cells x (option_map (committed at h.last) (value_at x old.cells)) h.set (by_cell (value_at x old.cells))
   where
     IsFine : Cell → Type 0
-    IsFine cell = IfSome cell.write (λ w. w.value.at ≤ logged_at base es d x w.value.txn.0)
+    IsFine cell = IfSome cell.write (λ w. IsLoggedWrite es base d x w.value)
 
     by_value : (cell : Cell) (lsn : ℕ) (v : Option (List ℕ)) → IsFine (with_committed lsn v at h.last (with_write None cell))
     by_value cell lsn (Some v) = tt
     by_value cell lsn None = tt
 
     by_write : (cell : Cell) (o : Option (Box Write Global)) → cell.write ≡ o → IsFine (committed_by (option_map (λ w. w.value) o) at h.last cell)
-    by_write cell None is = subst (λ (o : Option (Box Write Global)). IfSome o (λ w. w.value.at ≤ logged_at base es d x w.value.txn.0)) (sym is) tt
+    by_write cell None is = subst (λ (o : Option (Box Write Global)). IfSome o (λ w. IsLoggedWrite es base d x w.value)) (sym is) tt
     by_write cell (Some w) is = by_value cell w.value.at w.value.value
 
     by_cell : (o : Option Cell) → IfSome (option_map (committed at h.last) o) IsFine
@@ -187,13 +189,31 @@ pub commit_is_latest : (es later : Placed) (base d : ℕ) (x : Name) (t : ℕ) (
     logged_at base es d x t ≤ latest_at base later d x → IfSome (written_lsn (value_at x cells)) (λ from. from ≤ latest_at base later d x)
 commit_is_latest es later base d x t cells all own le = by_cell (value_at x cells) refl
   where
-    by_write : (o : Option (Box Write Global)) → IfSome o (λ w. w.value.at ≤ logged_at base es d x w.value.txn.0) → IfSome o (λ w. w.value.txn.0 ≡ t) → IfSome (option_map (λ w. w.value.at) o) (λ from. from ≤ latest_at base later d x)
+    by_write : (o : Option (Box Write Global)) → IfSome o (λ w. IsLoggedWrite es base d x w.value) → IfSome o (λ w. w.value.txn.0 ≡ t) → IfSome (option_map (λ w. w.value.at) o) (λ from. from ≤ latest_at base later d x)
     by_write None logged is = tt
-    by_write (Some w) logged is = le_trans (subst (λ (u : ℕ). w.value.at ≤ logged_at base es d x u) is logged) le
+    by_write (Some w) logged is = le_trans (subst (λ (u : ℕ). w.value.at ≤ logged_at base es d x u) is logged.upto) le
 
     by_cell : (o : Option Cell) → value_at x cells ≡ o → IfSome (written_lsn o) (λ from. from ≤ latest_at base later d x)
     by_cell None there = tt
     by_cell (Some cell) there = by_write cell.write (all x cell there) (own cell there)
+
+-- what a checkpoint noted is noted still: the BIN's mark is that of a change whose transaction committed behind the checkpoint's beginning
+pub committed_notes : (es : Placed) (base d : ℕ) (x : Name) (t at : ℕ) (old new : DbTree) → HasCommitted x at old new → AreLogged es base d old.cells →
+    ((cell : Cell) → value_at x old.cells ≡ Some cell → IfSome cell.write (λ w. w.value.txn.0 ≡ t)) →
+    ((start : ℕ) → has_begun es base start ≡ true → (lsn : ℕ) → has_changed es base t lsn ≡ true → is_late es base start lsn ≡ true) → HasNotes es base [] old.levels → HasNotes es base [] new.levels
+committed_notes es base d x t at old new h all own late notes start begun = by_written (written_lsn (value_at x old.cells)) (by_cell (value_at x old.cells) refl) h.marked
+  where
+    by_write : (o : Option (Box Write Global)) → IfSome o (λ w. IsLoggedWrite es base d x w.value) → IfSome o (λ w. w.value.txn.0 ≡ t) → IfSome (option_map (λ w. w.value.at) o) (λ from. is_late es base start from ≡ true)
+    by_write None logged is = tt
+    by_write (Some w) logged is = late start begun w.value.at (subst (λ (u : ℕ). has_changed es base u w.value.at ≡ true) is logged.own)
+
+    by_cell : (o : Option Cell) → value_at x old.cells ≡ o → IfSome (written_lsn o) (λ from. is_late es base start from ≡ true)
+    by_cell None there = tt
+    by_cell (Some cell) there = by_write cell.write (all x cell there) (own cell there)
+
+    by_written : (o : Option ℕ) → IfSome o (λ from. is_late es base start from ≡ true) → IsMarkedFrom o old.levels new.levels x → NotesHold (λ level low lsn. is_late es base start lsn) new.levels
+    by_written None passed same = subst (NotesHold (λ level low lsn. is_late es base start lsn)) (sym same) (notes start begun)
+    by_written (Some from) passed marked = notes_marked (λ level low lsn. is_late es base start lsn) old.levels new.levels 0 x from marked (λ low. passed) (notes start begun)
 
 -- ---- a tree with a change given up
 
@@ -211,11 +231,11 @@ given_up_fits es base home last d x old new h fits = record {
 pub given_up_logged : (es : Placed) (base d : ℕ) (x : Name) (old new : DbTree) → HasGivenUp x old new → AreLogged es base d old.cells → AreLogged es base d new.cells
 given_up_logged es base d x old new h = logged_set es base d old.cells new.cells x (given_up (value_at x old.cells)) h.set (by_cell (value_at x old.cells))
   where
-    by_test : (t : Bool) (cell : Cell) → IfSome (cond t (Some (with_write None cell)) None) (λ c. IfSome c.write (λ w. w.value.at ≤ logged_at base es d x w.value.txn.0))
+    by_test : (t : Bool) (cell : Cell) → IfSome (cond t (Some (with_write None cell)) None) (λ c. IfSome c.write (λ w. IsLoggedWrite es base d x w.value))
     by_test true cell = tt
     by_test false cell = tt
 
-    by_cell : (o : Option Cell) → IfSome (given_up o) (λ c. IfSome c.write (λ w. w.value.at ≤ logged_at base es d x w.value.txn.0))
+    by_cell : (o : Option Cell) → IfSome (given_up o) (λ c. IfSome c.write (λ w. IsLoggedWrite es base d x w.value))
     by_cell None = tt
     by_cell (Some cell) = by_test (is_committed cell.version) cell
 

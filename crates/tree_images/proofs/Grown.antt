@@ -134,7 +134,7 @@ rows_from splits old new are k = subst (λ (i : ℕ). RowIs old new i (slice_get
 
 -- ---- which nodes are still to be logged
 
-among_first : (n : NodeAt) (nodes : List NodeAt) (level : ℕ) (low : Name) → n.level ≡ level → n.low ≡ low → is_among (n ∷ nodes) level low ≡ true
+pub among_first : (n : NodeAt) (nodes : List NodeAt) (level : ℕ) (low : Name) → n.level ≡ level → n.low ≡ low → is_among (n ∷ nodes) level low ≡ true
 among_first n nodes level low at same =
     ap₂ (λ (a b : Bool). (a && b) || is_among nodes level low) (eq-eqb n.level level at) (subst (λ (y : Name). is_same_name n.low y ≡ true) same (ap is_eq (name_same n.low)))
 

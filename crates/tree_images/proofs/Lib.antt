@@ -42,6 +42,12 @@ pub mod Newest
 pub mod Forests
 -- The LSNs of each name's changes while the log grows.
 pub mod Latest
+-- Beginnings of checkpoints in a log, and late LSNs, while the log grows.
+pub mod LateMarks
+-- What a checkpoint noted, while nodes of one tree change.
+pub mod NotedNodes
+-- What a checkpoint noted, where nodes are split, a tree is made, or a checkpoint begins.
+pub mod NotedRoots
 -- The trees of all databases while the log grows and one of them changes.
 pub mod ForestSteps
 -- One tree that fits its log, and its cells' changes, while a cell is set.

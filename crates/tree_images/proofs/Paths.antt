@@ -70,7 +70,7 @@ up_from x y ge = by_test (is_gt (name_cmp y x)) refl (sym (ge_up x y) ∙ ge)
     by_test false is h = is
 
 -- it is that of the node over the name
-low_is_over : (row : NodeRow) (x : Name) → IsRising row → IsSome (value_at least row) → (node : Node) × IsOver row x (low_up_to x (keys_of row), node)
+pub low_is_over : (row : NodeRow) (x : Name) → IsRising row → IsSome (value_at least row) → (node : Node) × IsOver row x (low_up_to x (keys_of row), node)
 low_is_over row x up some = by_last (last_of lows) refl
   where
     up_to : Name → Bool

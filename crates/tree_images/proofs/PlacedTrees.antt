@@ -2,7 +2,7 @@
 use Rattle.std.proofs.Common.{◌≡◌, ◌≤◌, ◌<◌, ◌+◌, ◌^◌, ◌++◌, ℕ, suc, List, [], ◌∷◌, Bool, true, false, cond, Option, None, Some, IsSome, is_some, map, option_map, length, refl, ap, sym, subst, ◌∙◌, arith}
 use Rattle.std.specs.Map.{keys_of}
 use Rattle.std.specs.List.{slice_get}
-use Rattle.std.proofs.lemmas.Bool.{true≢false}
+use Rattle.std.proofs.lemmas.Bool.{true≢false, eqb-true}
 use Rattle.std.proofs.lemmas.List.{append_assoc, append-nil}
 use Rattle.je_order.specs.declared.name.Name.{Name}
 use Rattle.record_map.specs.declared.cell.Cell.{Cell}
@@ -26,13 +26,13 @@ use Rattle.db_tree.specs.Waiting.{waiting_of, waiting_before, halves_of, root_at
 use Rattle.db_tree.proofs.ForcedLaws.{force_lows}
 use Rattle.tree_images.specs.Fits.{AreImaged}
 use Rattle.tree_images.specs.PlaceLaws.{home_with, AreInOrder, IsPlacedWith, PlacedTreesAreImaged, AreSplitsOf, UnloggedTreesAreImaged}
-use Rattle.tree_images.proofs.Grown.{among_back, homes_agree}
+use Rattle.tree_images.proofs.Grown.{among_back, among_first, homes_agree}
 use Rattle.tree_images.proofs.Longer.{imaged_stays}
 use Rattle.tree_images.proofs.NodeSteps.{cleared_imaged, waiting_imaged}
 use Rattle.db_tree.specs.NodeSteps.{slot_splits}
 use Rattle.std.proofs.lemmas.Option.{none-some}
 use Rattle.tree_images.proofs.Ordered.{placed_in_order}
-use Rattle.tree_images.proofs.Splits.{splits_of_nodes, grown_nodes}
+use Rattle.tree_images.proofs.Splits.{grown_nodes, height_grown, lows_height, splits_of_nodes}
 
 -- ---- numbers
 
@@ -104,10 +104,29 @@ module _ (es : Placed) (home : ℕ → Home) (last d fanout : ℕ) (x : Name) (r
         (placed_in_order fanout x old.cells room.splits.items raised old.levels mid new.levels was placed.back.cleared.was_parts now splits same (subst (λ (t : Bool). AreGrown room.splits.items t old.levels mid) room_raised placed.back.grown)
         (λ level low height some. imaged.top level low height some)
         (subst (λ (l : List NodeAt). AreForced false l mid new.levels) nodes placed.back.cleared));
+    root = λ is level at. root_among (sym room_raised ∙ is) level at;
   }
     where
       before : List NodeAt
       before = waiting_before (last_of room.splits.items) room.splits.items (waiting_of old.levels)
+
+      root_among : raised ≡ true → (level : ℕ) → suc level ≡ length new.levels → is_among (map node_of room.images.items) level least ≡ true
+      root_among up level at =
+          subst (λ (l : List NodeAt). is_among l level least ≡ true) (sym nodes)
+          (among_back (before ++ halves_of 0 room.splits.items) (root_at (length room.splits.items) raised) level least
+          (subst (λ (t : Bool). is_among (root_at (length room.splits.items) t) level least ≡ true) (sym up)
+          (among_first (record { level = length room.splits.items; low = least }) [] level least level_is refl)))
+        where
+          count : length room.splits.items ≡ length old.levels
+          count = eqb-true (length room.splits.items) (length (lows_of old.levels)) (sym same ∙ up) ∙ lows_height old.levels
+
+          grew : length mid ≡ length old.levels + 1
+          grew =
+              height_grown room.splits.items raised old.levels mid (subst (λ (t : Bool). AreGrown room.splits.items t old.levels mid) room_raised placed.back.grown)
+              ∙ ap (λ (t : Bool). length old.levels + one_if t) up
+
+          level_is : length room.splits.items ≡ level
+          level_is = let cleared : length new.levels ≡ length mid = placed.back.cleared.height in omega (arith, at, count, grew, cleared)
 
   -- a name that had a cell takes nothing
   by_none : has_slot x (shape_in old) ≡ true → IsPlacedWith es (home_with home first d room.splits.items) later d room new
@@ -122,6 +141,7 @@ module _ (es : Placed) (home : ℕ → Home) (last d fanout : ℕ) (x : Name) (r
             (subst (λ (l : Placed). AreImaged l (home_with home first d room.splits.items) later d [] old.levels) (append-nil es)
             (imaged_stays es [] home (home_with home first d room.splits.items) last later d [] old.levels (homes_agree home last first d room.splits.items lt) (omega (arith, lt, enough)) imaged))));
         order = subst (AreInOrder new.levels) (sym none) tt;
+        root = λ is level at. absurd (true≢false (sym is ∙ parts.1));
       }
     where
       mid_is : room.splits.items ≡ [] → room.is_raised ≡ false → mid ≡ old.levels

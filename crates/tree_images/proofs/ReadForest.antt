@@ -29,8 +29,9 @@ use Rattle.db_tree.specs.Loading.{loaded_in}
 use Rattle.db_tree.specs.Stored.{stored_under}
 use Rattle.db_tree.proofs.Over.{over_once, is_over, there_is}
 use Rattle.tree_images.specs.Fits.{AreRecorded, FitsTree}
-use Rattle.tree_images.specs.Forest.{latest_at, logged_at}
+use Rattle.tree_images.specs.Forest.{latest_at, IsLoggedWrite}
 use Rattle.tree_images.specs.ReadLaws.{IsAsRead, IsReadTree, ReadForestsFit}
+use Rattle.tree_images.proofs.LateMarks.{none_begun}
 use Rattle.tree_images.proofs.Images.{images_show}
 use Rattle.tree_images.proofs.Read.{inner_same, read_fit, unread_fit}
 use Rattle.tree_images.proofs.ReadNodes.{ShowsNodes, IsPut, nodes_put}
@@ -198,7 +199,8 @@ pub forests_fit : ReadForestsFit
 forests_fit es c nodes stored last base trees read numbers below each = record {
   home = read.home;
   fits = λ d tree is. fits d tree (each d tree is);
-  writes = λ d tree is x cell there. subst (λ w. IfSome w (λ w. w.value.at ≤ logged_at base es d x w.value.txn.0)) (sym ((each d tree is).quiet x cell there)) tt;
+  writes = λ d tree is x cell there. subst (λ w. IfSome w (λ w. IsLoggedWrite es base d x w.value)) (sym ((each d tree is).quiet x cell there)) tt;
+  notes = λ d tree is start begun. absurd (none_begun es base start below begun);
 }
   where
     le : read.most ≤ last

@@ -36,7 +36,7 @@ height_raised : (raised : Bool) (mid new : List NodeRow) → IsRaisedFrom raised
 height_raised true mid new is = is.1 ∙ (let e : suc (length mid) ≡ length mid + 1 = omega arith in e)
 height_raised false mid new is = ap (λ (r : List NodeRow). length r) is ∙ (let e : length mid ≡ length mid + 0 = omega arith in e)
 
-row_raised : (raised : Bool) (mid new : List NodeRow) (k : ℕ) → IsRaisedFrom raised mid new → k < length mid → row_of new k ≡ row_of mid k
+pub row_raised : (raised : Bool) (mid new : List NodeRow) (k : ℕ) → IsRaisedFrom raised mid new → k < length mid → row_of new k ≡ row_of mid k
 row_raised true mid new k is lt = sym (get_or-take (length mid) new k [] lt) ∙ ap (λ (r : List NodeRow). row_of r k) is.2
 row_raised false mid new k is lt = ap (λ (r : List NodeRow). row_of r k) is
 

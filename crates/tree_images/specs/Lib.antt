@@ -7,6 +7,7 @@ pub mod PlaceLaws
 pub mod LogLaws
 pub mod ReadLaws
 pub mod NewestLaws
+pub mod Notes
 pub mod Forest
 pub mod TreeSteps
 pub mod RedoSteps

@@ -85,10 +85,12 @@ PlacedNodesAreInOrder = (fanout : ℕ) (x : Name) (cells : List (Name × Cell)) 
 
 -- ---- the whole
 
--- a name got its slot as `place` makes it: the tree fits but for the nodes of its images, which stand in the order in which they are logged
+-- a name got its slot as `place` makes it: the tree fits but for the nodes of its images, which stand in the order in which they are logged; a new root
+-- is among them
 pub record IsPlacedWith (es : Placed) (home : ℕ → Home) (later d : ℕ) (room : SlotRoom) (new : DbTree) : Type 0 where
   pub imaged : AreImaged es home later d (map node_of room.images.items) new.levels
   pub order : AreInOrder new.levels (map node_of room.images.items)
+  pub root : room.is_raised ≡ true → (level : ℕ) → suc level ≡ length new.levels → is_among (map node_of room.images.items) level least ≡ true
 
 abbrev pub PlacedTreesAreImaged : Type 0
 PlacedTreesAreImaged = (es : Placed) (home : ℕ → Home) (last d fanout : ℕ) (x : Name) (room : SlotRoom) (first later : ℕ) (old new : DbTree) →

@@ -13,7 +13,7 @@ use Rattle.db_tree.specs.declared.slot_room.SlotRoom.{SlotRoom}
 use Rattle.db_tree.specs.declared.tree.DbTree.{DbTree}
 use Rattle.db_tree.specs.Images.{Placed}
 use Rattle.db_tree.specs.NodeImages.{AreNodeImages}
-use Rattle.db_tree.specs.NodeSteps.{AreSameNodes, IsOneNode, written_lsn}
+use Rattle.db_tree.specs.NodeSteps.{AreSameNodes, IsMarkedFrom, IsOneNode, written_lsn}
 use Rattle.db_tree.specs.Numbers.{AreNewNumbered}
 use Rattle.db_tree.specs.Shapes.{IsPlaced, shape_in}
 use Rattle.db_tree.specs.Splits.{nodes_logged, splits_of}
@@ -37,6 +37,7 @@ pub record HasWritten (x : Name) (write : Box Write Global) (old new : DbTree) :
 pub record HasCommitted (x : Name) (at : ℕ) (old new : DbTree) : Type 0 where
   pub rising : IsRising old.cells
   pub nodes : AreSameNodes old.levels new.levels
+  pub marked : IsMarkedFrom (written_lsn (value_at x old.cells)) old.levels new.levels x
   pub last : Option ℕ
   pub set : HasSet old.cells new.cells x (option_map (committed at last) (value_at x old.cells))
   pub keeps : (es : Placed) (base : ℕ) (newest : Name → ℕ) → IfSome (written_lsn (value_at x old.cells)) (λ from. from ≤ newest x) →

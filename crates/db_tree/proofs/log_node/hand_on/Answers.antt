@@ -1,5 +1,6 @@
-use Rattle.std.proofs.Common.{ℕ, Some, ap, sym, subst, add-one, ◌+◌, ◌∙◌}
+use Rattle.std.proofs.Common.{ℕ, suc, Option, Some, ap, refl, sym, subst, add-one, ◌+◌, ◌∙◌, ◌≤◌, inl, inr}
 use Rattle.tree_nodes.specs.Levels.{HasMarkedAt}
+use Rattle.db_tree.specs.NodeSteps.{mark_above}
 use Rattle.db_tree.proofs.NodeLogging.{handed_on}
 use Rattle.db_tree.proofs.Records.{marks}
 use Rattle.db_tree.proofs.WaitLaws.{mark_alike}
@@ -12,7 +13,7 @@ returns-clause-notes c = notes_marked c.args.levels.now c.mark.new.self (c.args.
 
 pub returns-clause-handed : goal.returns-clause-handed
 returns-clause-handed c = λ p over f is.
-    handed_on c.args.levels.now c.mark.new.self c.args.level c.args.low.now c.args.node.now c.mark_above.result (is ∙ ap (λ (x : ℕ). Some x) (sym (c.mark_above.ensures f is)))
+    handed_on c.args.levels.now c.mark.new.self c.args.level c.args.low.now c.args.node.now c.mark_above.result (is ∙ ap (λ (x : ℕ). Some x) (sym (c.mark_above.ensures ∙ ap (λ (o : Option ℕ). mark_above o c.args.at) is)))
     (subst (λ l. HasMarkedAt c.args.levels.now c.mark.new.self l c.args.low.now c.mark_above.result) (add-one c.args.level) c.mark.ensures.marked) p over f is
 
 pub returns-clause-tree : goal.returns-clause-tree
@@ -28,3 +29,8 @@ returns-clause-alike c = mark_alike c.args.levels.now c.mark.new.self (c.args.le
 
 pub returns-clause-nodes : goal.returns-clause-nodes
 returns-clause-nodes c = nodes_marked c.args.levels.now c.mark.new.self (c.args.level + 1) c.args.low.now c.mark_above.result c.height-height.ensures.parts c.mark.ensures.parts c.mark.ensures.marked
+
+pub returns-clause-up : goal.returns-clause-up
+returns-clause-up c =
+    inr (subst (λ from. HasMarkedAt c.args.levels.now c.mark.new.self (suc c.args.level) c.args.low.now from) c.mark_above.ensures
+    (subst (λ l. HasMarkedAt c.args.levels.now c.mark.new.self l c.args.low.now c.mark_above.result) (add-one c.args.level) c.mark.ensures.marked))

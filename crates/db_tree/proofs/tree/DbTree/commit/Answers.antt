@@ -20,3 +20,6 @@ returns-clause-waits c = mark_alike c.args.self.now.levels c.mark.new.self 0 c.a
 
 pub returns-clause-nodes : goal.returns-clause-nodes
 returns-clause-nodes c = nodes_marked c.args.self.now.levels c.mark.new.self 0 c.args.name.now c.args.from c.height-height.ensures.parts c.mark.ensures.parts c.mark.ensures.marked
+
+pub returns-clause-marked : goal.returns-clause-marked
+returns-clause-marked c = c.mark.ensures.marked

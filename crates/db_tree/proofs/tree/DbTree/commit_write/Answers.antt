@@ -1,7 +1,8 @@
-use Rattle.std.proofs.Common.{option_map, sym}
+use Rattle.std.proofs.Common.{ℕ, Option, option_map, refl, subst, sym}
 use Rattle.record_map.specs.Cells.{value_at, committed}
 use Rattle.record_tree.specs.Occupied.{after_commit}
 use Rattle.db_tree.proofs.Seen.{change_seen, commit_seen, occupied_rises}
+use Rattle.db_tree.specs.NodeSteps.{IsMarkedFrom}
 use Rattle.db_tree.proofs.NodeSteps.{none_committed}
 use Rattle.db_tree.proofs.tree.DbTree.commit_write.Goals as goal
 
@@ -27,3 +28,9 @@ returns-clause-cells c =
 
 pub returns-in-None-clause-committed : goal.returns-in-None-clause-committed
 returns-in-None-clause-committed c = none_committed c.args.self.now.cells c.args.name.now c.args.at (sym c.in-None.ensures.from)
+
+pub returns-in-None-clause-marked : goal.returns-in-None-clause-marked
+returns-in-None-clause-marked c = subst (λ (o : Option ℕ). IsMarkedFrom o c.args.self.now.levels c.args.self.now.levels c.args.name.now) c.in-None.ensures.from refl
+
+pub returns-clause-marked : goal.returns-clause-marked
+returns-clause-marked c = subst (λ (o : Option ℕ). IsMarkedFrom o c.args.self.now.levels c.commit.new.self.levels c.args.name.now) c.in-Some.ensures.from c.commit.ensures.marked

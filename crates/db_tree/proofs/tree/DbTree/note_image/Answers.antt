@@ -51,3 +51,12 @@ returns-clause-noted c = λ some.
 pub returns-clause-cleared : goal.returns-clause-cleared
 returns-clause-cleared c = λ n within there.
     cleared c.hand_on.new.levels c.set.new.self c.args.level c.args.low.now c.logged.result n c.set.ensures.put (ap (λ (m : Node). m.from) c.logged.ensures) there
+
+pub returns-clause-up : goal.returns-clause-up
+returns-clause-up c = λ some. record {
+  node = c.copy-node.result;
+  there = sym c.in-Some.ensures ∙ ap Some (sym c.copy-node.ensures);
+  mid = c.hand_on.new.levels;
+  handed = c.hand_on.ensures.up;
+  put = subst (λ (n : Node). HasPutAt c.hand_on.new.levels c.set.new.self c.args.level c.args.low.now n) c.logged.ensures c.set.ensures.put;
+}

@@ -2,7 +2,7 @@ use Rattle.std.proofs.Common.{◌∙◌, ap, subst, sym}
 use Rattle.tree_nodes.specs.declared.node.Node.{Node}
 use Rattle.tree_nodes.specs.Levels.{row_of}
 use Rattle.db_tree.specs.Trees.{IsMark}
-use Rattle.db_tree.proofs.NotingLaws.{over_noted}
+use Rattle.db_tree.proofs.NotingLaws.{over_from, over_noted}
 use Rattle.db_tree.specs.Content.{held_by}
 use Rattle.db_tree.proofs.Marking.{marked_or_split}
 use Rattle.db_tree.proofs.SplitLaws.{split_is_mark}
@@ -13,7 +13,10 @@ pub returns-clause-put : goal.returns-clause-put
 returns-clause-put c = (
   c.split_off-right.result,
   c.in_ok-split.ensures.ok,
-  λ e over. ap (λ (n : Node). n.noted) c.split_off-right.ensures ∙ over_noted (row_of c.args.self.now.levels c.args.level) c.args.middle (c.over.result.0.now, c.over.result.1.now) e c.over.ensures.over over,
+  λ e over. (
+    ap (λ (n : Node). n.noted) c.split_off-right.ensures ∙ over_noted (row_of c.args.self.now.levels c.args.level) c.args.middle (c.over.result.0.now, c.over.result.1.now) e c.over.ensures.over over,
+    ap (λ (n : Node). n.from) c.split_off-right.ensures ∙ over_from (row_of c.args.self.now.levels c.args.level) c.args.middle (c.over.result.0.now, c.over.result.1.now) e c.over.ensures.over over,
+  ),
 )
 
 pub returns-clause-tree : goal.returns-clause-tree

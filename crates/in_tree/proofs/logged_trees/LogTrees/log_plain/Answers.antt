@@ -1,6 +1,5 @@
 use Rattle.std.proofs.Common.{[], ◌∷◌, ◌∙◌, refl, sym}
 use Rattle.in_tree.specs.Fitting.{fitting_tried, fitting_unchanged}
-use Rattle.in_tree.proofs.Checkpoints.{plain_grows}
 use Rattle.in_tree.proofs.Checked.{tried_none}
 use Rattle.in_tree.proofs.logged_trees.LogTrees.log_plain.Goals as goal
 
@@ -11,10 +10,9 @@ returns-then-has_failed-clause-tried g c = λ is. (
   tried_none g.D.Disk.observable g.D.Disk.history g.D.Disk.sync_out g.D.Disk.read_out g.D.Disk.read_of g.D.Disk.faults c.args.self.now.log (sym c.has_failed.ensures ∙ c.if-has_failed.true),
 )
 
-pub returns-in-Ok-append_plain-clause-grew : goal.returns-in-Ok-append_plain-clause-grew
-returns-in-Ok-append_plain-clause-grew g c =
-    plain_grows g.D.Disk.observable g.D.Disk.history g.D.Disk.sync_out g.D.Disk.read_out g.D.Disk.read_of g.D.Disk.faults c.args.self.now.log c.take_place.new.self.log c.append_plain.new.log c.args.entry.now c.in-Ok-append_plain.at c.args.self.now.trees c.take_place.new.self.trees
-    c.take_place.ensures.log c.in-Ok-append_plain.ensures.grew c.in-Ok-append_plain.ensures.at c.take_place.ensures.trees
+pub returns-in-Ok-append_plain-clause-got : goal.returns-in-Ok-append_plain-clause-got
+returns-in-Ok-append_plain-clause-got g c =
+    record { mid = c.take_place.new.self.log; same = c.take_place.ensures.log; grew = c.in-Ok-append_plain.ensures.grew; at_is = c.in-Ok-append_plain.ensures.at }
 
 pub returns-in-Err-append_plain-clause-tried : goal.returns-in-Err-append_plain-clause-tried
 returns-in-Err-append_plain-clause-tried g c = λ is. (
