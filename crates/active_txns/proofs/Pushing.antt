@@ -6,15 +6,14 @@ use Rattle.je_order.specs.declared.txn_id.TxnId.{TxnId}
 use Rattle.je_order.specs.Transactions.{is_same_txn}
 use Rattle.je_order.proofs.TxnIds.{same_is, same_itself}
 use Rattle.store_model.specs.declared.record_change.RecordChange.{RecordChange}
-use Rattle.je_answers.specs.Views.{changes_at as in_db}
 use Rattle.active_txns.specs.Own.{changes_at, first_at, HasMore}
 use Rattle.active_txns.proofs.OwnMaps.{Entries}
 
 -- some of the changes were put, and these are left
-pub record IsPushing (t : TxnId) (db : ℕ) (all rest : List RecordChange) (old now : Entries) : Type 0 where
+pub record IsPushing (t : TxnId) (all rest : List (ℕ × RecordChange)) (old now : Entries) : Type 0 where
   pub more : List (ℕ × RecordChange)
   pub has : HasMore t more old now
-  pub left : more ++ in_db db rest ≡ in_db db all
+  pub left : more ++ rest ≡ all
   pub first : (u : TxnId) → first_at u now ≡ first_at u old
 
 none_more : (t : TxnId) (old : Entries) → HasMore t [] old old
@@ -23,8 +22,8 @@ none_more t old u = ⊎_elim
     (λ e. sym (cond-false (is_same_txn t u) (changes_at t old ++ []) (changes_at u old) e))
     (cases_Bool (is_same_txn t u))
 
-pub pushing_begins : (t : TxnId) (db : ℕ) (all rest : List RecordChange) (old : Entries) → rest ≡ all → IsPushing t db all rest old old
-pushing_begins t db all rest old is = record { more = []; has = none_more t old; left = ap (in_db db) is; first = λ u. refl }
+pub pushing_begins : (t : TxnId) (all rest : List (ℕ × RecordChange)) (old : Entries) → rest ≡ all → IsPushing t all rest old old
+pushing_begins t all rest old is = record { more = []; has = none_more t old; left = is; first = λ u. refl }
 
 one_more : (t : TxnId) (more one : List (ℕ × RecordChange)) (old now next : Entries) → HasMore t more old now → HasMore t one now next → HasMore t (more ++ one) old next
 one_more t more one old now next h k u = ⊎_elim
@@ -34,21 +33,26 @@ one_more t more one old now next h k u = ⊎_elim
     ∙ sym (cond-false (is_same_txn t u) (changes_at t old ++ (more ++ one)) (changes_at u old) e)))))
     (cases_Bool (is_same_txn t u))
 
-pub pushing_goes_on : (t : TxnId) (db : ℕ) (all left rest : List RecordChange) (change : RecordChange) (old now next : Entries) → left ≡ change ∷ rest
-    → ((u : TxnId) → changes_at u next ≡ cond (is_same_txn t u) (changes_at t now ++ (db, change) ∷ []) (changes_at u now)) → ((u : TxnId) → first_at u next ≡ first_at u now)
-    → IsPushing t db all left old now → IsPushing t db all rest old next
-pushing_goes_on t db all left rest change old now next is put first p = record {
-  more = p.more ++ (db, change) ∷ [];
-  has = one_more t p.more ((db, change) ∷ []) old now next p.has put;
-  left = append_assoc p.more ((db, change) ∷ []) (in_db db rest) ∙ (ap (λ l. p.more ++ in_db db l) (sym is) ∙ p.left);
+pub pushing_goes_on : (t : TxnId) (all left rest : List (ℕ × RecordChange)) (change : ℕ × RecordChange) (old now next : Entries) → left ≡ change ∷ rest
+    → ((u : TxnId) → changes_at u next ≡ cond (is_same_txn t u) (changes_at t now ++ change ∷ []) (changes_at u now)) → ((u : TxnId) → first_at u next ≡ first_at u now)
+    → IsPushing t all left old now → IsPushing t all rest old next
+pushing_goes_on t all left rest change old now next is put first p = record {
+  more = p.more ++ change ∷ [];
+  has = one_more t p.more (change ∷ []) old now next p.has put;
+  left = append_assoc p.more (change ∷ []) rest ∙ (ap (λ l. p.more ++ l) (sym is) ∙ p.left);
   first = λ u. first u ∙ p.first u;
 }
 
-pub pushing_ends : (t : TxnId) (db : ℕ) (all rest : List RecordChange) (old now : Entries) → rest ≡ [] → IsPushing t db all rest old now → HasMore t (in_db db all) old now
-pushing_ends t db all rest old now is p = subst (λ l. HasMore t l old now) (sym (append-nil p.more) ∙ (ap (λ l. p.more ++ in_db db l) (sym is) ∙ p.left)) p.has
+pub pushing_ends : (t : TxnId) (all rest : List (ℕ × RecordChange)) (old now : Entries) → rest ≡ [] → IsPushing t all rest old now → HasMore t all old now
+pushing_ends t all rest old now is p = subst (λ l. HasMore t l old now) (sym (append-nil p.more) ∙ (ap (λ l. p.more ++ l) (sym is) ∙ p.left)) p.has
 
 pub still_more : (t : TxnId) (more : List (ℕ × RecordChange)) (old now next : Entries) → ((u : TxnId) → changes_at u next ≡ changes_at u now) → HasMore t more old now → HasMore t more old next
 still_more t more old now next same h u = same u ∙ h u
+
+-- where one more fails those before it were put
+pub some_were : (t : TxnId) (all rest : List (ℕ × RecordChange)) (old now next : Entries) → IsPushing t all rest old now → ((u : TxnId) → changes_at u next ≡ changes_at u now) →
+    (more : List (ℕ × RecordChange)) × HasMore t more old next
+some_were t all rest old now next p same = (p.more, still_more t p.more old now next same p.has)
 
 -- those that were put are cut off again
 take_front : (xs ys : List (ℕ × RecordChange)) → take (length xs) (xs ++ ys) ≡ xs

@@ -6,7 +6,6 @@ ghost use Rattle.je_answers.specs.After.{marked, without_session};
 ghost use Rattle.active_txns.specs.Marks.{marked_for, HaveOwnSessions};
 ghost use Rattle.active_txns.specs.Own.{own_of, first_at, first_of, has_changes};
 ghost use Rattle.je_answers.specs.declared.active.Active.{Active as Begun};
-ghost use Rattle.je_answers.specs.Views.{changes_at as in_db};
 ghost use Rattle.je_order.specs.declared.txn_id.TxnId.{TxnId};
 ghost use Rattle.je_order.specs.Transactions.{is_same_txn};
 
@@ -138,24 +137,23 @@ impl ActiveTxns {
         ensures first { (t : TxnId) → first_at t self.new.own.entries ≡ first_at t self.old.own.entries }
         ensures err { OnErr result (own_of self.new.own.entries ≡ own_of self.old.own.entries) }
     {
-        push_at(&mut self.own, alloc, txn, db, change)
+        push_at(&mut self.own, alloc, txn, (db, change))
     }
 
-    /// Puts changes of one database at the end of a transaction's, all of them or none. The only error is out of
-    /// memory, and nothing is changed by it.
+    /// Puts changes, each with its database's number, at the end of a transaction's, all of them or none. The
+    /// only error is out of memory, and nothing is changed by it.
     pub fn push_all(
         &mut self,
         alloc: Global,
         txn: TxnId,
-        db: u32,
-        changes: List<RecordChange>,
+        changes: Vec<(u32, RecordChange)>,
     ) -> Result<(), AllocError>
-        ensures own { OnOk result (own_of self.new.own.entries ≡ with_at txn.0 (own_of self.old.own.entries txn.0 ++ in_db db changes) (own_of self.old.own.entries)) }
+        ensures own { OnOk result (own_of self.new.own.entries ≡ with_at txn.0 (own_of self.old.own.entries txn.0 ++ changes.items) (own_of self.old.own.entries)) }
         ensures actives { self.new.actives.items ≡ self.old.actives.items }
         ensures err { OnErr result (own_of self.new.own.entries ≡ own_of self.old.own.entries) }
         ensures first { (t : TxnId) → first_at t self.new.own.entries ≡ first_at t self.old.own.entries }
     {
-        push_all_at(&mut self.own, alloc, txn, db, changes)
+        push_all_at(&mut self.own, alloc, txn, changes)
     }
 
     /// Leaves the first changes of a transaction, as where the log did not take the last ones. It takes no

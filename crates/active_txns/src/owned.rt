@@ -4,46 +4,45 @@ ghost use Rattle.std.specs.Prelude.{◌≡◌, ◌≤◌, ℕ, List as Items, le
 ghost use Rattle.je_order.specs.declared.txn_id.TxnId.{TxnId};
 ghost use Rattle.je_order.specs.Transactions.{is_same_txn};
 ghost use Rattle.store_model.specs.declared.record_change.RecordChange.{RecordChange as Changed};
-ghost use Rattle.je_answers.specs.Views.{changes_at as in_db};
 ghost use Rattle.active_txns.specs.Own.{changes_at, first_at, first_of, lesser_of, HasMore};
 
 use crate::OwnChanges;
 use je_lsn::Lsn;
-use je_order::{List, TxnId};
+use je_order::TxnId;
 use std::alloc::{AllocError, Global};
 use std::collections::BTreeMap;
 use store_model::RecordChange;
 
 // One change, of which the log has nothing yet.
-fn one_change(alloc: Global, db: u32, change: RecordChange) -> Result<OwnChanges, AllocError>
-    ensures changes { IfOk result (λ own. own.changes.items ≡ (db, change) ∷ []) }
+fn one_change(alloc: Global, change: (u32, RecordChange)) -> Result<OwnChanges, AllocError>
+    ensures changes { IfOk result (λ own. own.changes.items ≡ change ∷ []) }
     ensures first { IfOk result (λ own. own.first ≡ None) }
 {
     let mut changes = Vec::new(alloc);
-    changes.push((db, change))?;
+    changes.push(change)?;
     Ok(OwnChanges {
         changes,
         first: None,
     })
 }
 
-// Puts a change at the end of a transaction's. Running out of memory changes nothing.
+// Puts a change, with its database's number, at the end of a transaction's. Running out of memory changes
+// nothing.
 pub(crate) fn push_at(
     own: &mut BTreeMap<TxnId, OwnChanges>,
     alloc: Global,
     txn: TxnId,
-    db: u32,
-    change: RecordChange,
+    change: (u32, RecordChange),
 ) -> Result<(), AllocError>
-    ensures changes { OnOk result ((t : TxnId) → changes_at t own.new.entries ≡ (if is_same_txn txn t then changes_at txn own.old.entries ++ (db, change) ∷ [] else changes_at t own.old.entries)) }
+    ensures changes { OnOk result ((t : TxnId) → changes_at t own.new.entries ≡ (if is_same_txn txn t then changes_at txn own.old.entries ++ change ∷ [] else changes_at t own.old.entries)) }
     ensures first { (t : TxnId) → first_at t own.new.entries ≡ first_at t own.old.entries }
     ensures err { OnErr result ((t : TxnId) → changes_at t own.new.entries ≡ changes_at t own.old.entries) }
 {
     if let Some(found) = own.get_mut(&txn) {
-        found.changes.push((db, change))?;
+        found.changes.push(change)?;
         return Ok(());
     }
-    let first = one_change(alloc, db, change)?;
+    let first = one_change(alloc, change)?;
     own.insert(txn, first)?;
     Ok(())
 }
@@ -55,39 +54,37 @@ fn count_at(own: &BTreeMap<TxnId, OwnChanges>, txn: TxnId) -> usize
     read_at(own, txn).len()
 }
 
-// Puts changes of one database at the end of a transaction's, one after another. Running out of memory leaves
-// some of them there.
+// Puts changes at the end of a transaction's, one after another. Running out of memory leaves some of them
+// there.
 fn push_each_at(
     own: &mut BTreeMap<TxnId, OwnChanges>,
     alloc: Global,
     txn: TxnId,
-    db: u32,
-    changes: List<RecordChange>,
+    changes: Vec<(u32, RecordChange)>,
 ) -> Result<(), AllocError>
-    ensures ok { OnOk result (HasMore txn (in_db db changes) own.old.entries own.new.entries) }
+    ensures ok { OnOk result (HasMore txn changes.items own.old.entries own.new.entries) }
     ensures err { OnErr result ((more : Items (ℕ × Changed)) × HasMore txn more own.old.entries own.new.entries) }
     ensures first { (t : TxnId) → first_at t own.new.entries ≡ first_at t own.old.entries }
 {
-    for change in changes.into_vec() {
-        push_at(own, alloc, txn, db, change)?;
+    for change in changes {
+        push_at(own, alloc, txn, change)?;
     }
     Ok(())
 }
 
-// Puts changes of one database at the end of a transaction's, all of them or none.
+// Puts changes at the end of a transaction's, all of them or none.
 pub(crate) fn push_all_at(
     own: &mut BTreeMap<TxnId, OwnChanges>,
     alloc: Global,
     txn: TxnId,
-    db: u32,
-    changes: List<RecordChange>,
+    changes: Vec<(u32, RecordChange)>,
 ) -> Result<(), AllocError>
-    ensures ok { OnOk result (HasMore txn (in_db db changes) own.old.entries own.new.entries) }
+    ensures ok { OnOk result (HasMore txn changes.items own.old.entries own.new.entries) }
     ensures err { OnErr result ((t : TxnId) → changes_at t own.new.entries ≡ changes_at t own.old.entries) }
     ensures first { (t : TxnId) → first_at t own.new.entries ≡ first_at t own.old.entries }
 {
     let len = count_at(own, txn);
-    match push_each_at(own, alloc, txn, db, changes) {
+    match push_each_at(own, alloc, txn, changes) {
         Ok(()) => Ok(()),
         Err(failed) => {
             truncate_at(own, txn, len);

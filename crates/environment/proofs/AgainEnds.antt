@@ -8,10 +8,9 @@ use Rattle.store_model.specs.declared.call.Call.{Call}
 use Rattle.store_model.specs.declared.isolation.Isolation.{Isolation}
 use Rattle.store_model.specs.declared.need.Need.{Need}
 use Rattle.store_model.specs.declared.record_change.RecordChange.{RecordChange}
-use Rattle.db_catalog.specs.declared.found_db.FoundDb.{FoundDb}
 use Rattle.je_answers.specs.declared.active.Active.{Active}
 use Rattle.je_answers.specs.Standing.{Standing}
-use Rattle.je_answers.specs.Views.{Target, needs_in, outcome_of}
+use Rattle.je_answers.specs.Views.{Target, changes_with, needs_in, outcome_of}
 use Rattle.je_answers.specs.Locking.{all_got}
 use Rattle.je_answers.specs.After.{ended, with_locks}
 use Rattle.log_buffer.specs.Buffer.{has_failed}
@@ -34,6 +33,7 @@ use Rattle.environment.specs.Whole.{CanGoOn}
 use Rattle.environment.specs.Writing.{WritesOwn}
 use Rattle.environment.specs.Written.{had_at}
 use Rattle.environment.proofs.CommitAgain.{accesses_done, accesses_failed, accesses_full, accesses_numbers, accesses_unsettled, had_now, room_now}
+use Rattle.environment.proofs.ChangeLaws.{Changed}
 use Rattle.environment.proofs.FinishLaws.{in_sessions}
 use Rattle.environment.proofs.OwnEnds.{has_pushed}
 
@@ -55,32 +55,30 @@ module _ {D : Type 0} where
 module _ {D : Type 0} (observable : Bool) (history : D → History) (sync_out read_out : D → Option ℕ) (read_of faults : D → ℕ) where
   -- ---- what became of its changes
 
-  commits_same : (old now : Environment D) (st : Standing) (n : ℕ) (g : Target) (changes : List RecordChange) (owed : ℕ) (wrote : Wrote) →
-      WritesOwn observable history sync_out read_out read_of old now st n g changes owed (Ok wrote) → now.engine.kept.commits ≡ old.engine.kept.commits
-  commits_same old now st n g changes owed Done w = ap (λ (k : Kept). k.commits) w.4
-  commits_same old now st n g changes owed Full w = ap (λ (k : Kept). k.commits) w.1.kept
-  commits_same old now st n g changes owed NoNumbers w = ap (λ (k : Kept). k.commits) w.1.kept
-  commits_same old now st n g changes owed Failed w = ap (λ (k : Kept). k.commits) w.3
+  commits_same : (old now : Environment D) (st : Standing) (n : ℕ) (cs : List Changed) (owed : ℕ) (wrote : Wrote) →
+      WritesOwn observable history sync_out read_out read_of old now st n cs owed (Ok wrote) → now.engine.kept.commits ≡ old.engine.kept.commits
+  commits_same old now st n cs owed Done w = ap (λ (k : Kept). k.commits) w.4
+  commits_same old now st n cs owed Full w = ap (λ (k : Kept). k.commits) w.1.kept
+  commits_same old now st n cs owed NoNumbers w = ap (λ (k : Kept). k.commits) w.1.kept
+  commits_same old now st n cs owed Failed w = ap (λ (k : Kept). k.commits) w.3
 
-  last_same : (old now : Environment D) (st : Standing) (n : ℕ) (g : Target) (changes : List RecordChange) (owed : ℕ) (wrote : Wrote) →
-      WritesOwn observable history sync_out read_out read_of old now st n g changes owed (Ok wrote) → now.engine.kept.last_txn ≡ old.engine.kept.last_txn
-  last_same old now st n g changes owed Done w = ap (λ (k : Kept). k.last_txn) w.4
-  last_same old now st n g changes owed Full w = ap (λ (k : Kept). k.last_txn) w.1.kept
-  last_same old now st n g changes owed NoNumbers w = ap (λ (k : Kept). k.last_txn) w.1.kept
-  last_same old now st n g changes owed Failed w = ap (λ (k : Kept). k.last_txn) w.3
+  last_same : (old now : Environment D) (st : Standing) (n : ℕ) (cs : List Changed) (owed : ℕ) (wrote : Wrote) →
+      WritesOwn observable history sync_out read_out read_of old now st n cs owed (Ok wrote) → now.engine.kept.last_txn ≡ old.engine.kept.last_txn
+  last_same old now st n cs owed Done w = ap (λ (k : Kept). k.last_txn) w.4
+  last_same old now st n cs owed Full w = ap (λ (k : Kept). k.last_txn) w.1.kept
+  last_same old now st n cs owed NoNumbers w = ap (λ (k : Kept). k.last_txn) w.1.kept
+  last_same old now st n cs owed Failed w = ap (λ (k : Kept). k.last_txn) w.3
 
-  pub written_again : (most : ℕ) (before old now : Environment D) (st : Standing) (session : ℕ) (txn : TxnId) (level : Isolation) (a : Active) (call : Call) (db : List ℕ) (found : FoundDb) (g : Target) (answer : Answer)
-      (changes : List RecordChange) (all : ℕ) (wrote : Wrote) → IsTakenUp observable history most before old st session a call db found g answer changes → changes ≢ [] → a.txn ≡ txn → a.level ≡ level → a.is_auto ≡ true →
-      st.own a.txn.0 ≡ [] → HasPushedAndLogged observable history sync_out read_out read_of old now a (needs_in st a call g) st g changes (Ok wrote) →
-      all ≡ old.engine.kept.totals.records + count_by is_set changes → old.engine.kept.commits < old.engine.kept.last_txn → old.engine.kept.commits + 1 < 2 ^ 64 →
+  pub written_again : (most : ℕ) (before old now : Environment D) (st : Standing) (session : ℕ) (txn : TxnId) (level : Isolation) (a : Active) (call : Call) (g : Target) (answer : Answer)
+      (changes : Own) (all : ℕ) (wrote : Wrote) → IsTakenUp observable history most before old st session a call g answer changes → changes ≢ [] → a.txn ≡ txn → a.level ≡ level → a.is_auto ≡ true →
+      st.own a.txn.0 ≡ [] → HasPushedAndLogged observable history sync_out read_out read_of old now a (needs_in st a call g) st (changes_with st a g (outcome_of st a call g).changes) (Ok wrote) →
+      all ≡ old.engine.kept.totals.records + count_by (λ (c : ℕ × RecordChange). is_set c.1) changes → old.engine.kept.commits < old.engine.kept.last_txn → old.engine.kept.commits + 1 < 2 ^ 64 →
       HasWrittenAgain observable history sync_out read_out read_of most before now st session txn level a call g all wrote
-  written_again most before old now st session txn level a call db found g answer changes all wrote up some is level_is auto bare pushed counted numbers fits =
-      let commits = commits_same old now st a.txn.0 g changes _ wrote pushed.writes in
-      let last = last_same old now st a.txn.0 g changes _ wrote pushed.writes in
+  written_again most before old now st session txn level a call g answer changes all wrote up some is level_is auto bare pushed counted numbers fits =
+      let commits = commits_same old now st a.txn.0 _ _ wrote pushed.writes in
+      let last = last_same old now st a.txn.0 _ _ wrote pushed.writes in
       record {
         old = old;
-        db = db;
-        found = found;
         answer = answer;
         changes = changes;
         up = up;
@@ -90,7 +88,7 @@ module _ {D : Type 0} (observable : Bool) (history : D → History) (sync_out re
         auto = auto;
         bare = bare;
         pushed = pushed;
-        counted = counted ∙ ap (λ (x : Engine D). x.kept.totals.records + count_by is_set changes) up.engine;
+        counted = counted ∙ ap (λ (x : Engine D). x.kept.totals.records + count_by (λ (c : ℕ × RecordChange). is_set c.1) changes) up.engine;
         numbers = omega (arith, commits, last, numbers);
         fits = omega (arith, commits, fits);
       }
@@ -129,14 +127,14 @@ module _ {D : Type 0} (observable : Bool) (history : D → History) (sync_out re
     -- ---- its Commit
 
     pub room_settles : WrittenBy Done → (owed : ℕ) × HasRoomFor now.engine.trees.log (commit_sizes (suc owed))
-    room_settles w = room_now observable history sync_out read_out read_of faults before w.old most session 0 st a call w.db w.found g w.answer w.changes w.up w.bare w.auto w.some now w.pushed
+    room_settles w = room_now observable history sync_out read_out read_of faults before w.old most session 0 st a call g w.answer w.changes w.up w.bare w.auto w.some now w.pushed
 
     pub had_settles : WrittenBy Done → had_at txn now.written.by_txn.entries ≤ all
     had_settles w = subst (λ (t : TxnId). had_at t now.written.by_txn.entries ≤ all) w.its_txn within
       where
         within : had_at a.txn now.written.by_txn.entries ≤ all
         within =
-            let had = had_now observable history sync_out read_out read_of faults before w.old most session 0 st a call w.db w.found g w.answer w.changes w.up w.bare w.auto w.some now w.pushed in
+            let had = had_now observable history sync_out read_out read_of faults before w.old most session 0 st a call g w.answer w.changes w.up w.bare w.auto w.some now w.pushed in
             let counted = w.counted in
             omega (arith, had, counted)
 
@@ -149,7 +147,7 @@ module _ {D : Type 0} (observable : Bool) (history : D → History) (sync_out re
         ((x : Standing) (b : Active) → b.session ≡ session → b.txn ≡ txn → AreSessionsAt s x → AreSessionsAt closed (ended b x)) →
         records + had_at txn now.written.by_txn.entries ≡ all → o.answer ≡ Logged done.engine.kept.commits → o.victims ≡ [] → Accessed (in_sessions closed done) line o
     settled_again done s closed records line o w h stands ends sum told alone =
-        accesses_done observable history sync_out read_out read_of faults before w.old most session line st a call w.db w.found g w.answer w.changes w.up w.bare w.auto w.some now (in_sessions closed done) s records o
+        accesses_done observable history sync_out read_out read_of faults before w.old most session line st a call g w.answer w.changes w.up w.bare w.auto w.some now (in_sessions closed done) s records o
         w.pushed stands
         (subst (λ (t : TxnId). HasSettled observable history sync_out read_out read_of faults (in_sessions s now) (in_sessions closed done) session t records) (sym w.its_txn) (record { committed = h; sessions = ends }))
         (subst (λ (t : TxnId). records + had_at t now.written.by_txn.entries ≡ all) (sym w.its_txn) sum ∙ w.counted)
@@ -158,7 +156,7 @@ module _ {D : Type 0} (observable : Bool) (history : D → History) (sync_out re
     pub unsettled_again : (done : Environment D) (s : Sessions) (line : ℕ) (o : Outcome) → WrittenBy Done → HasNotSettled observable history sync_out read_out read_of faults now done txn → AreSessionsAt s st →
         o.answer ≡ DiskFault → o.victims ≡ [] → Accessed (in_sessions s done) line o
     unsettled_again done s line o w h stands told alone =
-        accesses_unsettled observable history sync_out read_out read_of faults before w.old most session line st a call w.db w.found g w.answer w.changes w.up w.bare w.auto w.some now done s o w.pushed
+        accesses_unsettled observable history sync_out read_out read_of faults before w.old most session line st a call g w.answer w.changes w.up w.bare w.auto w.some now done s o w.pushed
         (subst (λ (t : TxnId). HasNotSettled observable history sync_out read_out read_of faults now done t) (sym w.its_txn) h) stands told alone
 
     pub works_again : WrittenBy Done → has_failed now.engine.trees.log ≡ false
@@ -169,15 +167,15 @@ module _ {D : Type 0} (observable : Bool) (history : D → History) (sync_out re
     pub full_again : (new : Environment D) (s : Sessions) (line : ℕ) (o : Outcome) → WrittenBy Full → AreSessionsAt s (with_locks a (all_got a.txn needs_ st.locks.at) st) → HasAbandoned (in_sessions s now) new session txn →
         o.answer ≡ LogFull → o.victims ≡ [] → Accessed new line o
     full_again new s line o w stands h told alone =
-        accesses_full observable history sync_out read_out read_of faults before w.old most session line st a call w.db w.found g w.answer w.changes w.up w.bare w.auto w.some now new s o w.pushed stands
+        accesses_full observable history sync_out read_out read_of faults before w.old most session line st a call g w.answer w.changes w.up w.bare w.auto w.some now new s o w.pushed stands
         (subst (λ (t : TxnId). HasAbandoned (in_sessions s now) new session t) (sym w.its_txn) h) told alone
 
     pub numbers_again : (new : Environment D) (s : Sessions) (line : ℕ) (o : Outcome) → WrittenBy NoNumbers → AreSessionsAt s (with_locks a (all_got a.txn needs_ st.locks.at) st) →
         HasAbandoned (in_sessions s now) new session txn → o.answer ≡ IdsEnded → o.victims ≡ [] → Accessed new line o
     numbers_again new s line o w stands h told alone =
-        accesses_numbers observable history sync_out read_out read_of faults before w.old most session line st a call w.db w.found g w.answer w.changes w.up w.bare w.auto w.some now new s o w.pushed stands
+        accesses_numbers observable history sync_out read_out read_of faults before w.old most session line st a call g w.answer w.changes w.up w.bare w.auto w.some now new s o w.pushed stands
         (subst (λ (t : TxnId). HasAbandoned (in_sessions s now) new session t) (sym w.its_txn) h) told alone
 
     pub failed_again : (s : Sessions) (line : ℕ) (o : Outcome) → WrittenBy Failed → AreSessionsAt s st → o.answer ≡ DiskFault → o.victims ≡ [] → Accessed (in_sessions s now) line o
     failed_again s line o w stands told alone =
-        accesses_failed observable history sync_out read_out read_of faults before w.old most session line st a call w.db w.found g w.answer w.changes w.up w.bare w.auto w.some now s o w.pushed stands told alone
+        accesses_failed observable history sync_out read_out read_of faults before w.old most session line st a call g w.answer w.changes w.up w.bare w.auto w.some now s o w.pushed stands told alone

@@ -12,7 +12,6 @@ use Rattle.je_answers.specs.Standing.{Standing, active_of}
 use Rattle.je_answers.specs.Views.{Target, needs_in, outcome_of}
 use Rattle.je_answers.specs.Locking.{all_got}
 use Rattle.je_answers.specs.After.{answered, with_locks, with_outcome}
-use Rattle.db_catalog.specs.declared.found_db.FoundDb.{FoundDb}
 use Rattle.log_replay.proofs.ListLaws.{found}
 use Rattle.sessions.specs.declared.all_sessions.Sessions.{Sessions}
 use Rattle.active_txns.specs.Own.{has_changes}
@@ -27,6 +26,7 @@ use Rattle.environment.specs.Ending.{HasAbandoned}
 use Rattle.environment.specs.Steps.{HasNotCome, IsLogStep, StandsAt}
 use Rattle.environment.specs.Valid.{AreBare}
 use Rattle.environment.proofs.Answering.{owed_is, within_more}
+use Rattle.environment.proofs.CallChanges.{none_changed}
 use Rattle.environment.proofs.EarlyLaws.{told_so}
 use Rattle.environment.proofs.EndingLaws.{abandoned, abandoned_near, found_session, near_owed, within_then}
 use Rattle.environment.proofs.FinishLaws.{Changes, Evaluates, Takes, calm_taken, elsewhere_at, in_sessions, same_own, without}
@@ -38,10 +38,10 @@ bare_own st session a bare its auto = (found (λ (b : Active). b.is_auto ≡ tru
 
 module _ {D : Type 0} (observable : Bool) (history : D → History) (sync_out read_out : D → Option ℕ) (read_of : D → ℕ) where
   -- it changes nothing, and ends
-  ends_nothing : (before e new : Environment D) (s : Sessions) (most session : ℕ) (st : Standing) (a : Active) (call : Call) (db : List ℕ) (f : FoundDb) (g : Target) (answer : Answer) (changes : List RecordChange)
-      (ev : Evaluated) → IsTakenUp observable history most before e st session a call db f g answer changes → AreSessionsAt s (with_move a call ev.place (answered a call g st)) → HasAbandoned (in_sessions s before) new a.session a.txn →
+  ends_nothing : (before e new : Environment D) (s : Sessions) (most session : ℕ) (st : Standing) (a : Active) (call : Call) (g : Target) (answer : Answer) (changes : List (ℕ × RecordChange))
+      (ev : Evaluated) → IsTakenUp observable history most before e st session a call g answer changes → AreSessionsAt s (with_move a call ev.place (answered a call g st)) → HasAbandoned (in_sessions s before) new a.session a.txn →
       answer ≡ ev.answer → IsCalm answer → Changes observable history sync_out read_out read_of most before new st a call g answer (without observable history sync_out read_out read_of ev) true
-  ends_nothing before e new s most session st a call db f g answer changes ev up stands h is calm =
+  ends_nothing before e new s most session st a call g answer changes ev up stands h is calm =
       let nothing : Evaluated = without observable history sync_out read_out read_of ev in
       let after : Standing = with_outcome a call g nothing (answered a call g st) in
       let same : st.own ≡ after.own = same_own a.txn.0 st.own in
@@ -61,33 +61,33 @@ module _ {D : Type 0} (observable : Bool) (history : D → History) (sync_out re
         near = within_more before new [] (within_then before (in_sessions s before) new (near_owed before s (owed_is s after stands_now ∙ owes ∙ sym (owed_is before.sessions st up.here.sessions_at))) ended_near);
       }
 
-  nothing_evaluates : (before e new : Environment D) (s : Sessions) (most session : ℕ) (st : Standing) (a : Active) (call : Call) (db : List ℕ) (f : FoundDb) (g : Target) (answer : Answer) (changes : List RecordChange)
-      (ev : Evaluated) (cs : List RecordChange) → ev.changes ≡ cs → cs ≡ [] → a.is_auto ≡ true → IsTakenUp observable history most before e st session a call db f g answer changes → AreSessionsAt s (with_move a call ev.place (answered a call g st)) →
+  nothing_evaluates : (before e new : Environment D) (s : Sessions) (most session : ℕ) (st : Standing) (a : Active) (call : Call) (g : Target) (answer : Answer) (changes : List (ℕ × RecordChange))
+      (ev : Evaluated) (cs : List RecordChange) → ev.changes ≡ cs → cs ≡ [] → a.is_auto ≡ true → IsTakenUp observable history most before e st session a call g answer changes → AreSessionsAt s (with_move a call ev.place (answered a call g st)) →
       HasAbandoned (in_sessions s before) new a.session a.txn → answer ≡ ev.answer → IsCalm answer → Evaluates observable history sync_out read_out read_of most before new st a call g answer a.is_auto ev
-  nothing_evaluates before e new s most session st a call db f g answer changes ev cs has empty auto up stands h is calm =
+  nothing_evaluates before e new s most session st a call g answer changes ev cs has empty auto up stands h is calm =
       subst (λ (l : List RecordChange). Evaluates observable history sync_out read_out read_of most before new st a call g answer a.is_auto (record { answer = ev.answer; answered = ev.answered; changes = l; place = ev.place }))
       (sym (has ∙ empty))
       (subst (Changes observable history sync_out read_out read_of most before new st a call g answer (without observable history sync_out read_out read_of ev)) (sym auto)
-      (ends_nothing before e new s most session st a call db f g answer changes ev up stands h is calm))
+      (ends_nothing before e new s most session st a call g answer changes ev up stands h is calm))
 
-  pub finishes_again : (before e new : Environment D) (s : Sessions) (most session line : ℕ) (st : Standing) (a : Active) (call : Call) (db : List ℕ) (f : FoundDb) (g : Target) (answer : Answer) (changes : List RecordChange)
-      (o : Outcome) → IsTakenUp observable history most before e st session a call db f g answer changes → changes ≡ [] → a.is_auto ≡ true →
+  pub finishes_again : (before e new : Environment D) (s : Sessions) (most session line : ℕ) (st : Standing) (a : Active) (call : Call) (g : Target) (answer : Answer) (changes : List (ℕ × RecordChange))
+      (o : Outcome) → IsTakenUp observable history most before e st session a call g answer changes → changes ≡ [] → a.is_auto ≡ true →
       AreSessionsAt s (with_move a call (outcome_of st a call g).place (with_locks a (all_got a.txn (needs_in st a call g) st.locks.at) st)) → (txn : TxnId) → a.txn ≡ txn → HasAbandoned (in_sessions s e) new session txn → o.answer ≡ answer → o.victims ≡ [] →
       HasAccessed observable history sync_out read_out read_of most before new st a line call g o.answer o.victims
-  finishes_again before e new s most session line st a call db f g answer changes o up empty auto stands txn its h told alone =
+  finishes_again before e new s most session line st a call g answer changes o up empty auto stands txn its h told alone =
       told_so (HasAccessed observable history sync_out read_out read_of most before new st a line call g) o answer told alone
       (subst (Takes observable history sync_out read_out read_of most before new st a line call g answer) (sym up.taken.free)
-      (nothing_evaluates before e new s most session st a call db f g answer changes (outcome_of st a call g) (outcome_of st a call g).changes refl (sym up.changes_are ∙ empty) auto up stands
+      (nothing_evaluates before e new s most session st a call g answer changes (outcome_of st a call g) (outcome_of st a call g).changes refl (none_changed st a g (outcome_of st a call g).changes (sym up.changes_are ∙ empty)) auto up stands
       (subst (λ (n : ℕ). HasAbandoned (in_sessions s before) new n a.txn) (sym (found_session session a st.actives up.its))
       (subst (λ (t : TxnId). HasAbandoned (in_sessions s before) new session t) (sym its)
       (subst (λ (w : Written). HasAbandoned (record { engine = before.engine; sessions = s; written = w }) new session txn) up.written
       (subst (λ (x : Engine D). HasAbandoned (record { engine = x; sessions = s; written = e.written }) new session txn) up.engine h))))
-      up.answer_is (calm_taken observable history sync_out read_out read_of before e most session st a call db f g answer changes up)))
+      up.answer_is (calm_taken observable history sync_out read_out read_of before e most session st a call g answer changes up)))
 
   -- there was no memory
-  pub not_again : (before e : Environment D) (s : Sessions) (most session : ℕ) (st : Standing) (a : Active) (call : Call) (db : List ℕ) (f : FoundDb) (g : Target) (answer : Answer) (changes : List RecordChange) →
-      IsTakenUp observable history most before e st session a call db f g answer changes → AreSessionsAt s st → HasNotCome observable history sync_out read_out read_of most before (in_sessions s e) st
-  not_again before e s most session st a call db f g answer changes up stands =
+  pub not_again : (before e : Environment D) (s : Sessions) (most session : ℕ) (st : Standing) (a : Active) (call : Call) (g : Target) (answer : Answer) (changes : List (ℕ × RecordChange)) →
+      IsTakenUp observable history most before e st session a call g answer changes → AreSessionsAt s st → HasNotCome observable history sync_out read_out read_of most before (in_sessions s e) st
+  not_again before e s most session st a call g answer changes up stands =
       subst (λ (w : Written). HasNotCome observable history sync_out read_out read_of most before (record { engine = e.engine; sessions = s; written = w }) st) (sym up.written)
       (subst (λ (x : Engine D). HasNotCome observable history sync_out read_out read_of most before (record { engine = x; sessions = s; written = before.written }) st) (sym up.engine)
       (not_taken observable history sync_out read_out read_of most before s st up.here stands))

@@ -45,10 +45,7 @@ use Rattle.environment.specs.declared.written.OwnNames.{OwnNames}
 use Rattle.environment.proofs.Bases.{lives_at}
 use Rattle.environment.proofs.Firsts.{firsts_none}
 
--- names that nobody wrote do not hang on the records
-pub names_of_none : (entries : List (TxnId × OwnNames)) (rows later : Rows) → AreNamesOf entries (λ t. []) rows → AreNamesOf entries (λ t. []) later
-names_of_none entries rows later names = record { names = names.names; had = names.had }
-
+-- nobody wrote names
 pub names_none : (entries : List (TxnId × OwnNames)) (rows : Rows) → entries ≡ [] → AreNamesOf entries (λ t. []) rows
 names_none entries rows none = subst (λ (l : List (TxnId × OwnNames)). AreNamesOf l (λ t. []) rows) (sym none) (record { names = λ t. refl; had = λ t. refl })
 
@@ -56,25 +53,9 @@ names_none entries rows none = subst (λ (l : List (TxnId × OwnNames)). AreName
 none_writes : (cells : AllCells) → IsQuiet cells → HasWrites cells (λ t. [])
 none_writes cells quiet d x = subst (IsWriteOf d x (λ t. [])) (sym (quiet d x)) (λ t. refl)
 
-none_written : (cells : AllCells) → HasWrites cells (λ t. []) → IsQuiet cells
-none_written cells writes d x = by_write (write_in (value_at x (cells d))) (writes d x)
-  where
-    by_write : (w : Option Write) → IsWriteOf d x (λ t. []) w → w ≡ None
-    by_write None is = refl
-    by_write (Some w) is = absurd (none-some is.change is.last)
-
 -- nobody owes a Commit
 none_owing : (p : Alone) (n : ℕ) → owing (alone p) ≡ suc n → ⊥
 none_owing p n is = cc
-
--- sessions without a transaction stand so wherever nobody is under way
-locks_alone : (f g : Option Fault) (v : Locks) (state : LockState) → f ≡ None → AreLocksAt f v state → AreLocksAt g v state
-locks_alone None None v state none at = at
-locks_alone None (Some fault) v state none at = tt
-locks_alone (Some fault) g v state none at = absurd cc
-
-pub sessions_alone : (s : Sessions) (p q : Alone) → p.fault ≡ None → AreSessionsAt s (alone p) → AreSessionsAt s (alone q)
-sessions_alone s p q none at = record { actives = at.actives; own = at.own; places = record { at = at.places.at; under = under_none s.cursors q.store q.numbers at.places.at.each }; waiting = at.waiting; locks = locks_alone p.fault q.fault s.locks.locks (alone p).locks none at.locks }
 
 -- and sessions owe none
 none_owed : (s : Sessions) (p : Alone) → AreSessionsAt s (alone p) → owed_by s ≡ 0
@@ -151,76 +132,6 @@ module _ {D : Type 0} where
     right = λ none. subst AreRight (sym here.at.st_is) (alone-is_right here.at.alone_at);
     bare = λ none. subst AreBare (sym here.at.st_is) tt;
   }
-
-  -- and the other way round
-  narrow_alone : (most : ℕ) (observable : Bool) (state : State) (e : Environment D) (p : Alone) → IsAt most observable state e (alone p) → EngineIsAt most observable state e.engine (alone p)
-  unfolding gives_alone
-  narrow_alone most observable state e p here =
-      let rows : Rows = committed (cells_of e.engine.trees) in
-      let at = here.at in
-      record {
-        at = record {
-          alone_at = p;
-          st_is = refl;
-          here = record {
-            file_max = at.file_max;
-            fault = at.fault;
-            last_txn = at.last_txn;
-            last_db = at.last_db;
-            commits = at.commits;
-            totals = at.totals;
-            checkpoint = at.checkpoint;
-            numbers = λ none. fun_ext (at.valid none).makes.named;
-            valid = λ none.
-                let v = at.valid none in
-                let lives : Lives (fitting e.engine.trees) v.log e.engine.kept.since (pos_lsn (end_of e.engine.trees.log)) e.written.by_txn.entries
-                (subst (λ (n : ℕ). GivesRecordsWith v.log (end_of e.engine.trees.log) rows n e.engine.kept.last_db (active_number []) (λ t. [])) (sym at.last_txn)
-                (subst (λ (n : ℕ). GivesRecordsWith v.log (end_of e.engine.trees.log) rows p.last_txn n (active_number []) (λ t. [])) (sym at.last_db) v.gives)).base =
-                subst (Lives (fitting e.engine.trees) v.log e.engine.kept.since (pos_lsn (end_of e.engine.trees.log)) e.written.by_txn.entries)
-                (sym (same_under (λ (n : ℕ). GivesRecordsWith v.log (end_of e.engine.trees.log) rows n e.engine.kept.last_db (active_number []) (λ t. [])) (λ n g. g.base) (sym at.last_txn)
-                (subst (λ (n : ℕ). GivesRecordsWith v.log (end_of e.engine.trees.log) rows p.last_txn n (active_number []) (λ t. [])) (sym at.last_db) v.gives)
-                ∙ same_under (λ (n : ℕ). GivesRecordsWith v.log (end_of e.engine.trees.log) rows p.last_txn n (active_number []) (λ t. [])) (λ n g. g.base) (sym at.last_db) v.gives))
-                (lives_at observable state e.engine.trees.log (cells_of e.engine.trees) (has_tree_of e.engine.trees) (fitting e.engine.trees) e.engine.kept.since e.written.by_txn.entries (alone p) v) in
-                record {
-                  log = v.log;
-                  has = v.has;
-                  works = v.works;
-                  gives = gives_alone v.log (end_of e.engine.trees.log) (contents e.engine.trees e.engine.kept) (active_number []) (λ t. [])
-                      (subst (λ (n : ℕ). GivesRecordsWith v.log (end_of e.engine.trees.log) rows n e.engine.kept.last_db (active_number []) (λ t. [])) (sym at.last_txn)
-                      (subst (λ (n : ℕ). GivesRecordsWith v.log (end_of e.engine.trees.log) rows p.last_txn n (active_number []) (λ t. [])) (sym at.last_db) v.gives));
-                  recovers = v.recovers;
-                  made = v.makes.store;
-                  fits = lives.fits;
-                  from = lives.from;
-                };
-          };
-        };
-        trees = λ none. let v = at.valid none in record { quiet = none_written (cells_of e.engine.trees) v.writes; made = v.made };
-      }
-
-  -- what an environment without transactions is beside its engine
-  pub record IsNarrow (most : ℕ) (observable : Bool) (state : State) (e : Environment D) (st : Standing) : Type 0 where
-    pub p : Alone
-    pub st_is : st ≡ alone p
-    pub engine : EngineIsAt most observable state e.engine st
-    pub sessions : (q : Alone) → AreSessionsAt e.sessions (alone q)
-    pub names : AreNamesOf e.written.by_txn.entries (λ t. []) (committed (cells_of e.engine.trees))
-
-  pub narrow : (most : ℕ) (observable : Bool) (state : State) (e : Environment D) (st : Standing) → IsAt most observable state e st → e.engine.kept.fault ≡ None → e.sessions.txns.actives.items ≡ [] →
-      IsNarrow most observable state e st
-  narrow most observable state e st here valid empty =
-      let none : st.fault ≡ None = sym here.at.fault ∙ valid in
-      let is = no_transactions-is_alone st (here.right none).sound (sym here.at.sessions_at.actives ∙ empty) in
-      let p : Alone = is.0 in
-      let at : IsAt most observable state e (alone p) = subst (λ (s : Standing). IsAt most observable state e s) is.1 here in
-      let fault : p.fault ≡ None = sym (ap (λ (s : Standing). s.fault) is.1) ∙ none in
-      record {
-        p = p;
-        st_is = is.1;
-        engine = subst (λ (s : Standing). EngineIsAt most observable state e.engine s) (sym is.1) (narrow_alone most observable state e p at);
-        sessions = λ q. sessions_alone e.sessions p q fault at.at.sessions_at;
-        names = (at.at.valid fault).names;
-      }
 
   -- ---- how far it reaches
 

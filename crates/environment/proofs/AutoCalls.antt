@@ -12,12 +12,10 @@ use Rattle.je_answers.specs.Views.{Target, needs_in}
 use Rattle.je_answers.specs.Alone.{IsAutoCommitted}
 use Rattle.je_answers.specs.Events.{auto_active, begun}
 use Rattle.je_answers.specs.Refusals.{number_refusal}
-use Rattle.in_tree.specs.Observed.{cells_of}
-use Rattle.txn_core.specs.Known.{committed, known_of}
-use Rattle.txn_core.specs.Planning.{CanPlan, HasModel}
-use Rattle.txn_core.specs.Totals.{totals_of}
 use Rattle.sessions.specs.declared.all_sessions.Sessions.{Sessions}
+use Rattle.sessions.specs.declared.named_db.NamedDb.{NamedDb}
 use Rattle.sessions.specs.AtStanding.{AreSessionsAt, with_active}
+use Rattle.sessions.specs.Names.{AreOthersOf}
 use Rattle.sessions.specs.Taking.{AreNeedsOf, HasStopped, HasTaken, IfReady, IfStopped, MayAsk}
 use Rattle.sessions.specs.declared.taken.Taken.{Taken}
 use Rattle.sessions.specs.declared.taken.Taken.TheVariants.{Ready, Stopped}
@@ -35,7 +33,7 @@ use Rattle.standing_laws.proofs.StandingsStay.{has_number, late_number}
 use Rattle.db_catalog.specs.declared.found_db.FoundDb.{FoundDb}
 use Rattle.environment.specs.declared.environment.Environment.{Environment}
 use Rattle.environment.specs.Access.{IsFoundFor}
-use Rattle.environment.specs.Auto.{IsAutoAt, alone_in}
+use Rattle.environment.specs.Auto.{IsAutoAt, IsNamedAs}
 use Rattle.environment.specs.Calls.{IsOnRecords}
 use Rattle.environment.specs.Steps.{MayCall, StandsAt}
 use Rattle.environment.proofs.BeginLaws.{next_is}
@@ -47,17 +45,21 @@ auto_call (Put name key value mode) db is = tt
 auto_call (Delete name key) db is = tt
 auto_call call db is = absurd is
 
+-- it is named as it was found
+pub named_as : (db : List ℕ) (found : FoundDb) (others : List NamedDb) (g : Target) → g.database.name ≡ db → g.database.kind ≡ found.kind → AreOthersOf others g → IsNamedAs db found.kind others g
+named_as db found others g name kind beside = record { name = name; its_kind = kind; beside = beside }
+
 -- what is said of a call that has its needs, and of one that was stopped
 pub ready_is : (t : Taken) (P : Type 0) → t ≡ Ready → IfReady t P → P
 ready_is t P is h = subst (λ (x : Taken). IfReady x P) is h
 
-abbrev pub Stops : Sessions → Sessions → ℕ → ℕ → Call → List ℕ → Kind → List Need → Answer → List Victim → Type 0
-Stops old new session line call db kind needs answer victims =
-    (st : Standing) (a : Active) (g : Target) → st.fault ≡ None → AreNeedsOf st session call db kind needs a g → AreSessionsAt old st → HasStopped new st a line call g answer victims
+abbrev pub Stops : Sessions → Sessions → ℕ → ℕ → Call → List ℕ → Kind → List NamedDb → List Need → Answer → List Victim → Type 0
+Stops old new session line call db kind others needs answer victims =
+    (st : Standing) (a : Active) (g : Target) → st.fault ≡ None → AreNeedsOf st session call db kind others needs a g → AreSessionsAt old st → HasStopped new st a line call g answer victims
 
-pub stopped_is : (old new : Sessions) (session line : ℕ) (call : Call) (db : List ℕ) (kind : Kind) (needs : List Need) (t : Taken) (answer : Answer) (victims : List Victim) → t ≡ Stopped answer victims →
-    IfStopped t (Stops old new session line call db kind needs) → Stops old new session line call db kind needs answer victims
-stopped_is old new session line call db kind needs t answer victims is h = subst (λ (x : Taken). IfStopped x (Stops old new session line call db kind needs)) is h
+pub stopped_is : (old new : Sessions) (session line : ℕ) (call : Call) (db : List ℕ) (kind : Kind) (others : List NamedDb) (needs : List Need) (t : Taken) (answer : Answer) (victims : List Victim) → t ≡ Stopped answer victims →
+    IfStopped t (Stops old new session line call db kind others needs) → Stops old new session line call db kind others needs answer victims
+stopped_is old new session line call db kind others needs t answer victims is h = subst (λ (x : Taken). IfStopped x (Stops old new session line call db kind others needs)) is h
 
 module _ {D : Type 0} (most : ℕ) (observable : Bool) (history : D → History) (e : Environment D) (st : Standing) (session : ℕ) (call : Call) where
   pub auto_at : (g : Target) (db : List ℕ) (found : FoundDb) → StandsAt most observable history e st → AreSound st → e.engine.kept.fault ≡ None → MayCall st session true → IsFoundFor st session call db found None g → IsOnRecords db call →
@@ -68,9 +70,10 @@ module _ {D : Type 0} (most : ℕ) (observable : Bool) (history : D → History)
     valid = sym at.fault ∙ valid;
     bare = may.bare;
     db = db;
-    found = found;
     records = records;
-    on = on;
+    late = on.late;
+    target = on.target;
+    stands = on.stands;
     outside = outside;
     left = has_number st.last_txn (sym (ap (number_refusal st.last_txn) outside) ∙ late_number st session call on.late);
   }
@@ -92,20 +95,6 @@ module _ {D : Type 0} (most : ℕ) (observable : Bool) (history : D → History)
     pub its_active : active_of session (begun st session).actives ≡ Some a
     its_active = begun_found st.actives a may.outside
 
-    pub may_plan : CanPlan (known_of (cells_of e.engine.trees) e.engine.kept.totals e.engine.kept.last_db)
-    may_plan =
-        let makes = subst (λ (n : ℕ). Rattle.txn_log.specs.Committing.MakesStore (committed (cells_of e.engine.trees)) n st) (sym may.at.last_db) (may.at.valid may.valid).makes in
-        record {
-          environment = makes.environment;
-          rising = makes.rising;
-          unused = makes.unused;
-          numbers = makes.numbers;
-          totals = may.at.totals ∙ ap totals_of (sym makes.store);
-        }
-
-    pub has_model : HasModel (known_of (cells_of e.engine.trees) e.engine.kept.totals e.engine.kept.last_db) (alone_in st)
-    has_model = record { store = (may.at.valid may.valid).makes.store; last_db = may.at.last_db; below = ltb-true st.last_txn LAST_TXN may.left }
-
     pub number_is : e.engine.kept.last_txn + 1 ≡ next_txn st.last_txn
     number_is = ap (λ (n : ℕ). n + 1) may.at.last_txn ∙ sym (next_is st.last_txn may.left)
 
@@ -119,8 +108,8 @@ module _ {D : Type 0} (most : ℕ) (observable : Bool) (history : D → History)
         record { actives = there.actives; own = there.own; places = there.places; waiting = there.waiting; locks = there.locks }
 
     -- its needs
-    pub needs_auto : (needs : List Need) (db : List ℕ) (kind : Kind) → g.database.name ≡ db → g.database.kind ≡ kind → needs ≡ needs_in (begun st session) a call g → AreNeedsOf (begun st session) session call db kind needs a g
-    needs_auto needs db kind name its_kind is = record { its = its_active; alone = may.on.alone; name = name; its_kind = its_kind; each = is }
+    pub needs_auto : (needs : List Need) (db : List ℕ) (kind : Kind) (others : List NamedDb) → IsNamedAs db kind others g → needs ≡ needs_in (begun st session) a call g → AreNeedsOf (begun st session) session call db kind others needs a g
+    needs_auto needs db kind others named is = record { its = its_active; name = named.name; its_kind = named.its_kind; beside = named.beside; each = is }
 
     -- it has them all
     pub taken_auto : (s : Sessions) (needs : List Need) → needs ≡ needs_in (begun st session) a call g → HasTaken s true a needs (begun st session) → HasTaken s true a (needs_in (begun st session) a call g) (begun st session)

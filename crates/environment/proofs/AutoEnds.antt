@@ -7,18 +7,19 @@ use Rattle.store_model.specs.declared.answer.Answer.{Answer}
 use Rattle.store_model.specs.declared.answer.Fault.TheVariants.{Disk}
 use Rattle.store_model.specs.declared.call.Call.{Call}
 use Rattle.store_model.specs.declared.call.Call.TheVariants.{Get, GetBoth, Put, Delete}
+use Rattle.store_model.specs.declared.change.Change.{Change}
 use Rattle.store_model.specs.declared.need.Need.{Need}
 use Rattle.store_model.specs.declared.record_change.RecordChange.{RecordChange}
 use Rattle.store_model.specs.declared.victim.Victim.{Victim}
 use Rattle.store_model.specs.Evaluation.{Outcome, answers}
-use Rattle.store_model.specs.Indexes.{answer_through}
+use Rattle.store_model.specs.Indexes.{all_changes, answer_through}
 use Rattle.store_model.specs.Records.{Evaluated, evaluation}
 use Rattle.store_model.specs.Refusals.{next_txn, or_refusal}
 use Rattle.store_model.specs.Store.{all_pairs_changed}
 use Rattle.db_catalog.specs.Planning.{outcome_unless}
 use Rattle.je_answers.specs.declared.active.Active.{Active}
 use Rattle.je_answers.specs.Standing.{Standing, active_of}
-use Rattle.je_answers.specs.Views.{Target, answered_with, needs_in, of_db, outcome_of, target_of}
+use Rattle.je_answers.specs.Views.{Target, answered_with, needs_in, of_db, outcome_of, target_of, with_names}
 use Rattle.je_answers.specs.Refusals.{late_refusal, name_refusal, number_refusal, target_refusal, there_refusal}
 use Rattle.je_answers.specs.Alone.{alone, changes_of_call, evaluated_on}
 use Rattle.je_answers.specs.Locking.{all_got}
@@ -40,7 +41,7 @@ use Rattle.engine.proofs.CalmAnswers.{IsCalm, faultless, unnumbered}
 use Rattle.environment.proofs.PlacesLaws.{gone_again}
 use Rattle.environment.specs.declared.environment.Environment.{Environment}
 use Rattle.environment.specs.declared.outcome.Outcome.{Outcome as Told}
-use Rattle.environment.specs.Auto.{IsAutoAt, alone_in}
+use Rattle.environment.specs.Auto.{IsAutoAt, alone_in, changes_auto, outcome_auto}
 use Rattle.environment.specs.Calls.{HasCause, IsOnRecords}
 use Rattle.environment.specs.Steps.{ComesTo, HasCome, HasNotCome, IsLogStep}
 use Rattle.environment.specs.Valid.{AreBare, fitting}
@@ -108,7 +109,7 @@ module _ {D : Type 0} (observable : Bool) (history : D → History) (sync_out re
   none_yet = none_own st a may.sound may.left refl
 
   pub plan_is : outcome_alone (alone_in st) session call ≡ outcome_on call (Some g)
-  plan_is = plan_by st session call may.db None (Some g) may.records (sym (late_outside st session call may.db may.records may.outside) ∙ may.on.late) may.on.target
+  plan_is = plan_by st session call may.db None (Some g) may.records (sym (late_outside st session call may.db may.records may.outside) ∙ may.late) may.target
 
   pub evaluates : outcome_of there a call g ≡ evaluated_on call g
   evaluates = outcome_is st session call g none_yet
@@ -131,7 +132,7 @@ module _ {D : Type 0} (observable : Bool) (history : D → History) (sync_out re
       let owed_old = owed_is e.sessions st may.at.sessions_at in
       let fewer : owing after ≤ owing there = leaves.owing in
       let same = owing_begun st a none_yet in
-      come_taken observable history sync_out read_out read_of most e (with_begun e last s) st session line call g answer victims may.db (Some stop.need) may.records may.on.late may.outside may.on.target stop.first (record {
+      come_taken observable history sync_out read_out read_of most e (with_begun e last s) st session line call g answer victims may.db (Some stop.need) may.records may.late may.outside may.target stop.first (record {
         limit = None;
         has_limit = refl;
         answers = stop.answers;
@@ -184,7 +185,7 @@ module _ {D : Type 0} (observable : Bool) (history : D → History) (sync_out re
       let both : outcome_on call (Some g) ≡ answers answer = sym plan_is ∙ plan in
       let answer_is : answer ≡ ev.answer = sym (ap (λ (o : Outcome). o.answer) both) in
       let none : ev.changes ≡ [] = none_on g ev.changes (ap (λ (o : Outcome). o.changes) both) in
-      come_ready observable history sync_out read_out read_of most e (with_begun e last s) st session line call g answer may.db ev may.records may.on.late may.outside may.on.target free evaluates
+      come_ready observable history sync_out read_out read_of most e (with_begun e last s) st session line call g answer may.db ev may.records may.late may.outside may.target free evaluates
       (by_changes ev ev.changes refl none answer_is)
     where
       back_own : (more : List (ℕ × RecordChange)) → Rattle.je_answers.specs.Standing.with_at a.txn.0 [] (Rattle.je_answers.specs.Standing.with_at a.txn.0 (st.own a.txn.0 ++ more) st.own) ≡ st.own
@@ -240,6 +241,17 @@ module _ {D : Type 0} (observable : Bool) (history : D → History) (sync_out re
         log = same_buffer e.engine.trees.log;
         near = near_fewer e s e.engine.kept.last_txn (omega (arith, owed_new, owed_old));
       }
+
+-- what it comes to where no limit is asked
+pub outcome_is_auto : {D : Type 0} (observable : Bool) (history : D → History) (most : ℕ) (e : Environment D) (st : Standing) (session : ℕ) (call : Call) (g : Target) → IsAutoAt most observable history e st session call g →
+    outcome_alone (alone_in st) session call ≡ record { answer = (outcome_auto st session call g).answer; changes = with_names (changes_auto st session call g) }
+outcome_is_auto {D} observable history most e st session call g may =
+    let none = none_yet observable history (λ (d : D). None) (λ (d : D). None) (λ (d : D). 0) most e st session call g may in
+    let same : outcome_auto st session call g ≡ evaluated_on call g = outcome_is st session call g none in
+    let seen : with_names (changes_auto st session call g) ≡ changes_of_call g (outcome_auto st session call g).changes =
+    ap (λ (own : List (ℕ × RecordChange)). with_names (all_changes g.over (g.db, g.database) g.indexes (λ d. all_pairs_changed d.1.kind (of_db d.0 own) d.1.pairs) (outcome_auto st session call g).changes)) none in
+    plan_is observable history (λ (d : D). None) (λ (d : D). None) (λ (d : D). 0) most e st session call g may
+    ∙ sym (ap₂ (λ (a : Answer) (l : List Change). let o : Outcome = record { answer = a; changes = l } in o) (ap (λ (v : Evaluated). v.answer) same) (seen ∙ ap (λ (v : Evaluated). changes_of_call g v.changes) same))
 
 -- what is far of no memory is said of the result
 pub near_by : {D : Type 0} (observable : Bool) (history : D → History) (sync_out read_out : D → Option ℕ) (read_of : D → ℕ) (most : ℕ) (old new : Environment D) (st : Standing) (session line : ℕ) (call : Call) (result : Result Told AllocError) →

@@ -5,7 +5,9 @@ use Rattle.std.specs.List.{AllByRecursion}
 use Rattle.std.specs.declared.alloc.AllocError.{AllocError}
 use Rattle.std.proofs.lemmas.Bool.{ltb-true}
 use Rattle.je_disk.specs.Moments.{History, now}
+use Rattle.je_order.specs.declared.name.Name.{Name}
 use Rattle.je_order.specs.declared.txn_id.TxnId.{TxnId}
+use Rattle.je_order.proofs.Lists.{all_weaker}
 use Rattle.store_model.specs.declared.answer.Answer.{Answer}
 use Rattle.store_model.specs.declared.answer.Answer.TheVariants.{Logged, LogFull, IdsEnded, DiskFault}
 use Rattle.store_model.specs.declared.answer.Fault.TheVariants.{Disk}
@@ -20,17 +22,17 @@ use Rattle.store_model.specs.Evaluation.{Outcome}
 use Rattle.store_model.specs.Needs.{changed_name}
 use Rattle.store_model.specs.Records.{Evaluated}
 use Rattle.store_model.specs.Refusals.{made_by, next_txn}
-use Rattle.store_model.specs.Store.{all_changed}
+use Rattle.store_model.specs.Store.{all_changed, change_in}
 use Rattle.je_answers.specs.declared.active.Active.{Active}
-use Rattle.je_answers.specs.Alone.{IsAutoCommitted, committed_alone, drawn_alone, evaluated_on, faulted_alone}
-use Rattle.je_answers.specs.After.{after_changes, answered, committed as commits, ended, fate_of, faulted, moved, with_locks, with_outcome}
-use Rattle.je_answers.specs.Events.{IsLogged, auto_active, begun, due, log_limit}
+use Rattle.je_answers.specs.Alone.{IsAutoCommitted, committed_alone, drawn_alone, faulted_alone}
+use Rattle.je_answers.specs.After.{after_changes, after_fate, answered, committed as commits, committed_if_any, ended, fate_of, faulted, moved, with_locks, with_outcome}
+use Rattle.je_answers.specs.Events.{IsDone, IsLogged, auto_active, begun, due, log_limit}
 use Rattle.je_answers.specs.Journal.{is_disk_fault, tried}
 use Rattle.je_answers.specs.Locking.{all_got, first_blocked}
 use Rattle.je_answers.specs.Standing.{Standing, all_numbered}
-use Rattle.je_answers.specs.Views.{Target, changes_at, changes_on, needs_in, outcome_of}
+use Rattle.je_answers.specs.Views.{Target, changes_with, needs_in, with_names, with_numbers}
 use Rattle.log_buffer.specs.Buffer.{disk_of as disk_below, end_of, has_failed}
-use Rattle.log_replay.specs.Logging.{all_row_changes, number_named}
+use Rattle.log_replay.proofs.ListLaws.{all_to_map}
 use Rattle.log_replay.specs.Rows.{Rows}
 use Rattle.record_map.specs.Cells.{value_at}
 use Rattle.record_tree.specs.Logged.{LogsTransaction}
@@ -47,15 +49,14 @@ use Rattle.standing_laws.proofs.Stopped.{LeavesSame}
 use Rattle.standing_laws.proofs.Writers.{writers-are_free}
 use Rattle.standing_laws.proofs.NamedDatabases.{IsOfRecord}
 use Rattle.standing_laws.proofs.CursorDatabases.{all_with}
-use Rattle.je_answers.proofs.PlainTargets.{names_there}
 use Rattle.sessions.proofs.CursorStores.{sessions_changed, under_changed}
 use Rattle.txn_core.specs.declared.planned_changes.PlannedChanges.{PlannedChanges}
 use Rattle.txn_core.specs.Known.{committed}
-use Rattle.txn_core.specs.Planning.{IsPlannedLog, gone_by, outcome_alone, outcome_on, row_by}
+use Rattle.txn_core.specs.Planning.{IsPlannedLog, gone_by}
 use Rattle.txn_core.specs.Totals.{totals_of}
 use Rattle.txn_core.specs.Transactions.{LeavesWrites}
 use Rattle.txn_log.specs.Buffers.{HasAdded}
-use Rattle.txn_log.specs.Own.{row_of}
+use Rattle.txn_log.specs.Own.{tree_of}
 use Rattle.engine.specs.declared.engine.Engine.{Engine}
 use Rattle.engine.specs.Contents.{HasLogged, known, rows_after, Checkpoints}
 use Rattle.engine.specs.Limits.{IsWithin, limit_by, reach_after}
@@ -68,17 +69,17 @@ use Rattle.engine.proofs.StepLaws.{logged_at}
 use Rattle.engine.proofs.SyncedStanding.{faulted_at}
 use Rattle.environment.proofs.PlacesLaws.{gone_again, placed_again}
 use Rattle.environment.specs.declared.environment.Environment.{Environment}
-use Rattle.environment.specs.Auto.{IsAutoAt, alone_in}
+use Rattle.environment.specs.Auto.{IsAutoAt, IsLoggedAuto, alone_in, changes_auto, outcome_auto}
 use Rattle.environment.specs.Calls.{IsOnRecords}
-use Rattle.environment.specs.Steps.{HasCome, HasNotCome, IsLogStep, StandsAt}
+use Rattle.environment.specs.Changing.{IsRightIn}
+use Rattle.environment.specs.Steps.{HasCome, HasNotCome, HasStepped, IsLogStep, StandsAt}
 use Rattle.environment.specs.Valid.{IsValidWith, owed_by, fitting}
 use Rattle.environment.specs.Whole.{HasLimit, reach_of}
 use Rattle.environment.proofs.Answering.{owed_is}
-use Rattle.environment.proofs.AutoEnds.{evaluates, next, none_yet, plan_is, sessions_closed}
-use Rattle.environment.proofs.PlainCalls.{EvaluatesAlone, all_there, as_model_alone, own_changes, own_fate, plain_call}
-use Rattle.environment.specs.OwnEnds.{own_outcome}
+use Rattle.environment.proofs.AutoEnds.{next, none_yet, outcome_is_auto, sessions_closed}
+use Rattle.environment.proofs.ChangeLaws.{Changed}
 use Rattle.environment.proofs.AutoLaws.{back, come_ready, near_fewer, own_back, own_gone, same_leaves, valid_leaves}
-use Rattle.environment.proofs.AutoRows.{AreOnly, all_free, lone_valid, planned_all, rows_on}
+use Rattle.environment.proofs.AutoRows.{AreOnly, all_free, lone_valid}
 use Rattle.environment.proofs.CatalogEnds.{alone_at}
 use Rattle.environment.proofs.CatalogLogged.{are_of, drawn_same, has_limit, logged_step, stands_on, tried_step, undrawn_same, with_engine, within_below}
 use Rattle.environment.proofs.Standing.{sessions_faulted}
@@ -97,23 +98,31 @@ head_of c [] = c
 head_of c (x ∷ xs) = x
 
 -- changes of records take no database out, and make none
-no_gone : (rows : Rows) (g : Target) (cs : List RecordChange) (change : Change) (more : List Change) → changes_on g cs ≡ change ∷ more → gone_by rows change ≡ None
+no_gone : (rows : Rows) (cs : List Changed) (change : Change) (more : List Change) → with_names cs ≡ change ∷ more → gone_by rows change ≡ None
 unfolding head_of
-no_gone rows g [] change more is = absurd cc
-no_gone rows g (Set at value ∷ cs) change more is = ap (gone_by rows) (sym (ap (head_of change) is))
-no_gone rows g (Unset at ∷ cs) change more is = ap (gone_by rows) (sym (ap (head_of change) is))
+no_gone rows [] change more is = absurd cc
+no_gone rows (c ∷ cs) change more is = ap (gone_by rows) (sym (ap (head_of change) is)) ∙ by_change c.1
+  where
+    by_change : (r : RecordChange) → gone_by rows (change_in c.0.1.name r) ≡ None
+    by_change (Set at value) = refl
+    by_change (Unset at) = refl
 
-none_made : (g : Target) (cs : List RecordChange) → made_by (changes_on g cs) ≡ 0
-none_made g [] = refl
-none_made g (Set at value ∷ cs) = let rest = none_made g cs in omega (arith, rest)
-none_made g (Unset at ∷ cs) = let rest = none_made g cs in omega (arith, rest)
+none_made : (cs : List Changed) → made_by (with_names cs) ≡ 0
+none_made [] = refl
+none_made (c ∷ cs) = by_change c.1 (none_made cs)
+  where
+    by_change : (r : RecordChange) → made_by (with_names cs) ≡ 0 → made_by (change_in c.0.1.name r ∷ with_names cs) ≡ 0
+    by_change (Set at value) rest = rest
+    by_change (Unset at) rest = rest
 
-all_on : (g : Target) (cs : List RecordChange) → AllByRecursion IsOfRecord (changes_on g cs)
-all_on g cs = subst (AllByRecursion IsOfRecord) (names_there g cs) (all_with (map (λ c. ((g.db, g.database), c)) cs))
+-- one that changes something is answered so, and leaves this
+done_some : (l : List RecordChange) (limit : Option Answer) (st : Standing) (a : Active) (ev : Evaluated) (answer : Answer) → l ≢ [] → IsLogged (log_limit limit) (due st a ev) answer → IsDone l limit st a ev answer
+done_some [] limit st a ev answer some is = absurd (some refl)
+done_some (c ∷ l) limit st a ev answer some is = is
 
-each_above : (P : Type 0) (cs : List RecordChange) → P → AllByRecursion (λ (c : RecordChange). P) cs
-each_above P [] p = tt
-each_above P (c ∷ cs) p = (p, each_above P cs p)
+after_some : (l : List RecordChange) (old st : Standing) (a : Active) (call : Call) (g : Target) (ev : Evaluated) (answer : Answer) → l ≢ [] → after_fate (fate_of answer) old st a call g ev ≡ after_changes l old st a call g ev answer
+after_some [] old st a call g ev answer some = absurd (some refl)
+after_some (c ∷ l) old st a call g ev answer some = refl
 
 module _ {D : Type 0} where
   -- an environment with another engine and other sessions
@@ -139,7 +148,10 @@ module _ {D : Type 0} (observable : Bool) (history : D → History) (sync_out re
   }
 
   module _ (most : ℕ) (e : Environment D) (st : Standing) (session line : ℕ) (call : Call) (g : Target) (planned : PlannedChanges) (may : IsAutoAt most observable history e st session call g)
-      (log : IsPlannedLog (known (contents_of e.engine)) (alone_in st) session call planned) (free : first_blocked (auto_active st session).txn (needs_in (begun st session) (auto_active st session) call g) st.locks.at ≡ None) where
+      (its_log : IsLoggedAuto e.engine st session call g planned) (free : first_blocked (auto_active st session).txn (needs_in (begun st session) (auto_active st session) call g) st.locks.at ≡ None) where
+    abbrev log : IsPlannedLog (known (contents_of e.engine)) (alone_in st) session call planned
+    log = its_log.log
+
     pub below : e.engine.kept.last_txn < LAST_TXN
     below = let left = ltb-true st.last_txn LAST_TXN may.left in let at = may.at.last_txn in omega (arith, left, at)
 
@@ -150,10 +162,7 @@ module _ {D : Type 0} (observable : Bool) (history : D → History) (sync_out re
     there_ = begun st session
 
     abbrev ev_ : Evaluated
-    ev_ = evaluated_on call g
-
-    abbrev with_changes : List RecordChange → Evaluated
-    with_changes l = record { answer = ev_.answer; answered = ev_.answered; changes = l; place = ev_.place }
+    ev_ = outcome_auto st session call g
 
     abbrev rows_ : Rows
     rows_ = committed (cells_of e.engine.trees)
@@ -161,11 +170,17 @@ module _ {D : Type 0} (observable : Bool) (history : D → History) (sync_out re
     abbrev all_ : List Change
     all_ = log.change ∷ log.more
 
-    plan_at : outcome_alone (alone_in st) session call ≡ outcome_on call (Some g)
-    plan_at = plan_is observable history sync_out read_out read_of most e st session call g may
+    abbrev cs_ : List Changed
+    cs_ = changes_auto st session call g
 
-    changes_eq : changes_on g ev_.changes ≡ all_
-    changes_eq = sym (plain_call g ev_.changes may.on.alone) ∙ sym (ap (λ (o : Outcome). o.changes) plan_at) ∙ log.changes
+    changes_eq : with_names cs_ ≡ all_
+    changes_eq = sym (ap (λ (o : Outcome). o.changes) (outcome_is_auto observable history most e st session call g may)) ∙ log.changes
+
+    some_ : ev_.changes ≢ []
+    some_ none = filled (sym changes_eq ∙ ap (λ (l : List RecordChange). with_names (changes_with there_ a_ g l)) none)
+      where
+        filled : all_ ≡ [] → ⊥
+        filled is = absurd cc
 
     none_own_yet : st.own a_.txn.0 ≡ []
     none_own_yet = none_yet observable history sync_out read_out read_of most e st session call g may
@@ -174,24 +189,21 @@ module _ {D : Type 0} (observable : Bool) (history : D → History) (sync_out re
     next_ = next observable history sync_out read_out read_of most e st session call g may
 
     none_gone : planned.gone ≡ None
-    none_gone = log.gone_is ∙ no_gone rows_ g ev_.changes log.change log.more changes_eq
-
-    number_is : number_named rows_ g.database.name ≡ g.db
-    number_is = (may.at.valid may.valid).makes.named g.database.name ∙ may.on.named
-
-    rows_are : map (row_by 0) planned.changes.items ≡ map row_of (map (λ (c : RecordChange). (g.db, c)) ev_.changes)
-    rows_are = log.rows 0 ∙ ap (λ (l : List Change). all_row_changes 0 e.engine.kept.last_db l rows_) (sym changes_eq) ∙ rows_on ev_.changes rows_ e.engine.kept.last_db g.db g.database.name number_is may.on.above
+    none_gone = log.gone_is ∙ no_gone rows_ cs_ log.change log.more changes_eq
 
     sound_there : AreSound there_
     sound_there = sound_begun st.last_txn st.actives st.own st.places st.waiting st.locks a_ may.sound (omega (arith, next_)) may.outside
 
+    -- what holds of the changes holds of what is logged of them
+    each_planned : (P : ℕ → Name → Type 0) → AllByRecursion (λ (c : ℕ × RecordChange). P c.0 (changed_name c.1)) (with_numbers cs_) → AllByRecursion (λ (c : TreeChange). P c.db c.name) planned.changes.items
+    each_planned P all = subst (AllByRecursion (λ (c : TreeChange). P c.db c.name)) (sym its_log.own) (all_to_map tree_of (λ (c : TreeChange). P c.db c.name) (with_numbers cs_) all)
+
     only : AreOnly a_.txn.0 st.own planned.changes.items
-    only = planned_all (λ d x. IsOnlyOf d x a_.txn.0 st.own) g.db planned.changes.items ev_.changes rows_are
-        (subst (λ (v : Evaluated). AllByRecursion (λ (c : RecordChange). IsOnlyOf g.db (changed_name c) a_.txn.0 st.own) v.changes) (evaluates observable history sync_out read_out read_of most e st session call g may)
-        (all_there (λ d c. IsOnlyOf d (changed_name c) a_.txn.0 st.own) there_ a_ g (outcome_of there_ a_ call g).changes may.on.alone (writers-are_free there_ a_ call g sound_there free)))
+    only = each_planned (λ d x. IsOnlyOf d x a_.txn.0 st.own) (writers-are_free there_ a_ call g sound_there free)
 
     above_all : AllByRecursion (λ (c : TreeChange). c.db ≢ 0) planned.changes.items
-    above_all = planned_all (λ d x. d ≢ 0) g.db planned.changes.items ev_.changes rows_are (each_above (g.db ≢ 0) ev_.changes may.on.above)
+    above_all = each_planned (λ d x. d ≢ 0) (all_to_map (λ (c : Changed). (c.0.0, c.1)) (λ (c : ℕ × RecordChange). c.0 ≢ 0) cs_
+        (all_weaker (IsRightIn st) (λ (c : Changed). c.0.0 ≢ 0) (λ c is. is.above) cs_ its_log.may.right))
 
     txn_is : txn_of (e.engine.kept.last_txn + 1) ≡ a_.txn
     txn_is = ap txn_of (ap (λ (n : ℕ). n + 1) may.at.last_txn ∙ sym next_)
@@ -201,18 +213,6 @@ module _ {D : Type 0} (observable : Bool) (history : D → History) (sync_out re
         (all_free (cells_of e.engine.trees) st.own a_.txn planned.changes.items (may.at.valid may.valid).writes only)
 
     -- ---- how it comes out
-
-    by_shape : (answer : Answer) (new : Environment D) →
-        ((c : RecordChange) (cs : List RecordChange) → changes_on g (c ∷ cs) ≡ all_ → EvaluatesAlone observable history sync_out read_out read_of most e new st session call g answer (with_changes (c ∷ cs))) →
-        HasCome observable history sync_out read_out read_of most e new st session line call answer []
-    by_shape answer new each =
-        come_ready observable history sync_out read_out read_of most e new st session line call g answer may.db ev_ may.records may.on.late may.outside may.on.target free
-        (evaluates observable history sync_out read_out read_of most e st session call g may)
-        (as_model_alone observable history sync_out read_out read_of most e new st session call g answer ev_ may.on.alone (by_list ev_.changes changes_eq))
-      where
-        by_list : (l : List RecordChange) → changes_on g l ≡ all_ → EvaluatesAlone observable history sync_out read_out read_of most e new st session call g answer (with_changes l)
-        by_list [] is = absurd cc
-        by_list (c ∷ cs) is = each c cs is
 
     abbrev Found : Option Answer
     Found = limit_by (limit_in e.engine.trees planned.changes.items (owing st + 1)) e.engine.kept.last_node (length planned.changes.items)
@@ -235,26 +235,30 @@ module _ {D : Type 0} (observable : Bool) (history : D → History) (sync_out re
         record { file = omega (arith, f1, f2); node = omega (arith, n1, n2) }
 
     -- an answer, behind which it stands as it does
-    comes_by : (n : Engine D) (s : Sessions) (answer : Answer) (old : Standing) (c : RecordChange) (cs : List RecordChange) → changes_on g (c ∷ cs) ≡ all_ → Logs_ n (Ok answer) → Near_ n (Ok answer) →
-        StandsAt most observable history (with_engine e n) old → LeavesSame old (own_changes (c ∷ cs) st there_ a_ call g (with_changes (c ∷ cs)) answer) →
-        AreSessionsAt s (own_changes (c ∷ cs) st there_ a_ call g (with_changes (c ∷ cs)) answer) → HaveOwnWaits (own_changes (c ∷ cs) st there_ a_ call g (with_changes (c ∷ cs)) answer).waiting →
-        owing (own_changes (c ∷ cs) st there_ a_ call g (with_changes (c ∷ cs)) answer) ≤ owing st →
-        IsLogged (log_limit Found) (due there_ a_ (with_changes (c ∷ cs))) answer → Rattle.engine.specs.Steps.IsNumbered answer (own_changes (c ∷ cs) st there_ a_ call g (with_changes (c ∷ cs)) answer).commits →
-        (own_changes (c ∷ cs) st there_ a_ call g (with_changes (c ∷ cs)) answer).fault ≡ cond (is_disk_fault answer) (Some Disk) None →
-        IsLogStep observable history sync_out read_out read_of (is_disk_fault answer) e.engine.trees.log n.trees.log (tried all_ (fate_of answer)) →
-        EvaluatesAlone observable history sync_out read_out read_of most e (with_both e n s) st session call g answer (with_changes (c ∷ cs))
-    comes_by n s answer old c cs is logs near stands leaves sessions apart less answers numbered fault step =
-        let after : Standing = own_changes (c ∷ cs) st there_ a_ call g (with_changes (c ∷ cs)) answer in
-        record {
+    abbrev After_ : Answer → Standing
+    After_ answer = after_fate (fate_of answer) st there_ a_ call g ev_
+
+    comes_by : (n : Engine D) (s : Sessions) (answer : Answer) (old after : Standing) → After_ answer ≡ after → Logs_ n (Ok answer) → Near_ n (Ok answer) → StandsAt most observable history (with_engine e n) old → LeavesSame old after →
+        AreSessionsAt s after → HaveOwnWaits after.waiting → owing after ≤ owing st → IsLogged (log_limit Found) (due there_ a_ ev_) answer → Rattle.engine.specs.Steps.IsNumbered answer after.commits →
+        after.fault ≡ cond (is_disk_fault answer) (Some Disk) None → IsLogStep observable history sync_out read_out read_of (is_disk_fault answer) e.engine.trees.log n.trees.log (tried all_ (fate_of answer)) →
+        HasCome observable history sync_out read_out read_of most e (with_both e n s) st session line call answer []
+    comes_by n s answer old after is logs near stands leaves sessions apart less answers numbered fault step =
+        come_ready observable history sync_out read_out read_of most e (with_both e n s) st session line call g answer may.db ev_ may.records may.late may.outside may.target free refl
+        (subst (λ (l : List Change).
+        HasStepped observable history sync_out read_out read_of most e (with_both e n s) (owing st + 1) l l (λ limit. IsDone ev_.changes limit there_ a_ ev_ answer × (◌≡◌ {A = List Victim} [] []))
+        (after_changes ev_.changes st there_ a_ call g ev_ answer) answer) (sym changes_eq)
+        (subst (λ (x : Standing).
+        HasStepped observable history sync_out read_out read_of most e (with_both e n s) (owing st + 1) all_ all_ (λ limit. IsDone ev_.changes limit there_ a_ ev_ answer × (◌≡◌ {A = List Victim} [] [])) x answer)
+        (sym is ∙ after_some ev_.changes st there_ a_ call g ev_ answer some_) (record {
           limit = Found;
-          has_limit = subst (λ (l : List Change). HasLimit e (owing st + 1) l Found) (sym is) (has_limit e (owing st + 1) (alone_in st) session call planned log);
-          answers = (answers, refl);
+          has_limit = has_limit e (owing st + 1) (alone_in st) session call planned log;
+          answers = (done_some ev_.changes Found there_ a_ ev_ answer some_ answers, refl);
           here = restand most (with_engine e n) s old after stands leaves sessions apart;
           numbered = numbered;
           fault = fault;
-          logged = subst (λ (l : List Change). IsLogStep observable history sync_out read_out read_of (is_disk_fault answer) e.engine.trees.log n.trees.log (tried l (fate_of answer))) (sym is) step;
-          near = subst (λ (l : List Change). IsWithin (reach_of (with_both e n s)) (reach_after (reach_of e) l)) (sym is) (near_at n s answer logs near (fewer_owed s after sessions less));
-        }
+          logged = step;
+          near = near_at n s answer logs near (fewer_owed s after sessions less);
+        })))
 
     -- where its transaction has ended
     abbrev Closed : Sessions → Type 0
@@ -264,26 +268,18 @@ module _ {D : Type 0} (observable : Bool) (history : D → History) (sync_out re
     back_actives = back session st.actives a_ refl may.outside
 
     -- it is refused
-    refused : (n : Engine D) (s : Sessions) (answer : Answer) (c : RecordChange) (cs : List RecordChange) → changes_on g (c ∷ cs) ≡ all_ → Logs_ n (Ok answer) → Near_ n (Ok answer) →
-        StandsAt most observable history (with_engine e n) (record st { last_txn = next_txn st.last_txn }) → Closed s → fate_of answer ≡ Rattle.je_answers.specs.After.IsRefused → is_disk_fault answer ≡ false →
-        ((k : ℕ) → Rattle.engine.specs.Steps.IsNumbered answer k) → IsLogged (log_limit Found) (due there_ a_ (with_changes (c ∷ cs))) answer →
-        IsLogStep observable history sync_out read_out read_of false e.engine.trees.log n.trees.log [] →
-        EvaluatesAlone observable history sync_out read_out read_of most e (with_both e n s) st session call g answer (with_changes (c ∷ cs))
-    refused n s answer c cs is logs near stands closed fate calm numbered answers step =
+    refused : (n : Engine D) (s : Sessions) (answer : Answer) → Logs_ n (Ok answer) → Near_ n (Ok answer) → StandsAt most observable history (with_engine e n) (record st { last_txn = next_txn st.last_txn }) → Closed s →
+        fate_of answer ≡ Rattle.je_answers.specs.After.IsRefused → is_disk_fault answer ≡ false → ((k : ℕ) → Rattle.engine.specs.Steps.IsNumbered answer k) → IsLogged (log_limit Found) (due there_ a_ ev_) answer →
+        IsLogStep observable history sync_out read_out read_of false e.engine.trees.log n.trees.log [] → HasCome observable history sync_out read_out read_of most e (with_both e n s) st session line call answer []
+    refused n s answer logs near stands closed fate calm numbered answers step =
         let after : Standing = ended a_ (answered a_ call g there_) in
         let drawn : Standing = record st { last_txn = next_txn st.last_txn } in
-        let same : own_changes (c ∷ cs) st there_ a_ call g (with_changes (c ∷ cs)) answer ≡ after =
-        ap (λ (f : Rattle.je_answers.specs.After.Fate). own_fate f st there_ a_ call g (with_changes (c ∷ cs))) fate in
         let own_is : after.own ≡ st.own = own_gone a_.txn.0 st.own none_own_yet in
         let leaves : LeavesSame drawn after = same_leaves drawn after refl refl refl refl refl refl refl own_is back_actives in
         let less : owing after ≤ owing drawn = leaves.owing in
         let sessions : AreSessionsAt s after = sessions_closed observable history sync_out read_out read_of most e st session call g may s [] after closed refl (λ u. u) refl own_is (λ n. refl) refl refl in
-        comes_by n s answer drawn c cs is logs near stands
-        (subst (LeavesSame drawn) (sym same) leaves)
-        (subst (AreSessionsAt s) (sym same) sessions)
-        (subst (λ (x : Standing). HaveOwnWaits x.waiting) (sym same) may.at.apart)
-        (subst (λ (x : Standing). owing x ≤ owing st) (sym same) less) answers (numbered _)
-        (ap (λ (x : Standing). x.fault) same ∙ may.valid ∙ ap (λ (b : Bool). cond b (Some Disk) None) (sym calm))
+        comes_by n s answer drawn after (ap (λ (f : Rattle.je_answers.specs.After.Fate). after_fate f st there_ a_ call g ev_) fate) logs near stands leaves sessions may.at.apart less answers (numbered _)
+        (may.valid ∙ ap (λ (b : Bool). cond b (Some Disk) None) (sym calm))
         (subst (λ (b : Bool). IsLogStep observable history sync_out read_out read_of b e.engine.trees.log n.trees.log (tried all_ (fate_of answer))) (sym calm)
         (subst (λ (f : Rattle.je_answers.specs.After.Fate). IsLogStep observable history sync_out read_out read_of false e.engine.trees.log n.trees.log (tried all_ f)) (sym fate) step))
 
@@ -317,29 +313,23 @@ module _ {D : Type 0} (observable : Bool) (history : D → History) (sync_out re
 
     pub comes_logged : (n : Engine D) (s : Sessions) (commit : ℕ) → Logs_ n (Ok (Logged commit)) → Near_ n (Ok (Logged commit)) → LeavesOthers e.engine.trees n.trees planned (owing st + 1) → Closed s →
         HasCome observable history sync_out read_out read_of most e (with_both e n s) st session line call (Logged commit) []
-    comes_logged n s commit logs near leaves closed = by_shape (Logged commit) (with_both e n s) by_changes
-      where
-        number : commit ≡ st.commits + 1
-        number = logs.0 ∙ ap (λ (x : ℕ). x + 1) may.at.commits
-
-        by_changes : (c : RecordChange) (cs : List RecordChange) → changes_on g (c ∷ cs) ≡ all_ → EvaluatesAlone observable history sync_out read_out read_of most e (with_both e n s) st session call g (Logged commit) (with_changes (c ∷ cs))
-        by_changes c cs is =
-            let after : Standing = ended a_ (commits (changes_on g (c ∷ cs)) (own_outcome a_ call g (with_changes (c ∷ cs)) (answered a_ call g there_))) in
-            let own_is : after.own ≡ st.own = own_back a_.txn.0 (st.own a_.txn.0 ++ changes_at g.db (c ∷ cs)) st.own none_own_yet in
-            let same : LeavesSame Done_ after =
-            same_leaves Done_ after (ap (λ (l : List Change). all_changed l st.store) is) (ap (λ (l : List Change). all_numbered l st.last_db st.numbers) is) refl (ap (λ (l : List Change). st.last_db + made_by l) is) refl refl refl own_is
-            back_actives in
-            let less : owing after ≤ owing Done_ = same.owing in
-            comes_by n s (Logged commit) Done_ c cs is logs near
-            (stands_on observable history sync_out read_out read_of most e n st (committed_alone all_ (drawn_alone (alone_in st))) may.at
-            (sessions_changed e.sessions all_ st.last_db st (subst (AllByRecursion IsOfRecord) is (all_on g (c ∷ cs))) may.at.sessions_at)
-            (logged_at observable history sync_out read_out read_of most e.engine.trees.log n.trees.log (contents_of e.engine) (contents_of n) (alone_in st) session call planned (alone_at most observable history e st may.at) may.valid below log logs.2 logs.1
-            logs.4 logs.5)
-            (λ valid. valid_logged n logs.2 logs.1 leaves logs.4 logs.5))
-            same (sessions_closed observable history sync_out read_out read_of most e st session call g may s [] after closed refl
-            (under_changed s.cursors (changes_on g (c ∷ cs)) st.store st.last_db st.numbers (all_on g (c ∷ cs))) refl own_is (gone_again a_.session (moved call (with_changes (c ∷ cs)).place (st.places a_.session)) st.places) refl refl) may.at.apart less
-            (subst (λ (l : Option Answer). IsLogged (log_limit l) (Logged (st.commits + 1)) (Logged commit)) (sym logs.3) (inl (ap Logged number))) number may.valid
-            (logged_step observable history sync_out read_out read_of most e st session call planned may.at may.valid log logs.2 n logs.4)
+    comes_logged n s commit logs near leaves closed =
+        let number : commit ≡ st.commits + 1 = logs.0 ∙ ap (λ (x : ℕ). x + 1) may.at.commits in
+        let with_own_ : Standing = with_outcome a_ call g ev_ (answered a_ call g there_) in
+        let after : Standing = ended a_ (commits all_ with_own_) in
+        let own_is : after.own ≡ st.own = own_back a_.txn.0 (st.own a_.txn.0 ++ with_numbers (changes_with (answered a_ call g there_) a_ g ev_.changes)) st.own none_own_yet in
+        let same : LeavesSame Done_ after = same_leaves Done_ after refl refl refl refl refl refl refl own_is back_actives in
+        let less : owing after ≤ owing Done_ = same.owing in
+        comes_by n s (Logged commit) Done_ after (ap (λ (l : List Change). ended a_ (committed_if_any l with_own_)) changes_eq) logs near
+        (stands_on observable history sync_out read_out read_of most e n st (committed_alone all_ (drawn_alone (alone_in st))) may.at
+        (sessions_changed e.sessions all_ st.last_db st (subst (AllByRecursion IsOfRecord) changes_eq (all_with cs_)) may.at.sessions_at)
+        (logged_at observable history sync_out read_out read_of most e.engine.trees.log n.trees.log (contents_of e.engine) (contents_of n) (alone_in st) session call planned (alone_at most observable history e st may.at) may.valid below log logs.2 logs.1
+        logs.4 logs.5)
+        (λ valid. valid_logged n logs.2 logs.1 leaves logs.4 logs.5))
+        same (sessions_closed observable history sync_out read_out read_of most e st session call g may s [] after closed refl
+        (under_changed s.cursors all_ st.store st.last_db st.numbers (subst (AllByRecursion IsOfRecord) changes_eq (all_with cs_))) refl own_is (gone_again a_.session (moved call ev_.place (st.places a_.session)) st.places) refl refl) may.at.apart less
+        (subst (λ (l : Option Answer). IsLogged (log_limit l) (Logged (st.commits + 1)) (Logged commit)) (sym logs.3) (inl (ap Logged number))) number may.valid
+        (logged_step observable history sync_out read_out read_of most e st session call planned may.at may.valid log logs.2 n logs.4)
 
     drawn_on : (n : Engine D) → Rattle.engine.specs.Contents.IsSame (Rattle.engine.specs.Contents.drawn_contents (contents_of e.engine)) (contents_of n) → Rattle.log_buffer.specs.Buffer.IsUnchanged e.engine.trees.log n.trees.log →
         Rattle.engine.specs.Whole.AreSameCells e.engine.trees n.trees → StandsAt most observable history (with_engine e n) (record st { last_txn = next_txn st.last_txn })
@@ -347,37 +337,35 @@ module _ {D : Type 0} (observable : Bool) (history : D → History) (sync_out re
 
     pub comes_full : (n : Engine D) (s : Sessions) → Logs_ n (Ok LogFull) → Near_ n (Ok LogFull) → Rattle.engine.specs.Whole.AreSameCells e.engine.trees n.trees → Closed s →
         HasCome observable history sync_out read_out read_of most e (with_both e n s) st session line call LogFull []
-    comes_full n s logs near cells closed = by_shape LogFull (with_both e n s) (λ c cs is.
-        refused n s LogFull c cs is logs near (drawn_on n logs.1 logs.2 cells) closed refl refl (λ k. tt)
-        (subst (λ (l : Option Answer). IsLogged (log_limit l) (Logged (st.commits + 1)) LogFull) (sym logs.0) refl) (inl (logs.2, refl)))
+    comes_full n s logs near cells closed =
+        refused n s LogFull logs near (drawn_on n logs.1 logs.2 cells) closed refl refl (λ k. tt) (subst (λ (l : Option Answer). IsLogged (log_limit l) (Logged (st.commits + 1)) LogFull) (sym logs.0) refl) (inl (logs.2, refl))
 
     pub comes_ended : (n : Engine D) (s : Sessions) → Logs_ n (Ok IdsEnded) → Near_ n (Ok IdsEnded) → Rattle.engine.specs.Whole.AreSameCells e.engine.trees n.trees → Closed s → e.engine.kept.last_db ≤ LAST_DATABASE →
         HasCome observable history sync_out read_out read_of most e (with_both e n s) st session line call IdsEnded []
-    comes_ended n s logs near cells closed few = by_shape IdsEnded (with_both e n s) (λ c cs is.
-        refused n s IdsEnded c cs is logs near (drawn_on n logs.1 logs.2 cells) closed refl refl (λ k. tt) (by_limit logs.0) (inl (logs.2, refl)))
+    comes_ended n s logs near cells closed few = refused n s IdsEnded logs near (drawn_on n logs.1 logs.2 cells) closed refl refl (λ k. tt) (by_limit logs.0) (inl (logs.2, refl))
       where
         by_limit : (Found ≡ Some IdsEnded) ⊎ ((Found ≡ None) × (LAST_DATABASE < planned.last_db)) → IsLogged (log_limit Found) (Logged (st.commits + 1)) IdsEnded
         by_limit (inl is) = subst (λ (l : Option Answer). IsLogged (log_limit l) (Logged (st.commits + 1)) IdsEnded) (sym is) refl
         by_limit (inr past) =
             let made = ap made_by changes_eq in
-            let none = none_made g ev_.changes in
+            let none = none_made cs_ in
             let last = log.last_db in
             let over = past.1 in
             absurd (omega (arith, made, none, last, over, few))
 
     pub comes_failed : (n : Engine D) (s : Sessions) → Logs_ n (Ok DiskFault) → Near_ n (Ok DiskFault) → AreSessionsAt s (faulted st) →
         HasCome observable history sync_out read_out read_of most e (with_both e n s) st session line call DiskFault []
-    comes_failed n s logs near back_at = by_shape DiskFault (with_both e n s) (λ c cs is.
+    comes_failed n s logs near back_at =
         let after : Standing = faulted st in
         let same : LeavesSame after after = same_leaves after after refl refl refl refl refl refl refl refl refl in
-        comes_by n s DiskFault after c cs is logs near
+        comes_by n s DiskFault after after refl logs near
         (stands_on observable history sync_out read_out read_of most e n st (faulted_alone (alone_in st)) may.at (sessions_faulted e.sessions st st.begun may.at.sessions_at)
         (faulted_at most observable (now (history (disk_below e.engine.trees.log))) (now (history (disk_below n.trees.log))) e.engine.trees.log n.trees.log (contents_of e.engine) (contents_of n) (alone_in st) st.begun
         (alone_at most observable history e st may.at) logs.0 logs.3.tried.max)
         (λ valid. absurd cc))
         same back_at may.at.apart (omega arith)
         (subst (λ (l : Option Answer). IsLogged (log_limit l) (Logged (st.commits + 1)) DiskFault) (sym logs.2) (inr refl)) tt refl
-        (tried_step observable history sync_out read_out read_of most e st session call planned may.at may.valid log logs.1 n logs.3))
+        (tried_step observable history sync_out read_out read_of most e st session call planned may.at may.valid log logs.1 n logs.3)
 
     pub comes_not : (n : Engine D) (s : Sessions) (error : AllocError) → Logs_ n (Err error) → Near_ n (Err error) → Rattle.engine.specs.Whole.AreSameCells e.engine.trees n.trees → AreSessionsAt s st →
         HasNotCome observable history sync_out read_out read_of most e (with_both e n s) st

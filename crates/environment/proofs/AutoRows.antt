@@ -68,44 +68,6 @@ use Rattle.environment.specs.Valid.{IsValidWith, active_number, Forest, Lives}
 use Rattle.environment.specs.Written.{AreNamesOf}
 use Rattle.environment.proofs.AutoLaws.{own_gone}
 
--- ---- what is logged of changes of one database
-
-same_name : (r : RowChange) (rows : Rows) (d : ℕ) (name : List ℕ) → number_named rows name ≡ d → d ≢ 0 → r.db ≡ d → number_named (row_changed r rows) name ≡ d
-same_name r rows d name is above db =
-    ap (λ (l : List Row). number_or_0 (record_in (data_at (plain_name name) l))) (row_changed-there r rows 0 (λ e. above (sym db ∙ sym e))) ∙ is
-
-pub rows_on : (cs : List RecordChange) (rows : Rows) (last d : ℕ) (name : List ℕ) → number_named rows name ≡ d → d ≢ 0 →
-    all_row_changes 0 last (map (λ c. change_in name c) cs) rows ≡ map row_of (map (λ c. (d, c)) cs)
-rows_on [] rows last d name is above = refl
-rows_on (Set at value ∷ cs) rows last d name is above =
-    let r : ℕ → RowChange = λ n. record { txn = 0; db = n; name = at; value = Some value } in
-    ap₂ (λ (n : ℕ) (l : List RowChange). r n ∷ l) is
-    (rows_on cs (row_changed (r (number_named rows name)) rows) (last + 0) d name (same_name (r (number_named rows name)) rows d name is above is) above)
-rows_on (Unset at ∷ cs) rows last d name is above =
-    let r : ℕ → RowChange = λ n. record { txn = 0; db = n; name = at; value = None } in
-    ap₂ (λ (n : ℕ) (l : List RowChange). r n ∷ l) is
-    (rows_on cs (row_changed (r (number_named rows name)) rows) (last + 0) d name (same_name (r (number_named rows name)) rows d name is above is) above)
-
-head_or : RowChange → List RowChange → RowChange
-head_or z [] = z
-head_or z (x ∷ xs) = x
-
-rest_of : List RowChange → List RowChange
-rest_of [] = []
-rest_of (x ∷ xs) = xs
-
--- what holds of the changes of records holds of those of trees that log them
-pub planned_all : (P : ℕ → Name → Type 0) (d : ℕ) (planned : List TreeChange) (cs : List RecordChange) → map (row_by 0) planned ≡ map row_of (map (λ c. (d, c)) cs) → AllByRecursion (λ c. P d (changed_name c)) cs →
-    AllByRecursion (λ c. P c.db c.name) planned
-unfolding head_or rest_of
-planned_all P d [] cs same all = tt
-planned_all P d (p ∷ ps) [] same all = absurd cc
-planned_all P d (p ∷ ps) (c ∷ cs) same all =
-    let one : row_by 0 p ≡ row_of (d, c) = ap (head_or (row_by 0 p)) same in (
-      subst (λ (n : ℕ). P n p.name) (sym (ap (λ (r : RowChange). r.db) one)) (subst (λ (x : Name). P d x) (sym (ap (λ (r : RowChange). r.name) one)) all.0),
-      planned_all P d ps cs (ap rest_of same) all.1,
-    )
-
 -- ---- names that nobody else has changed
 
 abbrev pub AreOnly : ℕ → (ℕ → List OwnChange) → List TreeChange → Type 0

@@ -3,21 +3,21 @@ use Rattle.std.specs.Prelude.{is_some}
 use Rattle.std.proofs.Common.{◌≡◌, ◌≢◌, ◌∙◌, ◌⊎◌, inl, inr, ℕ, zero, suc, ◌+◌, ◌≤◌, Bool, true, false, true≢false, cond, List, [], ◌∷◌, ◌++◌, count_by, filter, length, map, Ok, Option, None, Some, refl, ap, ap₂, sym, subst, arith}
 use Rattle.std.proofs.lemmas.Bool.{eq-eqb}
 use Rattle.std.proofs.lemmas.List.{append-nil, length-map}
-use Rattle.std.proofs.lemmas.List.Sums.{length-filter}
+use Rattle.std.specs.List.{AllByRecursion}
 use Rattle.je_disk.specs.Moments.{History}
 use Rattle.store_model.specs.declared.answer.Answer.{Answer}
 use Rattle.store_model.specs.declared.answer.Answer.TheVariants.{Logged, LogFull, IdsEnded, DiskFault}
 use Rattle.store_model.specs.declared.call.Call.{Call}
 use Rattle.store_model.specs.declared.change.Change.{Change}
 use Rattle.store_model.specs.declared.record_change.RecordChange.{RecordChange}
-use Rattle.store_model.specs.declared.record_change.RecordChange.TheVariants.{Set, Unset}
 use Rattle.store_model.specs.declared.victim.Victim.{Victim}
 use Rattle.store_model.specs.Records.{Evaluated}
 use Rattle.je_answers.specs.declared.active.Active.{Active}
-use Rattle.je_answers.specs.Standing.{Standing, active_of, database_at}
-use Rattle.je_answers.specs.Views.{Target, changes_at, changes_named, changes_on, needs_in, outcome_of}
+use Rattle.je_answers.specs.Standing.{Standing, active_of}
+use Rattle.je_answers.specs.Views.{Target, changes_named, changes_with, needs_in, outcome_of, with_names, with_numbers}
+use Rattle.je_answers.proofs.SameViews.{answered_changes}
 use Rattle.je_answers.specs.Events.{IsLogged, log_limit}
-use Rattle.je_answers.specs.After.{answered, closed, ended, fate_of, faulted, with_locks, with_outcome}
+use Rattle.je_answers.specs.After.{after_fate, answered, closed, ended, fate_of, faulted, with_locks}
 use Rattle.je_answers.specs.After.{committed as committed_to}
 use Rattle.je_answers.specs.After.Fate.{Succeeds}
 use Rattle.je_answers.specs.Journal.{changes_closed, is_disk_fault}
@@ -32,7 +32,6 @@ use Rattle.log_buffer.specs.Growth.{Grew, log_with_all, longer}
 use Rattle.log_buffer.proofs.GrowthLaws.{grew_then, grew_unchanged, tried_then, with_all-append}
 use Rattle.crash_recovery.specs.Recovery.{RecoversLog}
 use Rattle.standing_laws.specs.Right.{AreNumbered}
-use Rattle.txn_log.proofs.AtStandingLaws.{named_are_on}
 use Rattle.engine.proofs.CalmAnswers.{IsCalm, faultless}
 use Rattle.engine.specs.Limits.{IsWithin, reach_after}
 use Rattle.environment.specs.declared.environment.Environment.{Environment}
@@ -41,13 +40,14 @@ use Rattle.environment.specs.declared.wrote.Wrote.TheVariants.{Done, Full, NoNum
 use Rattle.environment.specs.Committing.{HasNotSettled, HasSettled, is_set}
 use Rattle.environment.specs.Ending.{HasAbandoned}
 use Rattle.environment.specs.Limits.{owing_with}
-use Rattle.environment.specs.OwnEnds.{AreEndedBy, HasPushedAndLogged, WritesAs, own_outcome}
+use Rattle.environment.specs.OwnEnds.{AreEndedBy, HasPushedAndLogged, answer_for}
 use Rattle.environment.specs.Steps.{HasFailedWith, HasGrown, HasStepped, IsLogStep, RecoversWith, StandsAt}
 use Rattle.environment.specs.Whole.{HasLimit, reach_of}
 use Rattle.environment.specs.Written.{had_at}
 use Rattle.environment.proofs.CommitLaws.{failed_then, grown_then, had_within, is_under_way, owing_one, settled, settled_near}
 use Rattle.environment.proofs.FinishLaws.{Takes, in_sessions}
-use Rattle.environment.proofs.PlainCalls.{EvaluatesOwn, as_model}
+use Rattle.environment.proofs.CallChanges.{all_in, names_in}
+use Rattle.environment.proofs.ChangeLaws.{Changed}
 use Rattle.environment.proofs.RecordAnswers.{calm_outcome, well_outcome}
 use Rattle.environment.specs.Valid.{owed_by}
 use Rattle.environment.specs.Writing.{WritesOwn}
@@ -59,24 +59,13 @@ use Rattle.engine.specs.declared.kept.Kept.{Kept}
 use Rattle.store_model.specs.Store.{change_in}
 use Rattle.environment.proofs.EndingLaws.{abandoned, abandoned_near, found_session}
 use Rattle.environment.proofs.EarlyLaws.{told_so}
-use Rattle.environment.proofs.OwnEnds.{owing_pushed, writes_move, writes_up}
-use Rattle.environment.specs.Access.{AccessesTo, HasAccessed, IsTakenUp, with_move}
+use Rattle.environment.proofs.OwnEnds.{evaluates_some, owing_pushed, some_evaluated, standing_by, steps_up, with_changes, writes_move}
+use Rattle.environment.specs.Access.{AccessesTo, HasAccessed, IsDbAt, IsTakenUp, with_move}
 use Rattle.environment.specs.declared.outcome.Outcome.{Outcome}
-use Rattle.db_catalog.specs.declared.found_db.FoundDb.{FoundDb}
 use Rattle.je_answers.specs.Locking.{all_got}
 
 abbrev Own : Type 0
 Own = List (ℕ × RecordChange)
-
--- ---- how many of them set a name
-
-filter_at : (db : ℕ) (cs : List RecordChange) → length (filter (λ (c : ℕ × RecordChange). is_set c.1) (changes_at db cs)) ≡ length (filter is_set cs)
-filter_at db [] = refl
-filter_at db (Set at value ∷ cs) = let rest = filter_at db cs in omega (arith, rest)
-filter_at db (Unset at ∷ cs) = filter_at db cs
-
-count_at : (db : ℕ) (cs : List RecordChange) → count_by (λ (c : ℕ × RecordChange). is_set c.1) (changes_at db cs) ≡ count_by is_set cs
-count_at db cs = sym (length-filter (λ (c : ℕ × RecordChange). is_set c.1) (changes_at db cs)) ∙ (filter_at db cs ∙ length-filter is_set cs)
 
 -- ---- answers
 
@@ -158,16 +147,20 @@ module _ {D : Type 0} (observable : Bool) (history : D → History) (sync_out re
       by (inl r) = inl (recovers_then x y first.entries h.front [] first.grew first.recovers r)
       by (inr r) = inr (recovers_then x y first.entries h.front more first.grew first.recovers r)
 
-  module _ (most : ℕ) (before old new : Environment D) (st : Standing) (a : Active) (call : Call) (g : Target) (ev : Evaluated) (change : RecordChange) (more : List RecordChange) (none : st.fault ≡ None)
-      (bare : st.own a.txn.0 ≡ []) (its : active_of a.session st.actives ≡ Some a) (there : database_at g.db st ≡ Some g.database) (auto : a.is_auto ≡ true) (calm : IsCalm ev.answer) (well : fate_of ev.answer ≡ Succeeds) where
-    abbrev ev_ : Evaluated
-    ev_ = record { answer = ev.answer; answered = ev.answered; changes = change ∷ more; place = ev.place }
+  module _ (most : ℕ) (before old new : Environment D) (st : Standing) (a : Active) (call : Call) (g : Target) (ev : Evaluated) (change : Changed) (more : List Changed) (none : st.fault ≡ None)
+      (bare : st.own a.txn.0 ≡ []) (its : active_of a.session st.actives ≡ Some a) (each : AllByRecursion (λ (c : Changed). IsDbAt st c.0) (change ∷ more)) (auto : a.is_auto ≡ true) (calm : IsCalm ev.answer)
+      (well : fate_of ev.answer ≡ Succeeds) where
+    abbrev cs : List Changed
+    cs = change ∷ more
+
+    some : with_numbers cs ≢ []
+    some is = absurd cc
 
     abbrev all_ : List Change
-    all_ = changes_on g (change ∷ more)
+    all_ = with_names cs
 
     abbrev then_ : Standing
-    then_ = own_outcome a call g ev_ (answered a call g st)
+    then_ = with_changes a call ev.place (with_numbers cs) (answered a call g st)
 
     abbrev Autos : (Bool → Standing) → Answer → Bool → Type 0
     Autos after answer is =
@@ -183,19 +176,17 @@ module _ {D : Type 0} (observable : Bool) (history : D → History) (sync_out re
     Ends after answer = Autos after answer a.is_auto
 
     abbrev Up : Wrote → Type 0
-    Up wrote = WritesAs observable history sync_out read_out read_of ev_ most before old st a call g wrote
+    Up wrote =
+        HasStepped observable history sync_out read_out read_of most before old (owing_with (Some a) st) all_ [] (λ limit. IsLogged (log_limit limit) ev.answer (answer_for wrote ev.answer)) (standing_by st a call g ev.place cs wrote) (answer_for wrote ev.answer)
 
-    own_then : then_.own a.txn.0 ≡ changes_at g.db (change ∷ more)
-    own_then = ap (λ (b : Bool). cond b (st.own a.txn.0 ++ changes_at g.db (change ∷ more)) (st.own a.txn.0)) (eq-eqb a.txn.0 a.txn.0 refl) ∙ ap (λ (l : Own). l ++ changes_at g.db (change ∷ more)) bare
+    own_then : then_.own a.txn.0 ≡ with_numbers cs
+    own_then = ap (λ (b : Bool). cond b (st.own a.txn.0 ++ with_numbers cs) (st.own a.txn.0)) (eq-eqb a.txn.0 a.txn.0 refl) ∙ ap (λ (l : Own). l ++ with_numbers cs) bare
 
     some_then : then_.own a.txn.0 ≢ []
-    some_then h = filled (sym own_then ∙ h)
-      where
-        filled : changes_at g.db (change ∷ more) ≡ [] → ⊥
-        filled e = absurd cc
+    some_then h = some (sym own_then ∙ h)
 
     named : changes_named then_ (then_.own a.txn.0) ≡ all_
-    named = ap (changes_named then_) own_then ∙ named_are_on then_ g (change ∷ more) there
+    named = ap (changes_named then_) own_then ∙ names_in st cs each
 
     pub ends_done : (records : ℕ) → Up Done → HasSettled observable history sync_out read_out read_of faults old new a.session a.txn records →
         records + had_at a.txn old.written.by_txn.entries ≡ old.engine.kept.totals.records + count_by (λ (c : ℕ × RecordChange). is_set c.1) (then_.own a.txn.0) →
@@ -258,19 +249,19 @@ module _ {D : Type 0} (observable : Bool) (history : D → History) (sync_out re
 
     -- its changes are logged, and the disk fails while its Commit is
     abbrev own_ : Standing
-    own_ = with_own a.txn.0 (changes_at g.db (change ∷ more)) st
+    own_ = with_own a.txn.0 (with_numbers cs) st
 
-    own_own : own_.own a.txn.0 ≡ changes_at g.db (change ∷ more)
+    own_own : own_.own a.txn.0 ≡ with_numbers cs
     own_own = own_then
 
     named_own : changes_named own_ (own_.own a.txn.0) ≡ all_
-    named_own = ap (changes_named own_) own_own ∙ named_are_on own_ g (change ∷ more) there
+    named_own = ap (changes_named own_) own_own ∙ names_in st cs each
 
     abbrev Logs : Type 0
-    Logs = WritesOwn observable history sync_out read_out read_of before old st a.txn.0 g (change ∷ more) (owing own_) (Ok Done)
+    Logs = WritesOwn observable history sync_out read_out read_of before old st a.txn.0 cs (owing own_) (Ok Done)
 
-    count_ : length all_ ≡ length (change ∷ more)
-    count_ = length-map (change ∷ more) (λ c. change_in g.database.name c)
+    count_ : length all_ ≡ length cs
+    count_ = length-map cs (λ c. change_in c.0.1.name c.1)
 
     pub ends_unsettled : (s : Sessions) → StandsAt most observable history before st → Logs → HasNotSettled observable history sync_out read_out read_of faults old new a.txn → AreSessionsAt s st → owing own_ ≡ owing_with (Some a) st →
         HasStepped observable history sync_out read_out read_of most before (in_sessions s new) (owing_with (Some a) st) all_ (changes_closed a.is_auto all_)
@@ -308,40 +299,37 @@ module _ {D : Type 0} (observable : Bool) (history : D → History) (sync_out re
     pub room_again : Logs → (owed : ℕ) × HasRoomFor old.engine.trees.log (commit_sizes (suc owed))
     room_again w = by (owing own_) refl
       where
-        some : own_.own a.txn.0 ≢ []
-        some h = some_then h
-
         one : owing (ended a own_) + 1 ≤ owing own_
-        one = owing_one own_ a its some
+        one = owing_one own_ a its some_then
 
         by : (n : ℕ) → owing own_ ≡ n → (owed : ℕ) × HasRoomFor old.engine.trees.log (commit_sizes (suc owed))
         by zero e = absurd (omega (arith, one, e))
         by (suc n) e = (n, w.0.room n e)
 
     -- so many of its names had a record at most
-    pub had_again : Logs → StandsAt most observable history before st → had_at a.txn old.written.by_txn.entries ≤ before.engine.kept.totals.records + count_by is_set (change ∷ more)
+    pub had_again : Logs → StandsAt most observable history before st → had_at a.txn old.written.by_txn.entries ≤ before.engine.kept.totals.records + count_by (λ (c : ℕ × RecordChange). is_set c.1) (with_numbers cs)
     had_again w here =
         let k = had_within observable history sync_out read_out read_of faults old new own_ a 0 w.0 (ap (λ (k : Kept). k.totals) w.4 ∙ here.totals) in
         let l = ap (λ (k : Kept). k.totals.records) w.4 in
-        let n = ap (λ (l : Own). count_by (λ (c : ℕ × RecordChange). is_set c.1) l) own_own ∙ count_at g.db (change ∷ more) in
+        let n = ap (λ (l : Own). count_by (λ (c : ℕ × RecordChange). is_set c.1) l) own_own in
         omega (arith, k, l, n)
 
-    pub sum_again : (records : ℕ) → Logs → records + had_at a.txn old.written.by_txn.entries ≡ before.engine.kept.totals.records + count_by is_set (change ∷ more) →
+    pub sum_again : (records : ℕ) → Logs → records + had_at a.txn old.written.by_txn.entries ≡ before.engine.kept.totals.records + count_by (λ (c : ℕ × RecordChange). is_set c.1) (with_numbers cs) →
         records + had_at a.txn old.written.by_txn.entries ≡ old.engine.kept.totals.records + count_by (λ (c : ℕ × RecordChange). is_set c.1) (then_.own a.txn.0)
     sum_again records w sum =
         let l = ap (λ (k : Kept). k.totals.records) w.4 in
-        let n = ap (λ (l : Own). count_by (λ (c : ℕ × RecordChange). is_set c.1) l) own_then ∙ count_at g.db (change ∷ more) in
+        let n = ap (λ (l : Own). count_by (λ (c : ℕ × RecordChange). is_set c.1) l) own_then in
         omega (arith, sum, l, n)
 
   -- ---- from where the call got its locks
 
-  module _ (before e : Environment D) (most session line : ℕ) (st : Standing) (a : Active) (call : Call) (db : List ℕ) (f : FoundDb) (g : Target) (answer : Answer) (changes : List RecordChange)
-      (up : IsTakenUp observable history most before e st session a call db f g answer changes) (bare : st.own a.txn.0 ≡ []) (auto : a.is_auto ≡ true) (filled : changes ≢ []) where
+  module _ (before e : Environment D) (most session line : ℕ) (st : Standing) (a : Active) (call : Call) (g : Target) (answer : Answer) (changes : Own)
+      (up : IsTakenUp observable history most before e st session a call g answer changes) (bare : st.own a.txn.0 ≡ []) (auto : a.is_auto ≡ true) (filled : changes ≢ []) where
     abbrev outcome_ : Evaluated
     outcome_ = outcome_of st a call g
 
-    abbrev as_ : List RecordChange → Evaluated
-    as_ l = record { answer = outcome_.answer; answered = outcome_.answered; changes = l; place = outcome_.place }
+    abbrev cs_ : List Changed
+    cs_ = changes_with st a g outcome_.changes
 
     calm_ : IsCalm outcome_.answer
     calm_ = calm_outcome st a call g up.records
@@ -352,78 +340,102 @@ module _ {D : Type 0} (observable : Bool) (history : D → History) (sync_out re
     its_ : active_of a.session st.actives ≡ Some a
     its_ = ap (λ (n : ℕ). active_of n st.actives) (found_session session a st.actives up.its) ∙ up.its
 
+    each_ : AllByRecursion (λ (c : Changed). IsDbAt st c.0) cs_
+    each_ = all_in st a g outcome_.changes up.on
+
+    some_ : with_numbers cs_ ≢ []
+    some_ is = filled (up.changes_are ∙ is)
+
     -- by the first of them
-    by_first : (P : List RecordChange → Type 0) → ((c : RecordChange) (cs : List RecordChange) → changes ≡ c ∷ cs → P (c ∷ cs)) → P changes
-    by_first P each = by changes refl
+    by_first : (P : List Changed → Type 0) → ((c : Changed) (l : List Changed) → cs_ ≡ c ∷ l → P (c ∷ l)) → P cs_
+    by_first P each = by cs_ refl
       where
-        by : (l : List RecordChange) → changes ≡ l → P changes
-        by [] is = absurd (filled is)
-        by (c ∷ cs) is = subst P (sym is) (each c cs is)
+        by : (l : List Changed) → cs_ ≡ l → P cs_
+        by [] is = absurd (some_ (ap with_numbers is))
+        by (c ∷ l) is = subst P (sym is) (each c l is)
+
+    each_as : (c : Changed) (l : List Changed) → cs_ ≡ c ∷ l → AllByRecursion (λ (x : Changed). IsDbAt st x.0) (c ∷ l)
+    each_as c l is = subst (AllByRecursion (λ (x : Changed). IsDbAt st x.0)) is each_
 
     -- what is told of it
     wraps : (new : Environment D) (told : Answer) (o : Outcome) → o.answer ≡ told → o.victims ≡ [] →
-        ((c : RecordChange) (cs : List RecordChange) → changes ≡ c ∷ cs → EvaluatesOwn observable history sync_out read_out read_of most before new st a call g told a.is_auto (as_ (c ∷ cs))) →
+        HasStepped observable history sync_out read_out read_of most before new (owing_with (Some a) st) (with_names cs_) (changes_closed a.is_auto (with_names cs_))
+        (λ limit. IsLogged (log_limit limit) (cond a.is_auto (Logged (st.commits + 1)) outcome_.answer) told × (◌≡◌ {A = List Victim} [] [])) (after_fate (fate_of told) st st a call g outcome_) told →
         AccessesTo observable history sync_out read_out read_of most before new st a line call g (Ok o)
-    wraps new told o is alone each =
+    wraps new told o is alone h =
         told_so (HasAccessed observable history sync_out read_out read_of most before new st a line call g) o told is alone
         (subst (Takes observable history sync_out read_out read_of most before new st a line call g told) (sym up.taken.free)
-        (as_model observable history sync_out read_out read_of most before new st a call g told a.is_auto outcome_ up.on.alone
-        (subst (λ (l : List RecordChange). EvaluatesOwn observable history sync_out read_out read_of most before new st a call g told a.is_auto (as_ l)) up.changes_are
-        (by_first (λ l. EvaluatesOwn observable history sync_out read_out read_of most before new st a call g told a.is_auto (as_ l)) each))))
+        (evaluates_some observable history sync_out read_out read_of most before new st a call g told a.is_auto outcome_ outcome_.changes refl
+        (some_evaluated observable history sync_out read_out read_of before e most session st a call g answer changes up filled) h))
 
     abbrev Came : Environment D → Wrote → Type 0
-    Came mid wrote = HasPushedAndLogged observable history sync_out read_out read_of e mid a (needs_in st a call g) st g changes (Ok wrote)
+    Came mid wrote = HasPushedAndLogged observable history sync_out read_out read_of e mid a (needs_in st a call g) st cs_ (Ok wrote)
 
-    up_as : (mid : Environment D) (s : Sessions) (wrote : Wrote) (p : Came mid wrote) → AreEndedBy wrote s a call outcome_.place (needs_in st a call g) p.more st → (c : RecordChange) (cs : List RecordChange) → changes ≡ c ∷ cs →
-        WritesAs observable history sync_out read_out read_of (as_ (c ∷ cs)) most before (in_sessions s mid) st a call g wrote
-    up_as mid s wrote p stands c cs is =
-        subst (λ (l : List RecordChange). WritesAs observable history sync_out read_out read_of (as_ l) most before (in_sessions s mid) st a call g wrote) (sym up.changes_are ∙ is)
-        (writes_up observable history sync_out read_out read_of before e most session st a call db f g answer changes up mid s wrote filled p stands)
+    -- its changes were written, before its transaction ends
+    up_as : (mid : Environment D) (s : Sessions) (wrote : Wrote) (p : Came mid wrote) → AreEndedBy wrote s a call outcome_.place (needs_in st a call g) p.more st → (c : Changed) (l : List Changed) → cs_ ≡ c ∷ l →
+        HasStepped observable history sync_out read_out read_of most before (in_sessions s mid) (owing_with (Some a) st) (with_names (c ∷ l)) [] (λ limit. IsLogged (log_limit limit) outcome_.answer (answer_for wrote outcome_.answer))
+        (standing_by st a call g outcome_.place (c ∷ l) wrote) (answer_for wrote outcome_.answer)
+    up_as mid s wrote p stands c l is =
+        subst (λ (m : List Changed). HasStepped observable history sync_out read_out read_of most before (in_sessions s mid) (owing_with (Some a) st) (with_names m) []
+        (λ limit. IsLogged (log_limit limit) outcome_.answer (answer_for wrote outcome_.answer)) (standing_by st a call g outcome_.place m wrote) (answer_for wrote outcome_.answer)) is
+        (steps_up observable history sync_out read_out read_of before e most session st a call g answer changes up mid s wrote filled p stands)
 
-    logs_as : (mid : Environment D) → Came mid Done → (c : RecordChange) (cs : List RecordChange) → changes ≡ c ∷ cs →
-        WritesOwn observable history sync_out read_out read_of before mid st a.txn.0 g (c ∷ cs) (owing (with_own a.txn.0 (changes_at g.db (c ∷ cs)) st)) (Ok Done)
-    logs_as mid p c cs is =
-        subst (λ (l : List RecordChange). WritesOwn observable history sync_out read_out read_of before mid st a.txn.0 g l (owing (with_own a.txn.0 (changes_at g.db l) st)) (Ok Done)) is
-        (writes_move observable history sync_out read_out read_of e before mid st a.txn.0 g changes (owing (with_own a.txn.0 (changes_at g.db changes) st)) (Ok Done) up.engine p.writes)
+    logs_as : (mid : Environment D) → Came mid Done → (c : Changed) (l : List Changed) → cs_ ≡ c ∷ l →
+        WritesOwn observable history sync_out read_out read_of before mid st a.txn.0 (c ∷ l) (owing (with_own a.txn.0 (with_numbers (c ∷ l)) st)) (Ok Done)
+    logs_as mid p c l is =
+        subst (λ (m : List Changed). WritesOwn observable history sync_out read_out read_of before mid st a.txn.0 m (owing (with_own a.txn.0 (with_numbers m) st)) (Ok Done)) is
+        (writes_move observable history sync_out read_out read_of e before mid st a.txn.0 cs_ (owing (with_own a.txn.0 (with_numbers cs_) st)) (Ok Done) up.engine p.writes)
+
+    -- where it ends so
+    abbrev Ends_ : Environment D → Answer → (List Changed → Standing) → List Changed → Type 0
+    Ends_ new told after l =
+        HasStepped observable history sync_out read_out read_of most before new (owing_with (Some a) st) (with_names l) (changes_closed a.is_auto (with_names l))
+        (λ limit. IsLogged (log_limit limit) (cond a.is_auto (Logged (st.commits + 1)) outcome_.answer) told × (◌≡◌ {A = List Victim} [] [])) (after l) told
+
+    counts_ : count_by (λ (c : ℕ × RecordChange). is_set c.1) changes ≡ count_by (λ (c : ℕ × RecordChange). is_set c.1) (with_numbers cs_)
+    counts_ = ap (count_by (λ (c : ℕ × RecordChange). is_set c.1)) up.changes_are
 
     pub room_now : (mid : Environment D) → Came mid Done → (owed : ℕ) × HasRoomFor mid.engine.trees.log (commit_sizes (suc owed))
-    room_now mid p = by_first (λ l. (owed : ℕ) × HasRoomFor mid.engine.trees.log (commit_sizes (suc owed)))
-        (λ c cs is. room_again most before mid mid st a call g outcome_ c cs up.valid bare its_ up.on.there auto calm_ well_ (logs_as mid p c cs is))
+    room_now mid p = by_first (λ l. (owed : ℕ) × HasRoomFor mid.engine.trees.log (commit_sizes (suc owed))) (λ c l is. room_again most before mid mid st a call g outcome_ c l up.valid bare its_ (each_as c l is) auto calm_ well_ (logs_as mid p c l is))
 
-    pub had_now : (mid : Environment D) → Came mid Done → had_at a.txn mid.written.by_txn.entries ≤ before.engine.kept.totals.records + count_by is_set changes
-    had_now mid p = by_first (λ l. had_at a.txn mid.written.by_txn.entries ≤ before.engine.kept.totals.records + count_by is_set l)
-        (λ c cs is. had_again most before mid mid st a call g outcome_ c cs up.valid bare its_ up.on.there auto calm_ well_ (logs_as mid p c cs is) up.here)
+    pub had_now : (mid : Environment D) → Came mid Done → had_at a.txn mid.written.by_txn.entries ≤ before.engine.kept.totals.records + count_by (λ (c : ℕ × RecordChange). is_set c.1) changes
+    had_now mid p =
+        let had = by_first (λ l. had_at a.txn mid.written.by_txn.entries ≤ before.engine.kept.totals.records + count_by (λ (x : ℕ × RecordChange). is_set x.1) (with_numbers l)) (λ c l is. had_again most before mid mid st a call g outcome_ c l up.valid bare its_ (each_as c l is) auto calm_ well_ (logs_as mid p c l is) up.here) in
+        let same = counts_ in
+        omega (arith, had, same)
 
     pub accesses_done : (mid new : Environment D) (s : Sessions) (records : ℕ) (o : Outcome) (p : Came mid Done) →
         AreSessionsAt s (with_move a call outcome_.place (with_locks a (all_got a.txn (needs_in st a call g) st.locks.at) (with_own a.txn.0 p.more st))) →
         HasSettled observable history sync_out read_out read_of faults (in_sessions s mid) new session a.txn records →
-        records + had_at a.txn mid.written.by_txn.entries ≡ before.engine.kept.totals.records + count_by is_set changes → o.answer ≡ Logged (st.commits + 1) → o.victims ≡ [] →
+        records + had_at a.txn mid.written.by_txn.entries ≡ before.engine.kept.totals.records + count_by (λ (c : ℕ × RecordChange). is_set c.1) changes → o.answer ≡ Logged (st.commits + 1) → o.victims ≡ [] →
         AccessesTo observable history sync_out read_out read_of most before new st a line call g (Ok o)
-    accesses_done mid new s records o p stands h sum told alone = wraps new (Logged (st.commits + 1)) o told alone (λ c cs is.
-        ends_done most before (in_sessions s mid) new st a call g outcome_ c cs up.valid bare its_ up.on.there auto calm_ well_ records (up_as mid s Done p stands c cs is)
+    accesses_done mid new s records o p stands h sum told alone = wraps new (Logged (st.commits + 1)) o told alone
+        (subst (λ (l : List Changed). HasStepped observable history sync_out read_out read_of most before new (owing_with (Some a) st) (with_names cs_) (changes_closed a.is_auto (with_names cs_))
+        (λ limit. IsLogged (log_limit limit) (cond a.is_auto (Logged (st.commits + 1)) outcome_.answer) (Logged (st.commits + 1)) × (◌≡◌ {A = List Victim} [] []))
+        (closed a.is_auto a (with_names cs_) (with_changes a call outcome_.place (with_numbers l) (answered a call g st))) (Logged (st.commits + 1))) (sym (answered_changes st a call g outcome_.changes))
+        (by_first (Ends_ new (Logged (st.commits + 1)) (λ l. closed a.is_auto a (with_names l) (with_changes a call outcome_.place (with_numbers l) (answered a call g st)))) (λ c l is. ends_done most before (in_sessions s mid) new st a call g outcome_ c l up.valid bare its_ (each_as c l is) auto calm_ well_ records (up_as mid s Done p stands c l is)
         (subst (λ (n : ℕ). HasSettled observable history sync_out read_out read_of faults (in_sessions s mid) new n a.txn records) (sym (found_session session a st.actives up.its)) h)
-        (sum_again most before mid mid st a call g outcome_ c cs up.valid bare its_ up.on.there auto calm_ well_ records (logs_as mid p c cs is)
-        (sum ∙ ap (λ (l : List RecordChange). before.engine.kept.totals.records + count_by is_set l) is)))
+        (sum_again most before mid mid st a call g outcome_ c l up.valid bare its_ (each_as c l is) auto calm_ well_ records (logs_as mid p c l is) (sum ∙ ap (λ (n : ℕ). before.engine.kept.totals.records + n) (counts_ ∙ ap (λ (m : List Changed). count_by (λ (x : ℕ × RecordChange). is_set x.1) (with_numbers m)) is))))))
 
     pub accesses_unsettled : (mid new : Environment D) (s : Sessions) (o : Outcome) → Came mid Done → HasNotSettled observable history sync_out read_out read_of faults mid new a.txn → AreSessionsAt s st → o.answer ≡ DiskFault →
         o.victims ≡ [] → AccessesTo observable history sync_out read_out read_of most before (in_sessions s new) st a line call g (Ok o)
-    accesses_unsettled mid new s o p h stands told alone = wraps (in_sessions s new) DiskFault o told alone (λ c cs is.
-        ends_unsettled most before mid new st a call g outcome_ c cs up.valid bare its_ up.on.there auto calm_ well_ s up.here (logs_as mid p c cs is) h stands
-        (owing_pushed st a g.db (c ∷ cs) (λ e. absurd cc) up.sound.numbers (is_under_way session a st.actives up.its)))
+    accesses_unsettled mid new s o p h stands told alone = wraps (in_sessions s new) DiskFault o told alone
+        (by_first (Ends_ (in_sessions s new) DiskFault (λ l. faulted st)) (λ c l is. ends_unsettled most before mid new st a call g outcome_ c l up.valid bare its_ (each_as c l is) auto calm_ well_ s up.here (logs_as mid p c l is) h stands
+        (owing_pushed st a (with_numbers (c ∷ l)) (λ e. absurd cc) up.sound.numbers (is_under_way session a st.actives up.its))))
 
     pub accesses_full : (mid new : Environment D) (s : Sessions) (o : Outcome) → Came mid Full → AreSessionsAt s (with_locks a (all_got a.txn (needs_in st a call g) st.locks.at) st) → HasAbandoned (in_sessions s mid) new session a.txn →
         o.answer ≡ LogFull → o.victims ≡ [] → AccessesTo observable history sync_out read_out read_of most before new st a line call g (Ok o)
-    accesses_full mid new s o p stands h told alone = wraps new LogFull o told alone (λ c cs is.
-        ends_full most before (in_sessions s mid) new st a call g outcome_ c cs up.valid bare its_ up.on.there auto calm_ well_ (up_as mid s Full p stands c cs is)
-        (subst (λ (n : ℕ). HasAbandoned (in_sessions s mid) new n a.txn) (sym (found_session session a st.actives up.its)) h) up.sound.numbers)
+    accesses_full mid new s o p stands h told alone = wraps new LogFull o told alone
+        (by_first (Ends_ new LogFull (λ l. closed a.is_auto a [] (answered a call g st))) (λ c l is. ends_full most before (in_sessions s mid) new st a call g outcome_ c l up.valid bare its_ (each_as c l is) auto calm_ well_ (up_as mid s Full p stands c l is)
+        (subst (λ (n : ℕ). HasAbandoned (in_sessions s mid) new n a.txn) (sym (found_session session a st.actives up.its)) h) up.sound.numbers))
 
     pub accesses_numbers : (mid new : Environment D) (s : Sessions) (o : Outcome) → Came mid NoNumbers → AreSessionsAt s (with_locks a (all_got a.txn (needs_in st a call g) st.locks.at) st) →
         HasAbandoned (in_sessions s mid) new session a.txn → o.answer ≡ IdsEnded → o.victims ≡ [] → AccessesTo observable history sync_out read_out read_of most before new st a line call g (Ok o)
-    accesses_numbers mid new s o p stands h told alone = wraps new IdsEnded o told alone (λ c cs is.
-        ends_numbers most before (in_sessions s mid) new st a call g outcome_ c cs up.valid bare its_ up.on.there auto calm_ well_ (up_as mid s NoNumbers p stands c cs is)
-        (subst (λ (n : ℕ). HasAbandoned (in_sessions s mid) new n a.txn) (sym (found_session session a st.actives up.its)) h) up.sound.numbers)
+    accesses_numbers mid new s o p stands h told alone = wraps new IdsEnded o told alone
+        (by_first (Ends_ new IdsEnded (λ l. closed a.is_auto a [] (answered a call g st))) (λ c l is. ends_numbers most before (in_sessions s mid) new st a call g outcome_ c l up.valid bare its_ (each_as c l is) auto calm_ well_ (up_as mid s NoNumbers p stands c l is)
+        (subst (λ (n : ℕ). HasAbandoned (in_sessions s mid) new n a.txn) (sym (found_session session a st.actives up.its)) h) up.sound.numbers))
 
     pub accesses_failed : (mid : Environment D) (s : Sessions) (o : Outcome) → Came mid Failed → AreSessionsAt s st → o.answer ≡ DiskFault → o.victims ≡ [] →
         AccessesTo observable history sync_out read_out read_of most before (in_sessions s mid) st a line call g (Ok o)
-    accesses_failed mid s o p stands told alone = wraps (in_sessions s mid) DiskFault o told alone (λ c cs is.
-        ends_failed most before (in_sessions s mid) (in_sessions s mid) st a call g outcome_ c cs up.valid bare its_ up.on.there auto calm_ well_ (up_as mid s Failed p stands c cs is))
+    accesses_failed mid s o p stands told alone = wraps (in_sessions s mid) DiskFault o told alone
+        (by_first (Ends_ (in_sessions s mid) DiskFault (λ l. faulted st)) (λ c l is. ends_failed most before (in_sessions s mid) (in_sessions s mid) st a call g outcome_ c l up.valid bare its_ (each_as c l is) auto calm_ well_ (up_as mid s Failed p stands c l is)))

@@ -34,11 +34,11 @@ use Rattle.environment.specs.declared.environment.Environment.{Environment}
 use Rattle.environment.specs.declared.outcome.Outcome.{Outcome}
 use Rattle.environment.specs.declared.written.OwnNames.{OwnNames}
 use Rattle.environment.specs.declared.written.Written.{Written}
-use Rattle.db_catalog.specs.declared.found_db.FoundDb.{FoundDb}
 use Rattle.environment.specs.Access.{HasAccessed, IsTakenUp, with_move}
 use Rattle.environment.specs.Limits.{owing_with, written_taken}
 use Rattle.environment.specs.Steps.{HasStepped, IsLogStep, StandsAt}
 use Rattle.environment.specs.Valid.{IsValidWith, fitting, Forest}
+use Rattle.environment.proofs.CallChanges.{none_changed}
 use Rattle.environment.proofs.Answering.{owed_is, within_more}
 use Rattle.environment.proofs.EarlyLaws.{same_buffer, told_so}
 use Rattle.environment.proofs.EndingLaws.{near_owed}
@@ -155,19 +155,19 @@ module _ {D : Type 0} where
         subst (λ (l : List RecordChange). Evaluates most e (in_sessions s e) st a call g answer a.is_auto (record { answer = ev.answer; answered = ev.answered; changes = l; place = ev.place })) (sym (has ∙ empty))
         (subst (Changes most e (in_sessions s e) st a call g answer (without ev)) (sym auto) (changes_nothing most e s st a call g answer ev at none stands is calm))
 
-    pub calm_taken : (before e : Environment D) (most session : ℕ) (st : Standing) (a : Active) (call : Call) (db : List ℕ) (found : FoundDb) (g : Target) (answer : Answer) (changes : List RecordChange) →
-        IsTakenUp observable history most before e st session a call db found g answer changes → IsCalm answer
-    calm_taken before e most session st a call db found g answer changes up = subst IsCalm (sym up.answer_is) (calm_outcome st a call g up.records)
+    pub calm_taken : (before e : Environment D) (most session : ℕ) (st : Standing) (a : Active) (call : Call) (g : Target) (answer : Answer) (changes : List (ℕ × RecordChange)) →
+        IsTakenUp observable history most before e st session a call g answer changes → IsCalm answer
+    calm_taken before e most session st a call g answer changes up = subst IsCalm (sym up.answer_is) (calm_outcome st a call g up.records)
 
-    pub finishes : (before e : Environment D) (s : Sessions) (most session line : ℕ) (st : Standing) (a : Active) (call : Call) (db : List ℕ) (found : FoundDb) (g : Target) (answer : Answer) (changes : List RecordChange) (o : Outcome) →
-        IsTakenUp observable history most before e st session a call db found g answer changes → changes ≡ [] → a.is_auto ≡ false → AreSessionsAt s (with_move a call (outcome_of st a call g).place (with_locks a (all_got a.txn (needs_in st a call g) st.locks.at) st)) →
+    pub finishes : (before e : Environment D) (s : Sessions) (most session line : ℕ) (st : Standing) (a : Active) (call : Call) (g : Target) (answer : Answer) (changes : List (ℕ × RecordChange)) (o : Outcome) →
+        IsTakenUp observable history most before e st session a call g answer changes → changes ≡ [] → a.is_auto ≡ false → AreSessionsAt s (with_move a call (outcome_of st a call g).place (with_locks a (all_got a.txn (needs_in st a call g) st.locks.at) st)) →
         o.answer ≡ answer → o.victims ≡ [] → HasAccessed observable history sync_out read_out read_of most before (in_sessions s e) st a line call g o.answer o.victims
-    finishes before e s most session line st a call db found g answer changes o up empty auto stands told alone =
+    finishes before e s most session line st a call g answer changes o up empty auto stands told alone =
         told_so (HasAccessed observable history sync_out read_out read_of most before (in_sessions s e) st a line call g) o answer told alone
         (subst (λ (w : Written). HasAccessed observable history sync_out read_out read_of most before (record { engine = e.engine; sessions = s; written = w }) st a line call g answer []) (sym up.written)
         (subst (λ (x : Engine D). HasAccessed observable history sync_out read_out read_of most before (record { engine = x; sessions = s; written = before.written }) st a line call g answer []) (sym up.engine)
         (subst (Takes most before (in_sessions s before) st a line call g answer) (sym up.taken.free)
-        (evaluates_nothing most before s st a call g answer (outcome_of st a call g) (outcome_of st a call g).changes refl (sym up.changes_are ∙ empty) auto up.here up.valid stands up.answer_is calm))))
+        (evaluates_nothing most before s st a call g answer (outcome_of st a call g) (outcome_of st a call g).changes refl (none_changed st a g (outcome_of st a call g).changes (sym up.changes_are ∙ empty)) auto up.here up.valid stands up.answer_is calm))))
       where
         calm : IsCalm answer
-        calm = calm_taken before e most session st a call db found g answer changes up
+        calm = calm_taken before e most session st a call g answer changes up

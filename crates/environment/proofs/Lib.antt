@@ -20,8 +20,6 @@ pub mod PerformedLaws
 pub mod AbortLaws
 -- Where no transaction is under way: what an environment is beside its engine.
 pub mod AloneLaws
--- A call where no transaction is under way.
-pub mod AnswerAlone
 -- The committed records behind a commit.
 pub mod CommitRows
 -- Where an environment stands once a transaction has committed.
@@ -36,8 +34,6 @@ pub mod AccessLaws
 pub mod RefusedLaws
 -- What transactions wrote, after a change of the map.
 pub mod NameMaps
--- A call on a database that is no index and has none.
-pub mod PlainCalls
 -- The beginning of a transaction.
 pub mod BeginLaws
 -- The names of databases.
@@ -50,14 +46,28 @@ pub mod PlanLaws
 pub mod CatalogStanding
 -- A valid environment goes on by a change of the catalog.
 pub mod CatalogValid
+-- The kind of a database is the one that the catalog has.
+pub mod KindLaws
+-- The changes of a call through an index are of one key.
+pub mod IndexKeys
+-- What comes with changes in the indexes of their database.
+pub mod BlockLaws
+-- Of which databases the changes of a call are, and that it may make them.
+pub mod CallChanges
+-- Changes that a call may make, as own changes, as entries and as changes of the store.
+pub mod ChangeLaws
 -- A call on records that is a transaction of its own, among others.
 pub mod AutoLaws
 -- It waits, or changes nothing.
 pub mod AutoEnds
 -- What its changes leave of records, and of the own changes of others.
 pub mod AutoRows
--- The locks that it needs.
-pub mod AutoNeeds
+-- Its plan, and its changes.
+pub mod AutoChanges
+-- What is logged of its changes.
+pub mod AutoPlans
+-- It meets no lock where no transaction is under way.
+pub mod AutoAlone
 -- What it may ask.
 pub mod AutoCalls
 -- What transactions wrote, where room was made.

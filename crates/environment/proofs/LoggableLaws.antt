@@ -1,5 +1,5 @@
 -- The changes of a call that is not refused are of different names, and can be logged, wherever its cursor stands.
-use Rattle.std.proofs.Common.{◌≡◌, ◌⊎◌, inl, inr, ℕ, ◌<◌, ◌≤◌, ◌^◌, nat_lt, List, [], ◌∷◌, Bool, true, false, cond, Option, None, Some, map, filter, length, refl, ap, sym, ◌∙◌, subst, arith, Less, is_eq}
+use Rattle.std.proofs.Common.{◌≡◌, ◌⊎◌, inl, inr, ℕ, ◌≤◌, nat_lt, List, [], ◌∷◌, Bool, true, false, cond, Option, None, Some, map, filter, length, refl, ap, sym, ◌∙◌, subst, arith, Less, is_eq}
 use Rattle.std.specs.Ordering.{on}
 use Rattle.std.specs.List.{AllByRecursion}
 use Rattle.std.specs.List.Sorted.{IsStrictlySortedBy}
@@ -7,17 +7,13 @@ use Rattle.std.proofs.lemmas.Bool.{ltb-false}
 use Rattle.std.proofs.lemmas.Option.{none-some}
 use Rattle.std.proofs.lemmas.List.Kept.{IsStrictlySortedBy-filter}
 use Rattle.je_order.specs.declared.name.Name.{Name}
-use Rattle.je_order.specs.declared.txn_id.TxnId.{TxnId}
 use Rattle.je_order.specs.declared.limits.TheConstants.{KEY_LIMIT}
 use Rattle.je_order.specs.Order.{name_cmp}
 use Rattle.je_order.proofs.Orderings.{equal_from_test, name_exact}
 use Rattle.je_order.proofs.Lists.{all_kept, all_weaker}
-use Rattle.log_entry.specs.Body.{IsEntry}
 use Rattle.log_entry.specs.Fields.{IsName}
 use Rattle.record_map.specs.Cells.{IsRising as CellsRise}
-use Rattle.record_tree.specs.Logged.{entry_for}
 use Rattle.record_tree.specs.Occupied.{AllCells}
-use Rattle.record_tree.specs.declared.tree_change.TreeChange.{TreeChange}
 use Rattle.store_model.specs.declared.kind.Kind.{Kind}
 use Rattle.store_model.specs.declared.kind.Kind.TheVariants.{Plain, Dup}
 use Rattle.store_model.specs.declared.call.Call.{Call}
@@ -38,12 +34,11 @@ use Rattle.je_answers.specs.Views.{Target, outcome_of}
 use Rattle.log_replay.specs.Rows.{Row, is_right_row, are_right, IsRising, pair_of}
 use Rattle.log_replay.proofs.ListLaws.{all_true, all_to_map, map-map, map_same}
 use Rattle.log_replay.proofs.RowLaws.{name_of-right, rising_head, rising_tail}
-use Rattle.txn_core.specs.Plans.{record_planned}
 use Rattle.txn_core.proofs.ViewLaws.{searched}
 use Rattle.txn_views.specs.Laws.{AreSeenBy}
 use Rattle.txn_views.specs.Seen.{seen_rows, seen_rises}
 use Rattle.standing_laws.specs.Right.{MayWait}
-use Rattle.environment.specs.Writing.{AreApart}
+use Rattle.environment.specs.Changing.{FitsEntry}
 
 -- ---- the records that a delete takes
 
@@ -116,27 +111,21 @@ neither : (a b : Option Answer) → or_refusal a b ≡ None → (a ≡ None) × 
 neither None b h = (refl, h)
 neither (Some x) b h = absurd (none-some x (sym h))
 
--- a change makes an entry that can be encoded
-abbrev pub Fits : RecordChange → Type 0
-Fits (Set at value) = IsName at × (length value ≤ 65536)
-Fits (Unset at) = IsName at
-
-pub entries_fit : (txn : TxnId) (number : ℕ) (cs : List RecordChange) → txn.0 < 2 ^ 64 → number < 2 ^ 32 → AllByRecursion Fits cs →
-    AllByRecursion (λ (c : TreeChange). IsEntry (entry_for txn c.db c.name c.value)) (map (record_planned number) cs)
-entries_fit txn number [] low few fit = tt
-entries_fit txn number (Set at value ∷ cs) low few fit = ((low, few, fit.0.0, fit.0.1), entries_fit txn number cs low few fit.1)
-entries_fit txn number (Unset at ∷ cs) low few fit = ((low, few, fit.0), entries_fit txn number cs low few fit.1)
+-- no two changes are of one name
+abbrev pub AreOneEach : List RecordChange → Type 0
+AreOneEach [] = Unit {0}
+AreOneEach (c ∷ cs) = AllByRecursion (λ e. is_eq (name_cmp (changed_name c) (changed_name e)) ≡ false) cs × AreOneEach cs
 
 -- changes that can be logged, no two of one name
 pub record AreLoggable (cs : List RecordChange) : Type 0 where
-  pub apart : AreApart cs
-  pub fits : AllByRecursion Fits cs
+  pub apart : AreOneEach cs
+  pub fits : AllByRecursion FitsEntry cs
 
 none_loggable : AreLoggable []
 none_loggable = record { apart = tt; fits = tt }
 
 -- a put
-set_fits : (kind : Kind) (key value : List ℕ) → length key ≤ KEY_LIMIT → length value ≤ data_limit kind → Fits (set kind key value)
+set_fits : (kind : Kind) (key value : List ℕ) → length key ≤ KEY_LIMIT → length value ≤ data_limit kind → FitsEntry (set kind key value)
 set_fits Plain key value low few = ((low, omega arith), few)
 set_fits Dup key value low few = ((low, few), omega arith)
 
@@ -147,10 +136,10 @@ puts kind at then_at key value [] none =
 puts kind at then_at key value (p ∷ ps) none = none_loggable
 
 -- deletes
-unsets_fit : (ts : List Row) → AllByRecursion (λ (t : Row). IsName t.0) ts → AllByRecursion Fits (map (λ (t : Row). Unset t.0) ts)
-unsets_fit ts named = all_to_map (λ (t : Row). Unset t.0) Fits ts named
+unsets_fit : (ts : List Row) → AllByRecursion (λ (t : Row). IsName t.0) ts → AllByRecursion FitsEntry (map (λ (t : Row). Unset t.0) ts)
+unsets_fit ts named = all_to_map (λ (t : Row). Unset t.0) FitsEntry ts named
 
-unsets_apart : (ts : List Row) → IsRising ts → AreApart (map (λ (t : Row). Unset t.0) ts)
+unsets_apart : (ts : List Row) → IsRising ts → AreOneEach (map (λ (t : Row). Unset t.0) ts)
 unsets_apart [] up = tt
 unsets_apart (t ∷ ts) up = (
   all_to_map (λ (y : Row). Unset y.0) (λ e. is_eq (name_cmp t.0 (changed_name e)) ≡ false) ts

@@ -27,21 +27,22 @@ use Rattle.log_replay.specs.Rows.{Row}
 use Rattle.store_model.specs.Records.{Evaluated, evaluation}
 use Rattle.store_model.specs.Refusals.{made_by}
 use Rattle.store_model.specs.Store.{Pair, change_in}
-use Rattle.db_catalog.specs.declared.found_db.FoundDb.{FoundDb}
 use Rattle.je_answers.specs.declared.active.Active.{Active}
 use Rattle.je_answers.specs.Standing.{Standing, with_at}
-use Rattle.je_answers.specs.Views.{Target, changes_at, changes_on, needs_in, outcome_of}
+use Rattle.je_answers.specs.Views.{Target, changes_with, needs_in, outcome_of, view_of, with_names, with_numbers}
+use Rattle.je_answers.proofs.SameViews.{answered_changes}
+use Rattle.je_order.specs.declared.name.Name.{Name}
 use Rattle.je_answers.specs.Locking.{all_got}
-use Rattle.je_answers.specs.Events.{IsDone, IsLogged, IsTaken, log_limit}
-use Rattle.je_answers.specs.After.{Fate, after_changes, after_fate, after_taking, answered, closed, fate_of, faulted, with_locks, with_outcome}
+use Rattle.je_answers.specs.Events.{IsDone, IsLogged, due, log_limit}
+use Rattle.je_answers.specs.After.{Fate, after_changes, after_fate, answered, closed, fate_of, faulted, moved, with_locks, with_outcome}
 use Rattle.je_answers.specs.After.Fate.{Succeeds}
-use Rattle.je_answers.specs.Journal.{changes_closed, changes_taken, is_disk_fault}
+use Rattle.je_answers.specs.Journal.{changes_closed, is_disk_fault}
 use Rattle.log_buffer.specs.Buffer.{IsUnchanged, disk_of as disk_below, end_of, file_max_of, has_failed}
 use Rattle.log_replay.specs.Logging.{all_row_changes}
 use Rattle.in_tree.specs.Observed.{cells_of, has_tree_of, limit_in, waits_of}
 use Rattle.txn_core.specs.Known.{committed}
 use Rattle.txn_core.specs.Planning.{row_by}
-use Rattle.txn_core.specs.Plans.{record_planned}
+use Rattle.txn_log.specs.Own.{tree_of}
 use Rattle.txn_views.specs.Laws.{AreSeenBy}
 use Rattle.txn_views.specs.Seen.{is_right_change, seen_rows}
 use Rattle.txn_views.proofs.RightLaws.{changes-are_right}
@@ -64,9 +65,13 @@ use Rattle.environment.specs.declared.wrote.Wrote.{Wrote}
 use Rattle.environment.specs.declared.wrote.Wrote.TheVariants.{Done, Full, NoNumbers, Failed}
 use Rattle.environment.specs.Access.{AccessesTo, HasAccessed, IsTakenUp}
 use Rattle.environment.specs.Calls.{HasCause}
-use Rattle.environment.specs.Limits.{owing_with, written_taken}
-use Rattle.environment.specs.OwnEnds.{AreEndedBy, HasPushed, HasPushedAndLogged, WritesAs, WritesUp, answer_for, own_outcome}
-use Rattle.environment.proofs.PlainCalls.{EvaluatesOwn, all_there, as_model, own_fate}
+use Rattle.environment.specs.Changing.{MayMake}
+use Rattle.environment.specs.Limits.{owing_with}
+use Rattle.environment.specs.OwnEnds.{AreEndedBy, HasPushed, HasPushedAndLogged, WritesUp, after_wrote, answer_for}
+use Rattle.store_model.specs.Refusals.{index_refusal}
+use Rattle.environment.proofs.CallChanges.{may_make, one_key, some_changed, some_numbers}
+use Rattle.environment.proofs.IndexKeys.{index_key}
+use Rattle.environment.proofs.ChangeLaws.{Changed, entries_are}
 use Rattle.environment.specs.Steps.{HasNotCome, HasStepped, IsLogStep, StandsAt}
 use Rattle.environment.specs.Valid.{active_number, owed_by, fitting}
 use Rattle.environment.specs.Whole.{CanGoOn, HasLimit, reach_of}
@@ -75,14 +80,28 @@ use Rattle.environment.proofs.Answering.{owed_is, owed_with}
 use Rattle.environment.proofs.CatalogValid.{low}
 use Rattle.environment.proofs.CommitLaws.{is_under_way}
 use Rattle.environment.proofs.EarlyLaws.{same_buffer, told_so}
-use Rattle.environment.proofs.FinishLaws.{in_sessions, same_own, valid_elsewhere}
+use Rattle.environment.proofs.FinishLaws.{Evaluates, Takes, in_sessions, same_own, valid_elsewhere}
 use Rattle.environment.proofs.RecordAnswers.{calm_outcome, well_outcome}
 use Rattle.environment.proofs.SeenNames.{seen_named}
-use Rattle.environment.proofs.LoggableLaws.{AreLoggable, entries_fit, own_loggable}
-use Rattle.environment.proofs.PlanLaws.{number_is, seen_at}
+use Rattle.environment.proofs.LoggableLaws.{own_loggable}
+use Rattle.environment.proofs.PlanLaws.{number_is, seen_on}
 
 abbrev Own : Type 0
 Own = List (ℕ × RecordChange)
+
+-- a standing in which a call's cursor moved and its transaction has more own changes
+abbrev pub with_changes : Active → Call → Option Name → Own → Standing → Standing
+with_changes a call place own st = record st {
+  own = with_at a.txn.0 (st.own a.txn.0 ++ own) st.own;
+  places = with_at a.session (moved call place (st.places a.session)) st.places;
+}
+
+-- where a call leaves a standing, by what became of its changes
+abbrev pub standing_by : Standing → Active → Call → Target → Option Name → List Changed → Wrote → Standing
+standing_by st a call g place cs Done = with_changes a call place (with_numbers cs) (answered a call g st)
+standing_by st a call g place cs Full = answered a call g st
+standing_by st a call g place cs NoNumbers = answered a call g st
+standing_by st a call g place cs Failed = faulted st
 
 -- ---- how many Commits are owed
 
@@ -164,27 +183,9 @@ count_pushed n last more own (b ∷ as_) some numbers is = by (eqb_tells n b.txn
         (ap (λ (l : Own). length (cond (has_changes l) (b ∷ later) later)) (others_same n more own b.txn.0 (λ e. other.1 (sym e))))
         (rest (sym (ap (λ (t : Bool). t || active_number as_ n) other.0) ∙ is))
 
-some_at : (db : ℕ) (changes : List RecordChange) → changes ≢ [] → changes_at db changes ≢ []
-some_at db [] some = absurd (some refl)
-some_at db (c ∷ changes) some = λ none. absurd cc
-
-pub owing_pushed : (st : Standing) (a : Active) (db : ℕ) (changes : List RecordChange) → changes ≢ [] → AreNumbered st.last_txn st.actives → active_number st.actives a.txn.0 ≡ true →
-    owing (with_own a.txn.0 (changes_at db changes) st) ≡ owing_with (Some a) st
-owing_pushed st a db changes some numbers is = count_pushed a.txn.0 st.last_txn (changes_at db changes) st.own st.actives (some_at db changes some) numbers is
-
--- ---- a copy is pushed
-
-pub pushed_copy : {X : Type 0} (old new : Sessions) (txn : TxnId) (db : ℕ) (copies changes : List RecordChange) (result : Result X AllocError) → copies ≡ changes →
-    OnOk result ((resumed : Bool) (a : Active) (needs : List Need) (st : Standing) → HasTaken old resumed a needs st → HasTaken new resumed a needs (with_own txn.0 (changes_at db copies) st)) →
-    OnOk result ((a : Active) (needs : List Need) (st : Standing) → HasTaken old true a needs st → HasTaken new true a needs (with_own txn.0 (changes_at db changes) st))
-pushed_copy old new txn db copies changes (Ok x) same h = λ a needs st taken. subst (λ (l : List RecordChange). HasTaken new true a needs (with_own txn.0 (changes_at db l) st)) same (h true a needs st taken)
-pushed_copy old new txn db copies changes (Err error) same h = tt
-
-pub left_copy : {X : Type 0} (old new : Sessions) (result : Result X AllocError) →
-    OnErr result ((resumed : Bool) (a : Active) (needs : List Need) (st : Standing) → HasTaken old resumed a needs st → HasTaken new resumed a needs st) →
-    OnErr result ((a : Active) (needs : List Need) (st : Standing) → HasTaken old true a needs st → HasTaken new true a needs st)
-left_copy old new (Ok x) h = tt
-left_copy old new (Err error) h = λ a needs st taken. h true a needs st taken
+pub owing_pushed : (st : Standing) (a : Active) (own : Own) → own ≢ [] → AreNumbered st.last_txn st.actives → active_number st.actives a.txn.0 ≡ true →
+    owing (with_own a.txn.0 own st) ≡ owing_with (Some a) st
+owing_pushed st a own some numbers is = count_pushed a.txn.0 st.last_txn own st.own st.actives some numbers is
 
 -- ---- how far it reaches
 
@@ -205,6 +206,11 @@ near_failed false x y is = absurd (true≢false (sym is))
 
 -- ---- the environment before
 
+-- so many changes log so many entries at most
+room_for : (cs : List Changed) → cs ≢ [] → most_entries (length cs) + 1 ≤ most_logged (with_names cs)
+room_for [] some = absurd (some refl)
+room_for (c ∷ cs) some = let k = length-map cs (λ x. change_in x.0.1.name x.1) in omega (arith, k)
+
 module _ {D : Type 0} (observable : Bool) (history : D → History) (sync_out read_out : D → Option ℕ) (read_of : D → ℕ) where
   limit_moves : (e before : Environment D) (owed : ℕ) (changes : List Change) (limit : Option Answer) → e.engine ≡ before.engine → HasLimit e owed changes limit → HasLimit before owed changes limit
   limit_moves e before owed [] limit same has = has
@@ -222,45 +228,39 @@ module _ {D : Type 0} (observable : Bool) (history : D → History) (sync_out re
     end = left.end ∙ ap (λ (x : Engine D). end_below x.trees) same;
   }
 
-  abbrev Writes : Environment D → Environment D → Standing → ℕ → Target → List RecordChange → ℕ → Result Wrote AllocError → Type 0
+  abbrev Writes : Environment D → Environment D → Standing → ℕ → List Changed → ℕ → Result Wrote AllocError → Type 0
   Writes = WritesOwn observable history sync_out read_out read_of
 
-  pub writes_move : (e before new : Environment D) (st : Standing) (n : ℕ) (g : Target) (changes : List RecordChange) (owed : ℕ) (result : Result Wrote AllocError) → e.engine ≡ before.engine →
-      Writes e new st n g changes owed result → Writes before new st n g changes owed result
-  writes_move e before new st n g changes owed (Ok Done) same w = (
+  pub writes_move : (e before new : Environment D) (st : Standing) (n : ℕ) (cs : List Changed) (owed : ℕ) (result : Result Wrote AllocError) → e.engine ≡ before.engine →
+      Writes e new st n cs owed result → Writes before new st n cs owed result
+  writes_move e before new st n cs owed (Ok Done) same w = (
     w.0,
     subst (λ (x : Engine D). Rattle.environment.specs.Steps.HasGrown observable history sync_out read_out read_of x.trees.log new.engine.trees.log []) same w.1,
-    limit_moves e before owed (changes_on g changes) None same w.2,
+    limit_moves e before owed (with_names cs) None same w.2,
     w.3 ∙ ap (λ (x : Engine D). file_max_of x.trees.log) same,
-    w.4 ∙ ap (λ (x : Engine D). record x.kept { last_node = x.kept.last_node + numbers_for (length changes) }) same,
-    subst (λ (x : Engine D). end_below new.engine.trees ≤ end_below x.trees + most_entries (length changes)) same w.5,
+    w.4 ∙ ap (λ (x : Engine D). record x.kept { last_node = x.kept.last_node + numbers_for (length cs) }) same,
+    subst (λ (x : Engine D). end_below new.engine.trees ≤ end_below x.trees + most_entries (length cs)) same w.5,
   )
-  writes_move e before new st n g changes owed (Ok Full) same w = (w.0, left_moves e before new same w.1, limit_moves e before owed (changes_on g changes) (Some LogFull) same w.2)
-  writes_move e before new st n g changes owed (Ok NoNumbers) same w = (w.0, left_moves e before new same w.1, limit_moves e before owed (changes_on g changes) (Some IdsEnded) same w.2)
-  writes_move e before new st n g changes owed (Ok Failed) same w = (
+  writes_move e before new st n cs owed (Ok Full) same w = (w.0, left_moves e before new same w.1, limit_moves e before owed (with_names cs) (Some LogFull) same w.2)
+  writes_move e before new st n cs owed (Ok NoNumbers) same w = (w.0, left_moves e before new same w.1, limit_moves e before owed (with_names cs) (Some IdsEnded) same w.2)
+  writes_move e before new st n cs owed (Ok Failed) same w = (
     subst (λ (x : Engine D). Rattle.environment.specs.Steps.HasFailedWith observable history sync_out read_out read_of x.trees.log new.engine.trees.log []) same w.0,
-    limit_moves e before owed (changes_on g changes) None same w.1,
+    limit_moves e before owed (with_names cs) None same w.1,
     w.2 ∙ ap (λ (x : Engine D). file_max_of x.trees.log) same,
     w.3 ∙ ap (λ (x : Engine D). record x.kept { fault = Some Disk }) same,
     w.4,
   )
-  writes_move e before new st n g changes owed (Err error) same w = (w.0, left_moves e before new same w.1)
+  writes_move e before new st n cs owed (Err error) same w = (w.0, left_moves e before new same w.1)
 
   -- ---- each end
 
-  module _ (most : ℕ) (before mid : Environment D) (s : Sessions) (st : Standing) (a : Active) (call : Call) (g : Target) (ev : Evaluated) (change : RecordChange) (more : List RecordChange)
+  module _ (most : ℕ) (before mid : Environment D) (s : Sessions) (st : Standing) (a : Active) (call : Call) (g : Target) (due_ : Answer) (place : Option Name) (cs : List Changed) (filled : cs ≢ [])
       (here : StandsAt most observable history before st) (none : st.fault ≡ None) where
-    abbrev changes_ : List RecordChange
-    changes_ = change ∷ more
-
     abbrev needs_ : List Need
     needs_ = needs_in st a call g
 
     abbrev own_ : Standing
-    own_ = with_own a.txn.0 (changes_at g.db changes_) st
-
-    abbrev ev_ : Evaluated
-    ev_ = record { answer = ev.answer; answered = ev.answered; changes = changes_; place = ev.place }
+    own_ = with_own a.txn.0 (with_numbers cs) st
 
     abbrev new_ : Environment D
     new_ = in_sessions s mid
@@ -268,22 +268,22 @@ module _ {D : Type 0} (observable : Bool) (history : D → History) (sync_out re
     -- where it ends so
     abbrev Step : Standing → Answer → Type 0
     Step after answer =
-        HasStepped observable history sync_out read_out read_of most before new_ (owing_with (Some a) st) (changes_on g changes_) [] (λ limit. IsLogged (log_limit limit) ev.answer answer) after answer
+        HasStepped observable history sync_out read_out read_of most before new_ (owing_with (Some a) st) (with_names cs) [] (λ limit. IsLogged (log_limit limit) due_ answer) after answer
 
-    count_ : length (changes_on g changes_) ≡ length changes_
-    count_ = length-map changes_ (λ c. change_in g.database.name c)
+    count_ : length (with_names cs) ≡ length cs
+    count_ = length-map cs (λ c. change_in c.0.1.name c.1)
 
-    logged_room : most_entries (length changes_) + 1 ≤ most_logged (changes_on g changes_)
-    logged_room = let k = count_ in omega (arith, k)
+    logged_room : most_entries (length cs) + 1 ≤ most_logged (with_names cs)
+    logged_room = room_for cs filled
 
-    node_room : numbers_for (length changes_) ≤ numbers_for (length (changes_on g changes_) * 2)
+    node_room : numbers_for (length cs) ≤ numbers_for (length (with_names cs) * 2)
     node_room = let k = count_ in omega (arith, k)
 
     -- its changes are logged
     abbrev OwnDone : Standing
-    OwnDone = own_outcome a call g ev_ (answered a call g st)
+    OwnDone = with_changes a call place (with_numbers cs) (answered a call g st)
 
-    done_here : Writes before mid st a.txn.0 g changes_ (owing own_) (Ok Done) → AreEndedBy Done s a call ev.place needs_ (changes_at g.db changes_) st → StandsAt most observable history new_ OwnDone
+    done_here : Writes before mid st a.txn.0 cs (owing own_) (Ok Done) → AreEndedBy Done s a call place needs_ (with_numbers cs) st → StandsAt most observable history new_ OwnDone
     done_here w stands = record {
       file_max = w.3 ∙ here.file_max;
       fault = ap (λ (k : Kept). k.fault) w.4 ∙ here.fault;
@@ -298,24 +298,24 @@ module _ {D : Type 0} (observable : Bool) (history : D → History) (sync_out re
           OwnDone.places OwnDone.locks refl w.0;
     }
 
-    done_near : Writes before mid st a.txn.0 g changes_ (owing own_) (Ok Done) → AreSessionsAt s OwnDone → owing own_ ≡ owing_with (Some a) st → IsWithin (reach_of new_) (reach_after (reach_of before) (changes_on g changes_))
+    done_near : Writes before mid st a.txn.0 cs (owing own_) (Ok Done) → AreSessionsAt s OwnDone → owing own_ ≡ owing_with (Some a) st → IsWithin (reach_of new_) (reach_after (reach_of before) (with_names cs))
     done_near w stands owes = record {
       file = near_grown (has_failed before.engine.trees.log) (has_failed mid.engine.trees.log) ((end_of before.engine.trees.log).file + waits_of before.engine.trees) ((end_of mid.engine.trees.log).file + waits_of mid.engine.trees)
-          (owed_by before.sessions) (owed_by s) (most_entries (length changes_)) (most_logged (changes_on g changes_)) (here.valid none).works w.0.works w.5
+          (owed_by before.sessions) (owed_by s) (most_entries (length cs)) (most_logged (with_names cs)) (here.valid none).works w.0.works w.5
           (let new_owed : owed_by s ≡ owing own_ = owed_is s OwnDone stands in let old_owed = owed_is before.sessions st here.sessions_at in let less = owed_with (Some a) st in omega (arith, new_owed, old_owed, less, owes))
           logged_room;
       node = let k = ap (λ (k : Kept). k.last_node) w.4 in let room = node_room in omega (arith, k, room);
     }
 
-    done : Writes before mid st a.txn.0 g changes_ (owing own_) (Ok Done) → AreEndedBy Done s a call ev.place needs_ (changes_at g.db changes_) st → owing own_ ≡ owing_with (Some a) st → IsCalm ev.answer → Step OwnDone ev.answer
+    done : Writes before mid st a.txn.0 cs (owing own_) (Ok Done) → AreEndedBy Done s a call place needs_ (with_numbers cs) st → owing own_ ≡ owing_with (Some a) st → IsCalm due_ → Step OwnDone due_
     done w stands owes calm = record {
       limit = None;
-      has_limit = subst (λ (owed : ℕ). HasLimit before owed (changes_on g changes_) None) owes w.2;
+      has_limit = subst (λ (owed : ℕ). HasLimit before owed (with_names cs) None) owes w.2;
       answers = inl refl;
       here = done_here w stands;
-      numbered = unnumbered ev.answer st.commits calm;
-      fault = none ∙ ap (λ (b : Bool). cond b (Some Disk) None) (sym (faultless ev.answer calm));
-      logged = subst (λ (b : Bool). IsLogStep observable history sync_out read_out read_of b before.engine.trees.log mid.engine.trees.log []) (sym (faultless ev.answer calm)) (inr w.1);
+      numbered = unnumbered due_ st.commits calm;
+      fault = none ∙ ap (λ (b : Bool). cond b (Some Disk) None) (sym (faultless due_ calm));
+      logged = subst (λ (b : Bool). IsLogStep observable history sync_out read_out read_of b before.engine.trees.log mid.engine.trees.log []) (sym (faultless due_ calm)) (inr w.1);
       near = done_near w (done_here w stands).sessions_at owes;
     }
 
@@ -345,7 +345,7 @@ module _ {D : Type 0} (observable : Bool) (history : D → History) (sync_out re
       node = let k = ap (λ (k : Kept). k.last_node) left.kept in omega (arith, k);
     }
 
-    refused : (refusal : Answer) → IsCalm refusal → IsLogged (log_limit (Some refusal)) ev.answer refusal → IsValidAt observable history mid st → IsLeft before mid → HasLimit before (owing own_) (changes_on g changes_) (Some refusal) →
+    refused : (refusal : Answer) → IsCalm refusal → IsLogged (log_limit (Some refusal)) due_ refusal → IsValidAt observable history mid st → IsLeft before mid → HasLimit before (owing own_) (with_names cs) (Some refusal) →
         AreSessionsAt s (with_locks a (all_got a.txn needs_ st.locks.at) st) → owing own_ ≡ owing_with (Some a) st → Step OwnRefused refusal
     refused refusal calm is valid left has stands owes =
         let within = left_near OwnRefused.locks left stands in
@@ -353,7 +353,7 @@ module _ {D : Type 0} (observable : Bool) (history : D → History) (sync_out re
         let node = within.node in
         record {
           limit = Some refusal;
-          has_limit = subst (λ (owed : ℕ). HasLimit before owed (changes_on g changes_) (Some refusal)) owes has;
+          has_limit = subst (λ (owed : ℕ). HasLimit before owed (with_names cs) (Some refusal)) owes has;
           answers = is;
           here = left_here OwnRefused.locks valid left stands;
           numbered = unnumbered refusal st.commits calm;
@@ -363,10 +363,10 @@ module _ {D : Type 0} (observable : Bool) (history : D → History) (sync_out re
         }
 
     -- the disk failed
-    failed : Writes before mid st a.txn.0 g changes_ (owing own_) (Ok Failed) → AreSessionsAt s st → owing own_ ≡ owing_with (Some a) st → Step (faulted st) DiskFault
+    failed : Writes before mid st a.txn.0 cs (owing own_) (Ok Failed) → AreSessionsAt s st → owing own_ ≡ owing_with (Some a) st → Step (faulted st) DiskFault
     failed w stands owes = record {
       limit = None;
-      has_limit = subst (λ (owed : ℕ). HasLimit before owed (changes_on g changes_) None) owes w.1;
+      has_limit = subst (λ (owed : ℕ). HasLimit before owed (with_names cs) None) owes w.1;
       answers = inr refl;
       here = record {
         file_max = w.2 ∙ here.file_max;
@@ -390,49 +390,58 @@ module _ {D : Type 0} (observable : Bool) (history : D → History) (sync_out re
     }
 
     -- each of them
-    written_by : (wrote : Wrote) → Writes before mid st a.txn.0 g changes_ (owing own_) (Ok wrote) → AreEndedBy wrote s a call ev.place needs_ (changes_at g.db changes_) st → owing own_ ≡ owing_with (Some a) st → IsCalm ev.answer →
-        WritesAs observable history sync_out read_out read_of ev_ most before new_ st a call g wrote
+    written_by : (wrote : Wrote) → Writes before mid st a.txn.0 cs (owing own_) (Ok wrote) → AreEndedBy wrote s a call place needs_ (with_numbers cs) st → owing own_ ≡ owing_with (Some a) st → IsCalm due_ →
+        Step (standing_by st a call g place cs wrote) (answer_for wrote due_)
     written_by Done w stands owes calm = done w stands owes calm
     written_by Full w stands owes calm = refused LogFull refl refl w.0 w.1 w.2 stands owes
     written_by NoNumbers w stands owes calm = refused IdsEnded refl refl w.0 w.1 w.2 stands owes
     written_by Failed w stands owes calm = failed w stands owes
 
-  written_as : (most : ℕ) (before mid : Environment D) (s : Sessions) (st : Standing) (a : Active) (call : Call) (g : Target) (ev : Evaluated) (changes : List RecordChange) (wrote : Wrote) → ev.changes ≡ changes → changes ≢ [] →
-      StandsAt most observable history before st → st.fault ≡ None → Writes before mid st a.txn.0 g changes (owing (with_own a.txn.0 (changes_at g.db changes) st)) (Ok wrote) →
-      AreEndedBy wrote s a call ev.place (needs_in st a call g) (changes_at g.db changes) st → owing (with_own a.txn.0 (changes_at g.db changes) st) ≡ owing_with (Some a) st → IsCalm ev.answer →
-      WritesAs observable history sync_out read_out read_of ev most before (in_sessions s mid) st a call g wrote
-  written_as most before mid s st a call g ev [] wrote has some here none w stands owes calm = absurd (some refl)
-  written_as most before mid s st a call g ev (change ∷ more) wrote has some here none w stands owes calm =
-      subst (λ (l : List RecordChange). WritesAs observable history sync_out read_out read_of (record { answer = ev.answer; answered = ev.answered; changes = l; place = ev.place }) most before (in_sessions s mid) st a call g wrote)
-      (sym has) (written_by most before mid s st a call g ev change more here none wrote w stands owes calm)
+  -- so it is where the call then stands
+  after_is : (st : Standing) (a : Active) (call : Call) (g : Target) (wrote : Wrote) → standing_by st a call g (outcome_of st a call g).place (changes_with st a g (outcome_of st a call g).changes) wrote ≡ after_wrote wrote st a call g (outcome_of st a call g)
+  after_is st a call g Done =
+      ap (λ (l : List Changed). with_changes a call (outcome_of st a call g).place (with_numbers l) (answered a call g st)) (sym (answered_changes st a call g (outcome_of st a call g).changes))
+  after_is st a call g Full = refl
+  after_is st a call g NoNumbers = refl
+  after_is st a call g Failed = refl
 
   -- ---- the call of a transaction of more calls
 
-  abbrev Takes : ℕ → Environment D → Environment D → Standing → Active → ℕ → Call → Target → Answer → Option Need → Type 0
-  Takes most old new st a line call g answer need =
-      HasStepped observable history sync_out read_out read_of most old new (owing_with (Some a) st) (written_taken need st a call g) (changes_taken need st a call g)
-      (λ limit. IsTaken need limit st a line call g answer []) (after_taking need st st a line call g answer []) answer
+  abbrev TakesUp : ℕ → Environment D → Environment D → Standing → Active → ℕ → Call → Target → Answer → Option Need → Type 0
+  TakesUp most old new st a line call g answer need = Takes observable history sync_out read_out read_of most old new st a line call g answer need
 
-  abbrev Evaluates : ℕ → Environment D → Environment D → Standing → Active → Call → Target → Answer → Evaluated → Type 0
-  Evaluates most old new st a call g answer ev = EvaluatesOwn observable history sync_out read_out read_of most old new st a call g answer a.is_auto ev
+  -- a call that changes something, by what its answer says
+  pub evaluates_some : (most : ℕ) (old new : Environment D) (st : Standing) (a : Active) (call : Call) (g : Target) (answer : Answer) (auto : Bool) (ev : Evaluated) (l : List RecordChange) → ev.changes ≡ l → (l ≡ [] → ⊥) →
+      HasStepped observable history sync_out read_out read_of most old new (owing_with (Some a) st) (with_names (changes_with st a g ev.changes)) (changes_closed auto (with_names (changes_with st a g ev.changes)))
+      (λ limit. IsLogged (log_limit limit) (due st a ev) answer × (◌≡◌ {A = List Victim} [] [])) (after_fate (fate_of answer) st st a call g ev) answer →
+      Evaluates observable history sync_out read_out read_of most old new st a call g answer auto ev
+  evaluates_some most old new st a call g answer auto ev [] has some h = absurd (some refl)
+  evaluates_some most old new st a call g answer auto ev (c ∷ l) has some h =
+      subst (λ (m : List RecordChange). HasStepped observable history sync_out read_out read_of most old new (owing_with (Some a) st) (with_names (changes_with st a g ev.changes)) (changes_closed auto (with_names (changes_with st a g ev.changes)))
+      (λ limit. IsDone m limit st a ev answer × (◌≡◌ {A = List Victim} [] [])) (after_changes m st st a call g ev answer) answer) (sym has) h
 
-  module _ (most : ℕ) (before new : Environment D) (st : Standing) (a : Active) (call : Call) (g : Target) (ev : Evaluated) (change : RecordChange) (more : List RecordChange) where
-    abbrev evaluated_ : Evaluated
-    evaluated_ = record { answer = ev.answer; answered = ev.answered; changes = change ∷ more; place = ev.place }
-
-    abbrev Fated : Fate → Answer → Type 0
-    Fated fate answer =
-        HasStepped observable history sync_out read_out read_of most before new (owing_with (Some a) st) (changes_on g (change ∷ more)) (changes_closed a.is_auto (changes_on g (change ∷ more)))
-        (λ limit. IsLogged (log_limit limit) (cond a.is_auto (Logged (st.commits + 1)) ev.answer) answer × (◌≡◌ {A = List Victim} [] [])) (own_fate fate st st a call g evaluated_) answer
+  module _ (most : ℕ) (before new : Environment D) (st : Standing) (a : Active) (call : Call) (g : Target) (ev : Evaluated) where
+    abbrev names_ : List Change
+    names_ = with_names (changes_with st a g ev.changes)
 
     -- by whether it is one call's
     abbrev Autos : (Bool → Standing) → Answer → Bool → Type 0
     Autos after answer auto =
-        HasStepped observable history sync_out read_out read_of most before new (owing_with (Some a) st) (changes_on g (change ∷ more)) (changes_closed auto (changes_on g (change ∷ more)))
+        HasStepped observable history sync_out read_out read_of most before new (owing_with (Some a) st) names_ (changes_closed auto names_)
         (λ limit. IsLogged (log_limit limit) (cond auto (Logged (st.commits + 1)) ev.answer) answer × (◌≡◌ {A = List Victim} [] [])) (after auto) answer
 
+    abbrev Fated : Fate → Answer → Type 0
+    Fated fate answer =
+        HasStepped observable history sync_out read_out read_of most before new (owing_with (Some a) st) names_ (changes_closed a.is_auto names_)
+        (λ limit. IsLogged (log_limit limit) (cond a.is_auto (Logged (st.commits + 1)) ev.answer) answer × (◌≡◌ {A = List Victim} [] [])) (after_fate fate st st a call g ev) answer
+
+    abbrev Up : Wrote → Type 0
+    Up wrote =
+        HasStepped observable history sync_out read_out read_of most before new (owing_with (Some a) st) names_ [] (λ limit. IsLogged (log_limit limit) ev.answer (answer_for wrote ev.answer))
+        (after_wrote wrote st a call g ev) (answer_for wrote ev.answer)
+
     not_auto : (after : Bool → Standing) (answer : Answer) →
-        HasStepped observable history sync_out read_out read_of most before new (owing_with (Some a) st) (changes_on g (change ∷ more)) [] (λ limit. IsLogged (log_limit limit) ev.answer answer) (after false) answer → Autos after answer false
+        HasStepped observable history sync_out read_out read_of most before new (owing_with (Some a) st) names_ [] (λ limit. IsLogged (log_limit limit) ev.answer answer) (after false) answer → Autos after answer false
     not_auto after answer h = record {
       limit = h.limit;
       has_limit = h.has_limit;
@@ -444,28 +453,28 @@ module _ {D : Type 0} (observable : Bool) (history : D → History) (sync_out re
       near = h.near;
     }
 
-    fated : (wrote : Wrote) → WritesAs observable history sync_out read_out read_of evaluated_ most before new st a call g wrote → fate_of ev.answer ≡ Succeeds → a.is_auto ≡ false →
-        Fated (fate_of (answer_for wrote ev.answer)) (answer_for wrote ev.answer)
+    fated : (wrote : Wrote) → Up wrote → fate_of ev.answer ≡ Succeeds → a.is_auto ≡ false → Fated (fate_of (answer_for wrote ev.answer)) (answer_for wrote ev.answer)
     fated Done h well auto =
-        let after : Bool → Standing = λ b. closed b a (changes_on g (change ∷ more)) (own_outcome a call g evaluated_ (answered a call g st)) in
+        let after : Bool → Standing = λ b. closed b a names_ (with_outcome a call g ev (answered a call g st)) in
         subst (λ (f : Fate). Fated f ev.answer) (sym well) (subst (Autos after ev.answer) (sym auto) (not_auto after ev.answer h))
     fated Full h well auto = let after : Bool → Standing = λ b. closed b a [] (answered a call g st) in subst (Autos after LogFull) (sym auto) (not_auto after LogFull h)
     fated NoNumbers h well auto = let after : Bool → Standing = λ b. closed b a [] (answered a call g st) in subst (Autos after IdsEnded) (sym auto) (not_auto after IdsEnded h)
     fated Failed h well auto = let after : Bool → Standing = λ b. faulted st in subst (Autos after DiskFault) (sym auto) (not_auto after DiskFault h)
 
-  evaluates : (most : ℕ) (before new : Environment D) (st : Standing) (a : Active) (call : Call) (g : Target) (ev : Evaluated) (changes : List RecordChange) (wrote : Wrote) → ev.changes ≡ changes → changes ≢ [] →
-      WritesAs observable history sync_out read_out read_of ev most before new st a call g wrote → fate_of ev.answer ≡ Succeeds → a.is_auto ≡ false → Evaluates most before new st a call g (answer_for wrote ev.answer) ev
-  evaluates most before new st a call g ev [] wrote has some h well auto = absurd (some refl)
-  evaluates most before new st a call g ev (change ∷ more) wrote has some h well auto =
-      let as_ : List RecordChange → Evaluated = λ l. record { answer = ev.answer; answered = ev.answered; changes = l; place = ev.place } in
-      subst (λ (l : List RecordChange). Evaluates most before new st a call g (answer_for wrote ev.answer) (as_ l)) (sym has)
-      (fated most before new st a call g ev change more wrote
-      (subst (λ (l : List RecordChange). WritesAs observable history sync_out read_out read_of (as_ l) most before new st a call g wrote) has h) well auto)
+    evaluates : (wrote : Wrote) → (ev.changes ≡ [] → ⊥) → Up wrote → fate_of ev.answer ≡ Succeeds → a.is_auto ≡ false →
+        Evaluates observable history sync_out read_out read_of most before new st a call g (answer_for wrote ev.answer) a.is_auto ev
+    evaluates wrote some h well auto = evaluates_some most before new st a call g (answer_for wrote ev.answer) a.is_auto ev ev.changes refl some (fated wrote h well auto)
 
   -- ---- before it is logged
 
-  module _ (before e : Environment D) (most session : ℕ) (st : Standing) (a : Active) (call : Call) (db : List ℕ) (f : FoundDb) (g : Target) (answer : Answer) (changes : List RecordChange)
-      (up : IsTakenUp observable history most before e st session a call db f g answer changes) where
+  module _ (before e : Environment D) (most session : ℕ) (st : Standing) (a : Active) (call : Call) (g : Target) (answer : Answer) (changes : Own)
+      (up : IsTakenUp observable history most before e st session a call g answer changes) where
+    abbrev outcome_ : Evaluated
+    outcome_ = outcome_of st a call g
+
+    abbrev cs_ : List Changed
+    cs_ = changes_with st a g outcome_.changes
+
     pub is_active_ : active_number st.actives a.txn.0 ≡ true
     is_active_ = is_under_way session a st.actives up.its
 
@@ -481,62 +490,75 @@ module _ {D : Type 0} (observable : Bool) (history : D → History) (sync_out re
     last_db_now = ap (λ (x : Engine D). x.kept.last_db) up.engine ∙ up.here.last_db
 
     seen_now : ((d : ℕ) → CellsRise (cells_of e.engine.trees d)) → AreSeenBy st a g (cells_of e.engine.trees)
-    seen_now rising = seen_at e.engine.trees st a db f g up.sound up.on valid_now.makes valid_now.writes valid_now.may rising
+    seen_now rising = seen_on e.engine.trees st up.sound valid_now.makes valid_now.writes valid_now.may rising a g up.on.own
 
     named_now : ((d : ℕ) → CellsRise (cells_of e.engine.trees d)) → AllByRecursion (λ (r : Row). IsName r.0) (seen_rows a.level a.txn (cells_of e.engine.trees g.db))
     named_now rising =
         seen_named valid_now.log (end_of e.engine.trees.log) (cells_of e.engine.trees) st.last_txn st.last_db (active_number st.actives) st.own valid_now.gives valid_now.has.is_log valid_now.writes up.sound.own_active
-        db g.db (number_is (committed (cells_of e.engine.trees)) st valid_now.makes db f g up.on) up.on.above (rising g.db) a.level a.txn
+        g.database.name g.db (number_is (committed (cells_of e.engine.trees)) st valid_now.makes (g.db, g.database) up.on.own) up.on.own.above (rising g.db) a.level a.txn
 
-    loggable : ((d : ℕ) → CellsRise (cells_of e.engine.trees d)) → AreLoggable changes
-    loggable rising = subst AreLoggable (sym up.changes_are) (own_loggable st a call g (cells_of e.engine.trees) (seen_now rising) (rising g.db) (named_now rising) up.records up.plain)
-
-    pub may_write : ((d : ℕ) → CellsRise (cells_of e.engine.trees d)) → changes ≢ [] → MayWrite st a.txn.0 g changes
-    may_write rising some =
+    makes_now : ((d : ℕ) → CellsRise (cells_of e.engine.trees d)) → MayMake st cs_
+    makes_now rising =
         let its = seen_now rising in
-        record {
-          some = some;
-          drawn = low st.last_txn a.txn.0 st.actives up.sound.numbers is_active_;
-          there = up.on.there;
-          named = up.on.named;
-          above = up.on.above;
-          right = subst (AllByRecursion (λ c. is_right_change g.database.kind c ≡ true)) (sym up.changes_are)
-              (subst (λ (p : List Pair). AllByRecursion (λ c. is_right_change g.database.kind c ≡ true) (evaluation g.database.kind call g.at p).changes) its.pairs
-              (changes-are_right g.database.kind call g.at (seen_rows a.level a.txn (cells_of e.engine.trees g.db)) up.plain its.right));
-          free = subst (AllByRecursion (λ c. Rattle.standing_laws.specs.Laws.IsOnlyOf g.db (Rattle.store_model.specs.Needs.changed_name c) a.txn.0 st.own)) (sym up.changes_are)
-              (all_there (λ d c. Rattle.standing_laws.specs.Laws.IsOnlyOf d (Rattle.store_model.specs.Needs.changed_name c) a.txn.0 st.own) st a g (outcome_of st a call g).changes up.on.alone (writers-are_free st a call g up.sound up.taken.free));
-          apart = (loggable rising).apart;
-        }
+        may_make st a g outcome_.changes up.on
+        (subst (λ (p : List Pair). AllByRecursion (λ c. is_right_change g.database.kind c ≡ true) (evaluation g.database.kind call g.at p).changes) its.pairs
+        (changes-are_right g.database.kind call g.at (seen_rows a.level a.txn (cells_of e.engine.trees g.db)) up.plain its.right))
+        (own_loggable st a call g (cells_of e.engine.trees) its (rising g.db) (named_now rising) up.records up.plain)
+        (one_key st g g.over outcome_.changes up.on.over
+        (λ i is dup. index_key g.database.kind call g.at (view_of st a g) i dup up.records (ap (index_refusal call) (sym is) ∙ up.writes)))
 
-    pub entries_are : ((d : ℕ) → CellsRise (cells_of e.engine.trees d)) → (txn : TxnId) (number : ℕ) → txn.0 < 2 ^ 64 → number < 2 ^ 32 →
-        AllByRecursion (λ (c : TreeChange). IsEntry (entry_for txn c.db c.name c.value)) (map (record_planned number) changes)
-    entries_are rising txn number low_ few_ = entries_fit txn number changes low_ few_ (loggable rising).fits
+    some_now : changes ≢ [] → with_numbers cs_ ≢ []
+    some_now some is = some (up.changes_are ∙ is)
+
+    pub may_write : ((d : ℕ) → CellsRise (cells_of e.engine.trees d)) → changes ≢ [] → MayWrite st a.txn.0 cs_
+    may_write rising some = record {
+      some = some_numbers cs_ (some_now some);
+      drawn = low st.last_txn a.txn.0 st.actives up.sound.numbers is_active_;
+      each = (makes_now rising).right;
+      free = writers-are_free st a call g up.sound up.taken.free;
+      apart = (makes_now rising).apart;
+    }
+
+    pub entries_now : ((d : ℕ) → CellsRise (cells_of e.engine.trees d)) → (txn : TxnId) → txn.0 < 2 ^ 64 → e.engine.kept.last_db < 2 ^ 32 →
+        AllByRecursion (λ (c : TreeChange). IsEntry (entry_for txn c.db c.name c.value)) (map tree_of (with_numbers cs_))
+    entries_now rising txn low_ few_ =
+        entries_are (committed (cells_of e.engine.trees)) st.last_db st valid_now.makes txn cs_ low_ (let same = last_db_now in omega (arith, same, few_)) (makes_now rising).right (makes_now rising).fits
 
     -- ---- what it comes to
 
-    owes_now : changes ≢ [] → owing (with_own a.txn.0 (changes_at g.db changes) st) ≡ owing_with (Some a) st
-    owes_now some = owing_pushed st a g.db changes some up.sound.numbers is_active_
+    pub owes_now : changes ≢ [] → owing (with_own a.txn.0 (with_numbers cs_) st) ≡ owing_with (Some a) st
+    owes_now some = owing_pushed st a (with_numbers cs_) (some_now some) up.sound.numbers is_active_
 
-    pub writes_up : (mid : Environment D) (s : Sessions) (wrote : Wrote) → changes ≢ [] → (p : HasPushedAndLogged observable history sync_out read_out read_of e mid a (needs_in st a call g) st g changes (Ok wrote)) →
-        AreEndedBy wrote s a call (outcome_of st a call g).place (needs_in st a call g) p.more st → WritesUp observable history sync_out read_out read_of most before (in_sessions s mid) st a call g wrote
+    -- it was written, whose transaction goes on
+    pub steps_up : (mid : Environment D) (s : Sessions) (wrote : Wrote) → changes ≢ [] → (p : HasPushedAndLogged observable history sync_out read_out read_of e mid a (needs_in st a call g) st cs_ (Ok wrote)) →
+        AreEndedBy wrote s a call outcome_.place (needs_in st a call g) p.more st →
+        HasStepped observable history sync_out read_out read_of most before (in_sessions s mid) (owing_with (Some a) st) (with_names cs_) [] (λ limit. IsLogged (log_limit limit) outcome_.answer (answer_for wrote outcome_.answer))
+        (standing_by st a call g outcome_.place cs_ wrote) (answer_for wrote outcome_.answer)
+    steps_up mid s wrote some p stands =
+        written_by most before mid s st a call g outcome_.answer outcome_.place cs_ (some_numbers cs_ (some_now some)) up.here up.valid wrote
+        (writes_move e before mid st a.txn.0 cs_ (owing (with_own a.txn.0 (with_numbers cs_) st)) (Ok wrote) up.engine p.writes)
+        (subst (λ (l : Own). AreEndedBy wrote s a call outcome_.place (needs_in st a call g) l st) p.is stands) (owes_now some) (calm_outcome st a call g up.records)
+
+    pub writes_up : (mid : Environment D) (s : Sessions) (wrote : Wrote) → changes ≢ [] → (p : HasPushedAndLogged observable history sync_out read_out read_of e mid a (needs_in st a call g) st cs_ (Ok wrote)) →
+        AreEndedBy wrote s a call outcome_.place (needs_in st a call g) p.more st → WritesUp observable history sync_out read_out read_of most before (in_sessions s mid) st a call g wrote
     writes_up mid s wrote some p stands =
-        written_as most before mid s st a call g (outcome_of st a call g) changes wrote (sym up.changes_are) some up.here up.valid
-        (writes_move e before mid st a.txn.0 g changes (owing (with_own a.txn.0 (changes_at g.db changes) st)) (Ok wrote) up.engine p.writes)
-        (subst (λ (l : Own). AreEndedBy wrote s a call (outcome_of st a call g).place (needs_in st a call g) l st) p.is stands) (owes_now some) (calm_outcome st a call g up.records)
+        subst (λ (after : Standing). HasStepped observable history sync_out read_out read_of most before (in_sessions s mid) (owing_with (Some a) st) (with_names cs_) []
+        (λ limit. IsLogged (log_limit limit) outcome_.answer (answer_for wrote outcome_.answer)) after (answer_for wrote outcome_.answer)) (after_is st a call g wrote) (steps_up mid s wrote some p stands)
+
+    pub some_evaluated : changes ≢ [] → (outcome_.changes ≡ [] → ⊥)
+    some_evaluated some = some_changed st a g outcome_.changes (some_now some)
 
     pub ends : (new : Environment D) (line : ℕ) (wrote : Wrote) (o : Outcome) → changes ≢ [] → a.is_auto ≡ false → WritesUp observable history sync_out read_out read_of most before new st a call g wrote →
         o.answer ≡ answer_for wrote answer → o.victims ≡ [] → AccessesTo observable history sync_out read_out read_of most before new st a line call g (Ok o)
     ends new line wrote o some auto h told alone =
-        let ev : Evaluated = outcome_of st a call g in
-        told_so (HasAccessed observable history sync_out read_out read_of most before new st a line call g) o (answer_for wrote ev.answer) (told ∙ ap (answer_for wrote) up.answer_is) alone
-        (subst (Takes most before new st a line call g (answer_for wrote ev.answer)) (sym up.taken.free)
-        (as_model observable history sync_out read_out read_of most before new st a call g (answer_for wrote ev.answer) a.is_auto ev up.on.alone
-        (evaluates most before new st a call g ev changes wrote (sym up.changes_are) some h (well_outcome st a call g up.records) auto)))
+        told_so (HasAccessed observable history sync_out read_out read_of most before new st a line call g) o (answer_for wrote outcome_.answer) (told ∙ ap (answer_for wrote) up.answer_is) alone
+        (subst (TakesUp most before new st a line call g (answer_for wrote outcome_.answer)) (sym up.taken.free)
+        (evaluates most before new st a call g outcome_ wrote (some_evaluated some) h (well_outcome st a call g up.records) auto))
 
-    pub not_ends : (mid : Environment D) (s : Sessions) (error : AllocError) → HasPushedAndLogged observable history sync_out read_out read_of e mid a (needs_in st a call g) st g changes (Err error) → AreSessionsAt s st →
+    pub not_ends : (mid : Environment D) (s : Sessions) (error : AllocError) → HasPushedAndLogged observable history sync_out read_out read_of e mid a (needs_in st a call g) st cs_ (Err error) → AreSessionsAt s st →
         HasNotCome observable history sync_out read_out read_of most before (in_sessions s mid) st
     not_ends mid s error p stands =
-        let w = writes_move e before mid st a.txn.0 g changes (owing (with_own a.txn.0 (changes_at g.db changes) st)) (Err error) up.engine p.writes in
+        let w = writes_move e before mid st a.txn.0 cs_ (owing (with_own a.txn.0 (with_numbers cs_) st)) (Err error) up.engine p.writes in
         record {
           here = record {
             file_max = w.1.log.kept.max ∙ up.here.file_max;
@@ -571,18 +593,18 @@ module _ {D : Type 0} (observable : Bool) (history : D → History) (sync_out re
         by Failed e h = h refl
 
   -- the numbers leave room still
-  pub goes_on : (e mid : Environment D) (st : Standing) (n : ℕ) (g : Target) (changes : List RecordChange) (owed : ℕ) (result : Result Wrote AllocError) → CanGoOn e → Writes e mid st n g changes owed result → CanGoOn mid
-  goes_on e mid st n g changes owed (Ok Done) can w = by_kept (ap (λ (k : Kept). k.commits) w.4) (ap (λ (k : Kept). k.last_txn) w.4) can
+  pub goes_on : (e mid : Environment D) (st : Standing) (n : ℕ) (cs : List Changed) (owed : ℕ) (result : Result Wrote AllocError) → CanGoOn e → Writes e mid st n cs owed result → CanGoOn mid
+  goes_on e mid st n cs owed (Ok Done) can w = by_kept (ap (λ (k : Kept). k.commits) w.4) (ap (λ (k : Kept). k.last_txn) w.4) can
     where
       by_kept : mid.engine.kept.commits ≡ e.engine.kept.commits → mid.engine.kept.last_txn ≡ e.engine.kept.last_txn → CanGoOn e → CanGoOn mid
       by_kept c l h = omega (arith, c, l, h)
-  goes_on e mid st n g changes owed (Ok Full) can w = subst (λ (k : Kept). k.commits ≤ k.last_txn) (sym w.1.kept) can
-  goes_on e mid st n g changes owed (Ok NoNumbers) can w = subst (λ (k : Kept). k.commits ≤ k.last_txn) (sym w.1.kept) can
-  goes_on e mid st n g changes owed (Ok Failed) can w = by_kept (ap (λ (k : Kept). k.commits) w.3) (ap (λ (k : Kept). k.last_txn) w.3) can
+  goes_on e mid st n cs owed (Ok Full) can w = subst (λ (k : Kept). k.commits ≤ k.last_txn) (sym w.1.kept) can
+  goes_on e mid st n cs owed (Ok NoNumbers) can w = subst (λ (k : Kept). k.commits ≤ k.last_txn) (sym w.1.kept) can
+  goes_on e mid st n cs owed (Ok Failed) can w = by_kept (ap (λ (k : Kept). k.commits) w.3) (ap (λ (k : Kept). k.last_txn) w.3) can
     where
       by_kept : mid.engine.kept.commits ≡ e.engine.kept.commits → mid.engine.kept.last_txn ≡ e.engine.kept.last_txn → CanGoOn e → CanGoOn mid
       by_kept c l h = omega (arith, c, l, h)
-  goes_on e mid st n g changes owed (Err error) can w = subst (λ (k : Kept). k.commits ≤ k.last_txn) (sym w.1.kept) can
+  goes_on e mid st n cs owed (Err error) can w = subst (λ (k : Kept). k.commits ≤ k.last_txn) (sym w.1.kept) can
 
   -- where a call has its locks the sessions stand somewhere
   pub stands_taken : (s : Sessions) (a : Active) (needs : List Need) (st : Standing) → HasTaken s true a needs st → AreSessionsAt s (record st { fault = None; locks = state_of s.locks.locks })
@@ -598,25 +620,25 @@ module _ {D : Type 0} (observable : Bool) (history : D → History) (sync_out re
   rose_by faults old new txn changes names owed (Err error) works w = tt
 
   -- what a call got with changes that are its transaction's own, where these are logged or not
-  pub logged_then : (old mid new : Environment D) (a : Active) (txn : TxnId) (needs : List Need) (st : Standing) (g : Target) (changes : List RecordChange) (result : Result Wrote AllocError) → a.txn ≡ txn → mid.engine ≡ old.engine →
-      new.sessions ≡ mid.sessions → HasTaken mid.sessions true a needs (with_own txn.0 (changes_at g.db changes) st) →
-      Writes mid new st txn.0 g changes (owing (with_own txn.0 (changes_at g.db changes) st)) result → HasPushedAndLogged observable history sync_out read_out read_of old new a needs st g changes result
-  logged_then old mid new a txn needs st g changes result is same sessions taken writes = record {
-    more = changes_at g.db changes;
-    taken = subst (λ (s : Sessions). HasTaken s true a needs (with_own a.txn.0 (changes_at g.db changes) st)) (sym sessions)
-        (subst (λ (t : TxnId). HasTaken mid.sessions true a needs (with_own t.0 (changes_at g.db changes) st)) (sym is) taken);
+  pub logged_then : (old mid new : Environment D) (a : Active) (txn : TxnId) (needs : List Need) (st : Standing) (cs : List Changed) (result : Result Wrote AllocError) → a.txn ≡ txn → mid.engine ≡ old.engine →
+      new.sessions ≡ mid.sessions → HasTaken mid.sessions true a needs (with_own txn.0 (with_numbers cs) st) →
+      Writes mid new st txn.0 cs (owing (with_own txn.0 (with_numbers cs) st)) result → HasPushedAndLogged observable history sync_out read_out read_of old new a needs st cs result
+  logged_then old mid new a txn needs st cs result is same sessions taken writes = record {
+    more = with_numbers cs;
+    taken = subst (λ (s : Sessions). HasTaken s true a needs (with_own a.txn.0 (with_numbers cs) st)) (sym sessions)
+        (subst (λ (t : TxnId). HasTaken mid.sessions true a needs (with_own t.0 (with_numbers cs) st)) (sym is) taken);
     is = if_ok result;
-    writes = writes_move mid old new st a.txn.0 g changes (owing (with_own a.txn.0 (changes_at g.db changes) st)) result same
-        (subst (λ (t : TxnId). Writes mid new st t.0 g changes (owing (with_own t.0 (changes_at g.db changes) st)) result) (sym is) writes);
+    writes = writes_move mid old new st a.txn.0 cs (owing (with_own a.txn.0 (with_numbers cs) st)) result same
+        (subst (λ (t : TxnId). Writes mid new st t.0 cs (owing (with_own t.0 (with_numbers cs) st)) result) (sym is) writes);
   }
     where
-      if_ok : (r : Result Wrote AllocError) → IfOk r (λ wrote. changes_at g.db changes ≡ changes_at g.db changes)
+      if_ok : (r : Result Wrote AllocError) → IfOk r (λ wrote. with_numbers cs ≡ with_numbers cs)
       if_ok (Ok wrote) = refl
       if_ok (Err error) = tt
 
-  pub none_pushed : (old : Environment D) (s : Sessions) (a : Active) (needs : List Need) (st : Standing) (g : Target) (changes : List RecordChange) (error : AllocError) → IsValidAt observable history old st → HasTaken s true a needs st →
-      HasPushedAndLogged observable history sync_out read_out read_of old (in_sessions s old) a needs st g changes (Err error)
-  none_pushed old s a needs st g changes error valid taken = record {
+  pub none_pushed : (old : Environment D) (s : Sessions) (a : Active) (needs : List Need) (st : Standing) (cs : List Changed) (error : AllocError) → IsValidAt observable history old st → HasTaken s true a needs st →
+      HasPushedAndLogged observable history sync_out read_out read_of old (in_sessions s old) a needs st cs (Err error)
+  none_pushed old s a needs st cs error valid taken = record {
     more = [];
     taken = record {
       actives = taken.actives;

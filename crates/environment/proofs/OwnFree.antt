@@ -1,10 +1,10 @@
 -- Whose the names are that a transaction wrote, and of how many of some changes the names have no record.
-use Rattle.std.proofs.Common.{◌≡◌, ◌≢◌, ◌⊎◌, inl, inr, ℕ, ◌==◌, ◌&&◌, ◌+◌, ◌≤◌, ◌∙◌, Bool, true, false, true≢false, cond, List, [], ◌∷◌, Option, None, Some, IsSome, is_some, is_eq, length, count_by, nat_lt, refl, ap, ap₂, sym, subst, arith}
+use Rattle.std.proofs.Common.{◌≡◌, ◌≢◌, ◌⊎◌, inl, inr, ℕ, ◌==◌, ◌&&◌, ◌+◌, ◌∙◌, Bool, true, false, true≢false, cond, List, [], ◌∷◌, Option, None, Some, IsSome, is_some, is_eq, count_by, refl, ap, ap₂, sym, subst, arith}
 use Rattle.std.specs.List.{AllByRecursion}
 use Rattle.std.specs.Option.{option_map_or, option_or}
-use Rattle.std.proofs.lemmas.Bool.{eq-eqb, ltb-false}
+use Rattle.std.proofs.lemmas.Bool.{eq-eqb}
 use Rattle.std.proofs.lemmas.Bool.Decides.{eqb_tells}
-use Rattle.std.proofs.lemmas.List.Sums.{count_by-le-length, sum_by-cons}
+use Rattle.std.proofs.lemmas.List.Sums.{sum_by-cons}
 use Rattle.je_order.specs.declared.name.Name.{Name}
 use Rattle.je_order.specs.declared.txn_id.TxnId.{TxnId}
 use Rattle.je_order.proofs.Lists.{all_weaker}
@@ -78,35 +78,31 @@ module _ (txn : TxnId) (cells : AllCells) where
   count_cons : (c : TreeChange) (cs : List TreeChange) → count_by (has_record txn cells) (c ∷ cs) ≡ cond (has_record txn cells c) 1 0 + count_by (has_record txn cells) cs
   count_cons c cs = sum_by-cons (λ (e : TreeChange). cond (has_record txn cells e) 1 0) c cs
 
-  -- where each counts, each has a record
-  all_had : (cs : List TreeChange) → length cs ≤ count_by (has_record txn cells) cs → AllByRecursion (λ (e : TreeChange). IsSome (value_at e.name (cells e.db))) cs
-  all_had [] all = tt
-  all_had (c ∷ cs) all = by (λ fit. all_had cs fit) (has_record txn cells c) refl
+  -- so many of some changes count, and those that are left; and where those have few new names all have
+  abbrev pub IsCounted : ℕ → List TreeChange → List TreeChange → Type 0
+  IsCounted count rest all = (count + count_by (has_record txn cells) rest ≡ count_by (has_record txn cells) all) × (AreFewNew cells rest → AreFewNew cells all)
+
+  -- one more of a name that has a record
+  pub counts_had : (count : ℕ) (c : TreeChange) (later rest all : List TreeChange) → rest ≡ c ∷ later → has_record txn cells c ≡ true → IsCounted count rest all → IsCounted (count + 1) later all
+  counts_had count c later rest all is has counted =
+      let before = counted.0 in
+      let cons = ap (count_by (has_record txn cells)) is ∙ count_cons c later ∙ ap (λ (b : Bool). cond b 1 0 + count_by (has_record txn cells) later) has in
+      (omega (arith, before, cons), λ few. counted.1 (subst (AreFewNew cells) (sym is) (each later, few)))
     where
-      by : (length cs ≤ count_by (has_record txn cells) cs → AllByRecursion (λ (e : TreeChange). IsSome (value_at e.name (cells e.db))) cs) → (b : Bool) → has_record txn cells c ≡ b → AllByRecursion (λ (e : TreeChange). IsSome (value_at e.name (cells e.db))) (c ∷ cs)
-      by rest true is = let k = count_cons c cs ∙ ap (λ (t : Bool). cond t 1 0 + count_by (has_record txn cells) cs) is in (has_name c is, rest (omega (arith, k, all)))
-      by rest false is =
-          let k = count_cons c cs ∙ ap (λ (t : Bool). cond t 1 0 + count_by (has_record txn cells) cs) is in
-          let most = count_by-le-length (has_record txn cells) cs in
-          absurd (omega (arith, k, all, most))
+      each : (es : List TreeChange) → AllByRecursion (λ (e : TreeChange). c.db ≡ e.db → IsSome (value_at c.name (cells c.db)) ⊎ IsSome (value_at e.name (cells e.db))) es
+      each [] = tt
+      each (e ∷ es) = ((λ same. inl (has_name c has)), each es)
 
-  most_had : (cs : List TreeChange) → length cs ≤ count_by (has_record txn cells) cs + 1 → AreFewNew cells cs
-  most_had [] most = tt
-  most_had (c ∷ cs) most = by (λ fit. most_had cs fit) (has_record txn cells c) refl
-    where
-      each : (P : TreeChange → Type 0) (es : List TreeChange) → ((e : TreeChange) → P e) → AllByRecursion P es
-      each P [] h = tt
-      each P (e ∷ es) h = (h e, each P es h)
-
-      by : (length cs ≤ count_by (has_record txn cells) cs + 1 → AreFewNew cells cs) → (b : Bool) → has_record txn cells c ≡ b → AreFewNew cells (c ∷ cs)
-      by later true is =
-          let k = count_cons c cs ∙ ap (λ (t : Bool). cond t 1 0 + count_by (has_record txn cells) cs) is in
-          (each (λ (e : TreeChange). c.db ≡ e.db → IsSome (value_at c.name (cells c.db)) ⊎ IsSome (value_at e.name (cells e.db))) cs (λ e same. inl (has_name c is)), later (omega (arith, k, most)))
-      by later false is =
-          let k = count_cons c cs ∙ ap (λ (t : Bool). cond t 1 0 + count_by (has_record txn cells) cs) is in
-          let rest = all_had cs (omega (arith, k, most)) in
-          (all_weaker (λ (e : TreeChange). IsSome (value_at e.name (cells e.db))) (λ (e : TreeChange). c.db ≡ e.db → IsSome (value_at c.name (cells c.db)) ⊎ IsSome (value_at e.name (cells e.db))) (λ e some same. inr some) cs rest, later (omega (arith, k, most)))
-
-  -- where not more than one counts as new
-  pub few_counted : (cs : List TreeChange) (had : ℕ) → had ≡ count_by (has_record txn cells) cs → nat_lt (had + 1) (length cs) ≡ false → AreFewNew cells cs
-  few_counted cs had is most = let m = ltb-false (had + 1) (length cs) most in most_had cs (omega (arith, m, is))
+  -- one more of a name that has none, while those behind it in its database have
+  pub counts_new : (count : ℕ) (c : TreeChange) (later rest all : List TreeChange) → rest ≡ c ∷ later → has_record txn cells c ≡ false →
+      AllByRecursion (λ (e : TreeChange). c.db ≡ e.db → has_record txn cells e ≡ true) later → IsCounted count rest all → IsCounted count later all
+  counts_new count c later rest all is none have counted =
+      let before = counted.0 in
+      let cons = ap (count_by (has_record txn cells)) is ∙ count_cons c later ∙ ap (λ (b : Bool). cond b 1 0 + count_by (has_record txn cells) later) none in (
+        omega (arith, before, cons),
+        λ few. counted.1 (subst (AreFewNew cells) (sym is) (
+          all_weaker (λ (e : TreeChange). c.db ≡ e.db → has_record txn cells e ≡ true) (λ (e : TreeChange). c.db ≡ e.db → IsSome (value_at c.name (cells c.db)) ⊎ IsSome (value_at e.name (cells e.db)))
+              (λ e some same. inr (has_name e (some same))) later have,
+          few,
+        )),
+      )

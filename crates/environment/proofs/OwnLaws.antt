@@ -20,7 +20,7 @@ use Rattle.sessions.specs.AtStanding.{AreSessionsAt, owing}
 use Rattle.engine.specs.Limits.{IsWithin}
 use Rattle.environment.specs.declared.environment.Environment.{Environment}
 use Rattle.environment.specs.declared.outcome.Outcome.{Outcome}
-use Rattle.environment.specs.Access.{AccessesTo, HasAccessed, IsFoundFor, IsPlannedFor, IsTakenUp}
+use Rattle.environment.specs.Access.{AccessesTo, HasAccessed, IsFoundFor, IsTakenUp}
 use Rattle.standing_laws.specs.Right.{AreSound, MayWait}
 use Rattle.je_order.specs.declared.name.Name.{Name}
 use Rattle.environment.specs.Limits.{owing_after, owing_with, written_evaluated, written_on, written_performed, written_run}
@@ -43,7 +43,9 @@ use Rattle.sessions.specs.declared.taken.Taken.{Taken}
 use Rattle.sessions.specs.declared.taken.Taken.TheVariants.{Ready, Stopped}
 use Rattle.store_model.specs.Refusals.{database_refuses, or_refusal}
 use Rattle.je_answers.specs.Refusals.{name_refusal, number_refusal, target_refusal, there_refusal}
-use Rattle.je_answers.proofs.PlainTargets.{plain_refusal}
+use Rattle.store_model.specs.Refusals.{index_refusal}
+use Rattle.txn_views.specs.declared.target_plan.TargetPlan.{TargetPlan}
+use Rattle.txn_views.specs.Targets.{IsPlanIn}
 use Rattle.sessions.specs.Taking.{HasStopped, HasTaken, IfReady, IfStopped}
 use Rattle.standing_laws.specs.Right.{HaveOwnWaits}
 use Rattle.standing_laws.proofs.Stopped.{LeavesSame, victims_apart, victims_leave}
@@ -57,8 +59,7 @@ use Rattle.environment.proofs.AccessLaws.{calm_cause}
 use Rattle.environment.proofs.Answering.{within_more}
 use Rattle.environment.proofs.AutoLaws.{valid_leaves}
 use Rattle.environment.proofs.EarlyLaws.{same_buffer}
-use Rattle.environment.proofs.PlanLaws.{on_db}
-use Rattle.store_model.specs.declared.record_change.RecordChange.{RecordChange}
+use Rattle.environment.proofs.PlanLaws.{db_there, on_db}
 
 module _ {D : Type 0} (observable : Bool) (history : D → History) (sync_out read_out : D → Option ℕ) (read_of : D → ℕ) where
   -- what a call came to in its session's transaction is what it came to
@@ -222,34 +223,36 @@ or_none : (a b : Option Answer) → or_refusal a b ≡ None → (a ≡ None) × 
 or_none None b is = (refl, is)
 or_none (Some x) b is = absurd cc
 
--- its database does not refuse a call that nothing refuses
-pub not_refused_there : (st : Standing) (session : ℕ) (call : Call) (db : List ℕ) (f : FoundDb) (at : Option Name) (g : Target) → IsFoundFor st session call db f at g → database_refuses g.database.kind call ≡ None
+-- its database does not refuse a call that nothing refuses, whether it is an index or not
+pub not_refused_there : (st : Standing) (session : ℕ) (call : Call) (db : List ℕ) (f : FoundDb) (at : Option Name) (g : Target) → IsFoundFor st session call db f at g →
+    (index_refusal call g.database.index ≡ None) × (database_refuses g.database.kind call ≡ None)
 not_refused_there st session call db f at g found =
     let first = or_none (number_refusal st.last_txn (active_of session st.actives)) _ found.late in
     let second = or_none (there_refusal st session call) _ first.1 in
     let third = or_none (name_refusal st session call) _ second.1 in
-    sym (plain_refusal call g found.alone) ∙ ap (target_refusal call) (sym found.target) ∙ third.1
+    or_none (index_refusal call g.database.index) (database_refuses g.database.kind call) (ap (target_refusal call) (sym found.target) ∙ third.1)
 
 -- ---- what was taken
 
 module _ {D : Type 0} (observable : Bool) (history : D → History) (sync_out read_out : D → Option ℕ) (read_of : D → ℕ) where
   -- a call that was planned, and got its locks
-  pub taken_up : (most : ℕ) (e : Environment D) (s : Sessions) (st : Standing) (session : ℕ) (a : Active) (call : Call) (db : List ℕ) (f : FoundDb) (at : Option Name) (g : Target) (answer : Answer) (changes : List RecordChange)
-      (needs : List Need) (place : Option Name) → StandsAt most observable history e st → AreSound st → st.fault ≡ None → IsFoundFor st session call db f at g → active_of session st.actives ≡ Some a → MayWait call →
-      IsPlannedFor st a call g answer changes needs place → HasTaken s true a needs st → IsTakenUp observable history most e (record e { sessions = s }) st session a call db f g answer changes
-  taken_up most e s st session a call db f at g answer changes needs place here sound none found its may planned taken = record {
+  pub taken_up : (most : ℕ) (e : Environment D) (s : Sessions) (st : Standing) (session : ℕ) (a : Active) (call : Call) (db : List ℕ) (f : FoundDb) (at : Option Name) (g : Target) (p : TargetPlan) →
+      StandsAt most observable history e st → AreSound st → st.fault ≡ None → IsFoundFor st session call db f at g → active_of session st.actives ≡ Some a → MayWait call →
+      IsPlanIn st a call g p → HasTaken s true a p.needs.items st → IsTakenUp observable history most e (record e { sessions = s }) st session a call g p.answer p.changes.items
+  taken_up most e s st session a call db f at g p here sound none found its may planned taken = record {
     here = here;
     sound = sound;
     valid = none;
-    on = on_db st session call db f at g found;
+    on = db_there st db f g (on_db st session call db f at g found);
     its = its;
     records = may;
-    plain = not_refused_there st session call db f at g found;
+    plain = (not_refused_there st session call db f at g found).1;
+    writes = (not_refused_there st session call db f at g found).0;
     engine = refl;
     written = refl;
-    taken = subst (λ (n : List Need). HasTaken s true a n st) planned.needs_are taken;
-    answer_is = planned.answer_is;
-    changes_are = planned.changes_are;
+    taken = subst (λ (n : List Need). HasTaken s true a n st) planned.needs taken;
+    answer_is = planned.answer;
+    changes_are = planned.changes;
   }
 
 pub ready_so : (t : Taken) (P : Type 0) → t ≡ Ready → IfReady t P → P

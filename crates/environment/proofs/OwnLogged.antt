@@ -18,7 +18,7 @@ use Rattle.je_order.specs.declared.txn_id.TxnId.{TxnId}
 use Rattle.je_order.proofs.TxnIds.{same_either}
 use Rattle.record_map.specs.Cells.{value_at}
 use Rattle.record_tree.specs.Logged.{LogsChanges, most_entries}
-use Rattle.record_tree.specs.Occupied.{AllCells, IsFreeFor, write_in}
+use Rattle.record_tree.specs.Occupied.{AllCells, AreWritten, IsFreeFor, write_in}
 use Rattle.record_tree.specs.declared.tree_change.TreeChange.{TreeChange}
 use Rattle.record_tree.specs.declared.tree_err.TreeErr.{TreeErr}
 use Rattle.record_tree.specs.declared.tree_err.TreeErr.TheVariants.{Fault, Full as TooFull, IdsEnded as NoNumber, Memory}
@@ -27,7 +27,7 @@ use Rattle.store_model.specs.declared.answer.Answer.{Answer}
 use Rattle.store_model.specs.declared.answer.Answer.TheVariants.{LogFull, IdsEnded}
 use Rattle.store_model.specs.declared.record_change.RecordChange.{RecordChange}
 use Rattle.je_answers.specs.Standing.{Standing, with_at}
-use Rattle.je_answers.specs.Views.{Target, changes_at, changes_on}
+use Rattle.je_answers.specs.Views.{with_names, with_numbers}
 use Rattle.log_entry.specs.Encoding.{size_of}
 use Rattle.log_buffer.specs.declared.log_pos.LogPos.{LogPos}
 use Rattle.log_buffer.specs.Buffer.{disk_of as disk_below, end_of, file_max_of, has_failed}
@@ -39,9 +39,10 @@ use Rattle.in_tree.specs.Limits.{HasRoomFor, commit_sizes}
 use Rattle.in_tree.specs.Observed.{cells_of, has_tree_of, limit_in, waits_of}
 use Rattle.in_tree.proofs.Far.{files_few}
 use Rattle.txn_core.specs.Known.{committed, has_number}
-use Rattle.txn_core.specs.Plans.{record_planned}
-use Rattle.txn_core.proofs.NumberLaws.{number_there}
-use Rattle.txn_core.proofs.RecordLaws.{records_rows}
+use Rattle.log_replay.specs.Logging.{all_row_changes}
+use Rattle.txn_log.specs.Own.{tree_of}
+use Rattle.txn_log.proofs.OwnLaws.{own_are_trees}
+use Rattle.je_order.proofs.Lists.{all_weaker}
 use Rattle.txn_log.specs.AtStanding.{IsLogAt}
 use Rattle.txn_log.specs.Buffers.{HasAdded, HasFailed, HasGiven, MayAddChanges}
 use Rattle.txn_log.specs.Committing.{MakesStore, MayBeCommitted, records_had}
@@ -68,15 +69,19 @@ use Rattle.environment.specs.Whole.{HasLimit}
 use Rattle.environment.specs.Written.{AreNamesOf, had_at, names_at, AreFirstsOf}
 use Rattle.environment.specs.Writing.{HasWrittenNone, HasWrittenOwn, IsLeft, IsValidAt, MayWrite, WritesAll, WritesOwn, has_record, wrote_by}
 use Rattle.environment.proofs.EndingLaws.{room_unchanged}
-use Rattle.environment.proofs.WritingLaws.{had_counted, kind_at, made_none, may_all, names_append, names_free, own_planned, planned_free, planned_there, rows_stay}
+use Rattle.environment.proofs.ChangeLaws.{Changed, all_there, makes_none, may_commit, rows_are}
+use Rattle.environment.proofs.WritingLaws.{had_own, names_append, names_free, planned_free, planned_same, rows_stay}
 use Rattle.environment.proofs.Firsts.{firsts_written, waiting_none}
 
 module _ {D : Type 0} (observable : Bool) (history : D → History) (sync_out read_out : D → Option ℕ) (read_of : D → ℕ) (faults : D → ℕ) where
   abbrev state_of : Environment D → State
   state_of e = now (history (disk_below e.engine.trees.log))
 
-  abbrev planned_of : Target → List RecordChange → List TreeChange
-  planned_of g changes = map (record_planned g.db) changes
+  abbrev planned_of : List Changed → List TreeChange
+  planned_of cs = map tree_of (with_numbers cs)
+
+  planned_length : (cs : List Changed) → length (planned_of cs) ≡ length cs
+  planned_length cs = length-map (with_numbers cs) tree_of ∙ length-map cs (λ c. (c.0.0, c.1))
 
   abbrev rows_in : Environment D → Rows
   rows_in e = committed (cells_of e.engine.trees)
@@ -89,34 +94,31 @@ module _ {D : Type 0} (observable : Bool) (history : D → History) (sync_out re
   unfoldable log_at : (old : Environment D) (st : Standing) (v : IsValidAt observable history old st) → LogAt old st v
   log_at old st v = record { given = record { has = v.has; gives = v.gives }; makes = v.makes; may = v.may }
 
-  may_add : (st : Standing) (txn : TxnId) (g : Target) (changes : List RecordChange) → MayWrite st txn.0 g changes → active_number st.actives txn.0 ≡ true →
-      MayAddChanges st.last_txn (active_number st.actives) st.own txn (planned_of g changes)
-  may_add st txn g changes m active = record { active = active; drawn = m.drawn; free = names_free (active_number st.actives) txn.0 g.db changes st.own m.free }
+  may_add : (st : Standing) (txn : TxnId) (cs : List Changed) → MayWrite st txn.0 cs → active_number st.actives txn.0 ≡ true →
+      MayAddChanges st.last_txn (active_number st.actives) st.own txn (planned_of cs)
+  may_add st txn cs m active = record { active = active; drawn = m.drawn; free = names_free (active_number st.actives) txn.0 (with_numbers cs) st.own m.free }
 
-  pub trees_there : (old : Environment D) (st : Standing) (txn : TxnId) (g : Target) (changes : List RecordChange) → IsValidAt observable history old st → MayWrite st txn.0 g changes →
-      AllByRecursion (λ c. has_tree_of old.engine.trees c.db ≡ true) (planned_of g changes)
-  trees_there old st txn g changes v m =
-      let number = v.makes.named g.database.name ∙ m.named in
-      planned_there (has_tree_of old.engine.trees) g.db changes
-      (v.made g.db ∙ ap (has_number (numbers_of (rows_in old))) (sym number) ∙ number_there (rows_in old) g.database.name (λ e. m.above (sym number ∙ e)))
+  pub trees_there : (old : Environment D) (st : Standing) (txn : TxnId) (cs : List Changed) → IsValidAt observable history old st → MayWrite st txn.0 cs →
+      AllByRecursion (λ c. has_tree_of old.engine.trees c.db ≡ true) (planned_of cs)
+  trees_there old st txn cs v m =
+      all_weaker (λ (c : TreeChange). has_number (numbers_of (rows_in old)) c.db ≡ true) (λ c. has_tree_of old.engine.trees c.db ≡ true) (λ c there. v.made c.db ∙ there) (planned_of cs)
+      (all_there (rows_in old) st.last_db st v.makes cs m.each)
 
-  pub free_there : (old : Environment D) (st : Standing) (txn : TxnId) (g : Target) (changes : List RecordChange) → IsValidAt observable history old st → MayWrite st txn.0 g changes →
-      AllByRecursion (λ c. IsFreeFor txn (write_in (value_at c.name (cells_of old.engine.trees c.db)))) (planned_of g changes)
-  free_there old st txn g changes v m = planned_free txn g.db changes st.own (cells_of old.engine.trees) v.writes m.free
+  pub free_there : (old : Environment D) (st : Standing) (txn : TxnId) (cs : List Changed) → IsValidAt observable history old st → MayWrite st txn.0 cs →
+      AllByRecursion (λ c. IsFreeFor txn (write_in (value_at c.name (cells_of old.engine.trees c.db)))) (planned_of cs)
+  free_there old st txn cs v m = planned_free txn (with_numbers cs) st.own (cells_of old.engine.trees) v.writes m.free
 
   -- ---- the limit
 
-  limit_for : (old : Environment D) (st : Standing) (txn : TxnId) (g : Target) (changes : List RecordChange) (owed : ℕ) (limit : Option Answer) → IsValidAt observable history old st → MayWrite st txn.0 g changes →
-      limit ≡ limit_by (limit_in old.engine.trees (planned_of g changes) owed) old.engine.kept.last_node (length (planned_of g changes)) → HasLimit old owed (changes_on g changes) limit
-  limit_for old st txn g [] owed limit v m is = absurd (m.some refl)
-  limit_for old st txn g (c ∷ changes) owed limit v m is =
-      let number = v.makes.named g.database.name ∙ m.named in
-      record {
-        planned = planned_of g (c ∷ changes);
-        rows = records_rows 0 old.engine.kept.last_db g.db g.database.name (c ∷ changes) (rows_in old) (sym number) (λ e. m.above (sym number ∙ e));
-        makes = λ few d made. absurd (true≢false (sym made ∙ made_none d g.db (c ∷ changes)));
-        is = is;
-      }
+  limit_for : (old : Environment D) (st : Standing) (txn : TxnId) (cs : List Changed) (owed : ℕ) (limit : Option Answer) → old.engine.kept.last_db ≡ st.last_db → IsValidAt observable history old st → MayWrite st txn.0 cs →
+      limit ≡ limit_by (limit_in old.engine.trees (planned_of cs) owed) old.engine.kept.last_node (length (planned_of cs)) → HasLimit old owed (with_names cs) limit
+  limit_for old st txn [] owed limit last v m is = absurd (m.some refl)
+  limit_for old st txn (c ∷ cs) owed limit last v m is = record {
+    planned = planned_of (c ∷ cs);
+    rows = rows_are (rows_in old) st.last_db st v.makes 0 (c ∷ cs) m.each ∙ ap (λ (n : ℕ). all_row_changes 0 n (with_names (c ∷ cs)) (rows_in old)) (sym last);
+    makes = λ few d made. absurd (true≢false (sym made ∙ makes_none d (with_numbers (c ∷ cs))));
+    is = is;
+  }
 
   none_found : (found : Option TreeErr) (node count : ℕ) → wrote_by found ≡ NoNumbers → nat_lt last_number (node + numbers_for count) ≡ true → Some IdsEnded ≡ limit_by found node count
   none_found None node count is lack = sym (ap (λ (b : Bool). cond b (Some IdsEnded) None) lack)
@@ -169,13 +171,13 @@ module _ {D : Type 0} (observable : Bool) (history : D → History) (sync_out re
 
   -- ---- changes were written
 
-  module _ (old new : Environment D) (txn : TxnId) (st : Standing) (g : Target) (changes : List RecordChange) (owed : ℕ) (v : IsValidAt observable history old st) (m : MayWrite st txn.0 g changes)
-      (active : active_number st.actives txn.0 ≡ true) where
+  module _ (old new : Environment D) (txn : TxnId) (st : Standing) (cs : List Changed) (owed : ℕ) (v : IsValidAt observable history old st) (m : MayWrite st txn.0 cs)
+      (active : active_number st.actives txn.0 ≡ true) (last : old.engine.kept.last_db ≡ st.last_db) where
     abbrev planned_ : List TreeChange
-    planned_ = planned_of g changes
+    planned_ = planned_of cs
 
     abbrev own_ : List (ℕ × RecordChange)
-    own_ = changes_at g.db changes
+    own_ = with_numbers cs
 
     abbrev rows_ : Rows
     rows_ = rows_in old
@@ -190,7 +192,7 @@ module _ {D : Type 0} (observable : Bool) (history : D → History) (sync_out re
     Added = HasAdded observable history sync_out read_out read_of old.engine.trees.log new.engine.trees.log (LogsChanges txn planned_)
 
     may_own : AllByRecursion (MayBeCommitted rows_) own_
-    may_own = may_all rows_ g.database.name g.db g.database.kind changes (v.makes.named g.database.name ∙ m.named) m.above (kind_at rows_ st.last_db st g v.makes m.there) m.right
+    may_own = may_commit rows_ st.last_db st v.makes cs m.each
 
     given : HasGiven observable history old.engine.trees.log v.log rows_ st.last_txn st.last_db (active_number st.actives) st.own
     given = record { has = v.has; gives = v.gives }
@@ -198,8 +200,8 @@ module _ {D : Type 0} (observable : Bool) (history : D → History) (sync_out re
     unfoldable log_on : (a : Added) → IsLogAt observable history new.engine.trees.log (longer old.engine.trees.log a.entries v.log) rows_ (active_number st.actives) after_
     log_on a =
         changes_leave_log observable history sync_out read_out read_of old.engine.trees.log new.engine.trees.log v.log rows_ (active_number st.actives) st after_ txn planned_
-        (log_at old st v) (may_add st txn g changes m active) (subst (AllByRecursion (MayBeCommitted rows_)) (sym (own_planned g.db changes)) may_own) a refl refl refl refl
-        (λ u. ap (λ (l : List (ℕ × RecordChange)). with_at txn.0 (st.own txn.0 ++ l) st.own u) (sym (own_planned g.db changes)))
+        (log_at old st v) (may_add st txn cs m active) (subst (AllByRecursion (MayBeCommitted rows_)) (sym (own_are_trees own_)) may_own) a refl refl refl refl
+        (λ u. ap (λ (l : List (ℕ × RecordChange)). with_at txn.0 (st.own txn.0 ++ l) st.own u) (sym (own_are_trees own_)))
 
     abbrev add_ : Written → Added
     add_ w = record {
@@ -213,8 +215,8 @@ module _ {D : Type 0} (observable : Bool) (history : D → History) (sync_out re
     unfolding log_on log_at
     base_on a =
         changes_leave_base observable history sync_out read_out read_of old.engine.trees.log new.engine.trees.log v.log rows_ (active_number st.actives) st after_ txn planned_
-        (log_at old st v) (may_add st txn g changes m active) (subst (AllByRecursion (MayBeCommitted rows_)) (sym (own_planned g.db changes)) may_own) a refl refl refl refl
-        (λ u. ap (λ (l : List (ℕ × RecordChange)). with_at txn.0 (st.own txn.0 ++ l) st.own u) (sym (own_planned g.db changes)))
+        (log_at old st v) (may_add st txn cs m active) (subst (AllByRecursion (MayBeCommitted rows_)) (sym (own_are_trees own_)) may_own) a refl refl refl refl
+        (λ u. ap (λ (l : List (ℕ × RecordChange)). with_at txn.0 (st.own txn.0 ++ l) st.own u) (sym (own_are_trees own_)))
 
     names_on : Written → AreNamesOf new.written.by_txn.entries after_.own rows_
     names_on w = record {
@@ -233,7 +235,7 @@ module _ {D : Type 0} (observable : Bool) (history : D → History) (sync_out re
 
       by_had : (t : ℕ) (b : Bool) → cond b (had_at txn old.written.by_txn.entries + count_) (had_at (txn_id t) old.written.by_txn.entries) ≡ records_had (cond b (st.own txn.0 ++ own_) (st.own t)) rows_
       by_had t true =
-          ap₂ (λ (x y : ℕ). x + y) (v.names.had txn.0) (had_counted txn g.db changes st.own (cells_of old.engine.trees) w.was_rising v.writes m.apart)
+          ap₂ (λ (x y : ℕ). x + y) (v.names.had txn.0) (had_own txn own_ st.own (cells_of old.engine.trees) w.was_rising v.writes m.apart)
           ∙ sym (had_go_on rows_ (st.own txn.0) own_)
       by_had t false = v.names.had t
 
@@ -267,13 +269,15 @@ module _ {D : Type 0} (observable : Bool) (history : D → History) (sync_out re
             base = v.recovers.base;
             transactions = v.recovers.transactions;
             recovers = changes_are_recovered observable history sync_out read_out read_of old.engine.trees.log new.engine.trees.log v.log rows_ st.last_txn st.last_db (active_number st.actives) st.own txn planned_
-                v.recovers.first v.recovers.opening v.recovers.base v.recovers.transactions given (may_add st txn g changes m active) a v.recovers.recovers;
+                v.recovers.first v.recovers.opening v.recovers.base v.recovers.transactions given (may_add st txn cs m active) a v.recovers.recovers;
             made = v.recovers.made;
           };
           makes = subst (λ (r : Rows). MakesStore r st.last_db after_) (sym same) on.makes;
-          writes = writes-are_own txn g.db changes st.own (cells_of old.engine.trees) (cells_of new.engine.trees) v.writes (free_there old st txn g changes v m) w.writes;
+          writes = writes-are_own txn own_ st.own (cells_of old.engine.trees) (cells_of new.engine.trees) v.writes
+              (subst (AllByRecursion (λ (c : TreeChange). IsFreeFor txn (write_in (value_at c.name (cells_of old.engine.trees c.db))))) (planned_same own_) (free_there old st txn cs v m))
+              (subst (λ (l : List TreeChange). AreWritten txn l (cells_of old.engine.trees) (cells_of new.engine.trees)) (planned_same own_) w.writes);
           may = subst (λ (r : Rows). (t : ℕ) → AllByRecursion (MayBeCommitted r) (after_.own t)) (sym same) on.may;
-          made = λ d. w.made d ∙ ap (λ (b : Bool). b || has_tree_of old.engine.trees d) (made_none d g.db changes) ∙ v.made d ∙ sym (ap (λ (r : Rows). has_number (numbers_of r) d) same);
+          made = λ d. w.made d ∙ ap (λ (b : Bool). b || has_tree_of old.engine.trees d) (makes_none d own_) ∙ v.made d ∙ sym (ap (λ (r : Rows). has_number (numbers_of r) d) same);
           room = λ n is. subst (λ (k : ℕ). HasRoomFor new.engine.trees.log (commit_sizes k)) (owes ∙ is) w.room;
           names = subst (λ (r : Rows). AreNamesOf new.written.by_txn.entries after_.own r) (sym same) (names_on w);
           fits = lives.fits;
@@ -281,42 +285,42 @@ module _ {D : Type 0} (observable : Bool) (history : D → History) (sync_out re
           firsts = lives.firsts;
         }
 
-    near : Written → end_file new.engine.trees ≤ end_file old.engine.trees + most_entries (length changes)
+    near : Written → end_file new.engine.trees ≤ end_file old.engine.trees + most_entries (length cs)
     near w =
         let grown = w.logged.grew.grew in
         let ends = ap (λ (e : LogPos). e.file) grown.end in
         let files = files_few (file_max_of old.engine.trees.log) (end_of old.engine.trees.log) (map size_of w.logged.entries) in
         let mapped = length-map w.logged.entries size_of in
         let few = w.logged.waits in
-        let count = length-map changes (record_planned g.db) in
+        let count = planned_length cs in
         file_within (has_failed old.engine.trees.log) (has_failed new.engine.trees.log) ((end_of old.engine.trees.log).file + waits_of old.engine.trees) ((end_of new.engine.trees.log).file + waits_of new.engine.trees)
-        (most_entries (length changes)) grown.failed (omega (arith, ends, files, mapped, few, count))
+        (most_entries (length cs)) grown.failed (omega (arith, ends, files, mapped, few, count))
 
-    pub done : Written → owed ≡ owing after_ → WritesOwn observable history sync_out read_out read_of old new st txn.0 g changes owed (Ok Done)
+    pub done : Written → owed ≡ owing after_ → WritesOwn observable history sync_out read_out read_of old new st txn.0 cs owed (Ok Done)
     done w owes = (
       done_valid w (add_ w) w.logged.fits owes,
       record {
         entries = (add_ w).entries;
         grew = (add_ w).grew;
         recovers = changes_recovered_in observable history sync_out read_out read_of v.log old.engine.trees.log new.engine.trees.log rows_ st.last_txn st.last_db (active_number st.actives) st.own txn planned_ given
-            (may_add st txn g changes m active) (add_ w);
+            (may_add st txn cs m active) (add_ w);
       },
-      limit_for old st txn g changes owed None v m (sym (no_limit (limit_in old.engine.trees planned_ owed) old.engine.kept.last_node (length planned_) w.limit w.left)),
+      limit_for old st txn cs owed None last v m (sym (no_limit (limit_in old.engine.trees planned_ owed) old.engine.kept.last_node (length planned_) w.limit w.left)),
       (add_ w).grew.max,
-      w.kept ∙ ap (λ (n : ℕ). record old.engine.kept { last_node = old.engine.kept.last_node + numbers_for n }) (length-map changes (record_planned g.db)),
+      w.kept ∙ ap (λ (n : ℕ). record old.engine.kept { last_node = old.engine.kept.last_node + numbers_for n }) (planned_length cs),
       near w,
     )
 
     pub tried : WritesAll observable history sync_out read_out read_of faults old new txn planned_ (own_names own_) owed (Ok Failed) →
-        WritesOwn observable history sync_out read_out read_of old new st txn.0 g changes owed (Ok Failed)
+        WritesOwn observable history sync_out read_out read_of old new st txn.0 cs owed (Ok Failed)
     tried t = (
       record {
         front = f.front;
         tried = f.tried;
         recovers = inl (tried_changes_recovered_in observable history sync_out read_out read_of v.log old.engine.trees.log new.engine.trees.log rows_ st.last_txn st.last_db (active_number st.actives) st.own txn planned_
-            given (may_add st txn g changes m active) f);
+            given (may_add st txn cs m active) f);
       },
-      limit_for old st txn g changes owed None v m (sym (no_limit (limit_in old.engine.trees planned_ owed) old.engine.kept.last_node (length planned_) t.1 t.2)),
+      limit_for old st txn cs owed None last v m (sym (no_limit (limit_in old.engine.trees planned_ owed) old.engine.kept.last_node (length planned_) t.1 t.2)),
       f.tried.max,
       t.3,
       cond-true (has_failed new.engine.trees.log) 0 ((end_of new.engine.trees.log).file + waits_of new.engine.trees) f.tried.failed,
@@ -325,17 +329,17 @@ module _ {D : Type 0} (observable : Bool) (history : D → History) (sync_out re
       f = failed observable history sync_out read_out read_of faults old.engine.trees.log new.engine.trees.log (LogsChanges txn planned_) t.0.entries t.0.front t.0.logs t.0.is_front t.0.tried
 
     pub writes_own : (result : Result Wrote AllocError) → owed ≡ owing after_ → WritesAll observable history sync_out read_out read_of faults old new txn planned_ (own_names own_) owed result →
-        WritesOwn observable history sync_out read_out read_of old new st txn.0 g changes owed result
+        WritesOwn observable history sync_out read_out read_of old new st txn.0 cs owed result
     writes_own (Ok Done) owes w = done w owes
     writes_own (Ok Full) owes w = (
       left_valid old new st w.0 v,
       is_left old new w.0,
-      limit_for old st txn g changes owed (Some LogFull) v m (sym (ap (λ (f : Option TreeErr). limit_by f old.engine.kept.last_node (length planned_)) w.1)),
+      limit_for old st txn cs owed (Some LogFull) last v m (sym (ap (λ (f : Option TreeErr). limit_by f old.engine.kept.last_node (length planned_)) w.1)),
     )
     writes_own (Ok NoNumbers) owes w = (
       left_valid old new st w.0 v,
       is_left old new w.0,
-      limit_for old st txn g changes owed (Some IdsEnded) v m (none_found (limit_in old.engine.trees planned_ owed) old.engine.kept.last_node (length planned_) w.1 w.2),
+      limit_for old st txn cs owed (Some IdsEnded) last v m (none_found (limit_in old.engine.trees planned_ owed) old.engine.kept.last_node (length planned_) w.1 w.2),
     )
     writes_own (Ok Failed) owes w = tried w
     writes_own (Err error) owes w = (left_valid old new st w v, is_left old new w)

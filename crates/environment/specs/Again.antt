@@ -6,10 +6,9 @@ use Rattle.store_model.specs.declared.answer.Answer.{Answer}
 use Rattle.store_model.specs.declared.call.Call.{Call}
 use Rattle.store_model.specs.declared.isolation.Isolation.{Isolation}
 use Rattle.store_model.specs.declared.record_change.RecordChange.{RecordChange}
-use Rattle.db_catalog.specs.declared.found_db.FoundDb.{FoundDb}
 use Rattle.je_answers.specs.declared.active.Active.{Active}
 use Rattle.je_answers.specs.Standing.{Standing}
-use Rattle.je_answers.specs.Views.{Target, needs_in}
+use Rattle.je_answers.specs.Views.{Target, changes_with, needs_in, outcome_of}
 use Rattle.environment.specs.declared.environment.Environment.{Environment}
 use Rattle.environment.specs.declared.wrote.Wrote.{Wrote}
 use Rattle.environment.specs.Access.{IsTakenUp}
@@ -21,17 +20,15 @@ module _ {D : Type 0} (observable : Bool) (history : D → History) (sync_out re
   -- commit has a number.
   pub record HasWrittenAgain (most : ℕ) (before now : Environment D) (st : Standing) (session : ℕ) (txn : TxnId) (level : Isolation) (a : Active) (call : Call) (g : Target) (all : ℕ) (wrote : Wrote) : Type 0 where
     pub old : Environment D
-    pub db : List ℕ
-    pub found : FoundDb
     pub answer : Answer
-    pub changes : List RecordChange
-    pub up : IsTakenUp observable history most before old st session a call db found g answer changes
+    pub changes : List (ℕ × RecordChange)
+    pub up : IsTakenUp observable history most before old st session a call g answer changes
     pub some : changes ≢ []
     pub its_txn : a.txn ≡ txn
     pub its_level : a.level ≡ level
     pub auto : a.is_auto ≡ true
     pub bare : st.own a.txn.0 ≡ []
-    pub pushed : HasPushedAndLogged observable history sync_out read_out read_of old now a (needs_in st a call g) st g changes (Ok wrote)
-    pub counted : all ≡ before.engine.kept.totals.records + count_by is_set changes
+    pub pushed : HasPushedAndLogged observable history sync_out read_out read_of old now a (needs_in st a call g) st (changes_with st a g (outcome_of st a call g).changes) (Ok wrote)
+    pub counted : all ≡ before.engine.kept.totals.records + count_by (λ c. is_set c.1) changes
     pub numbers : now.engine.kept.commits < now.engine.kept.last_txn
     pub fits : now.engine.kept.commits + 1 < 2 ^ 64

@@ -5,6 +5,8 @@ pub mod Valid
 pub mod Whole
 pub mod Steps
 pub mod Answering
+-- Changes of records as one call makes them.
+pub mod Changing
 pub mod Writing
 pub mod Committing
 pub mod Ending

@@ -1,5 +1,5 @@
 -- How a call of a transaction ends that got its locks and changes something.
-use Rattle.std.specs.Prelude.{ℕ, ◌≡◌, ◌++◌, [], Bool, true, List, Option, Some, Result, Ok, Err, IfOk, length}
+use Rattle.std.specs.Prelude.{ℕ, ◌≡◌, [], Bool, true, List, Option, Some, Result, Ok, Err, IfOk, length}
 use Rattle.std.specs.declared.alloc.AllocError.{AllocError}
 use Rattle.je_disk.specs.Moments.{History}
 use Rattle.store_model.specs.declared.answer.Answer.{Answer}
@@ -8,13 +8,14 @@ use Rattle.je_order.specs.declared.name.Name.{Name}
 use Rattle.store_model.specs.declared.need.Need.{Need}
 use Rattle.store_model.specs.declared.record_change.RecordChange.{RecordChange}
 use Rattle.je_answers.specs.declared.active.Active.{Active}
-use Rattle.je_answers.specs.Standing.{Standing, with_at}
+use Rattle.je_answers.specs.Standing.{Standing}
 use Rattle.store_model.specs.declared.call.Call.{Call}
 use Rattle.store_model.specs.Records.{Evaluated}
-use Rattle.je_answers.specs.Views.{Target, changes_at, changes_on, outcome_of}
+use Rattle.store_model.specs.Indexes.{Numbered}
+use Rattle.je_answers.specs.Views.{Target, changes_with, outcome_of, with_names, with_numbers}
 use Rattle.je_answers.specs.Locking.{all_got}
 use Rattle.je_answers.specs.Events.{IsLogged, log_limit}
-use Rattle.je_answers.specs.After.{answered, faulted, moved, with_locks}
+use Rattle.je_answers.specs.After.{answered, faulted, with_locks, with_outcome}
 use Rattle.sessions.specs.declared.all_sessions.Sessions.{Sessions}
 use Rattle.sessions.specs.AtStanding.{AreSessionsAt, owing, with_own}
 use Rattle.sessions.specs.Taking.{HasTaken}
@@ -33,16 +34,9 @@ answer_for Full answer = LogFull
 answer_for NoNumbers answer = IdsEnded
 answer_for Failed answer = DiskFault
 
--- a call on a database that is no index and has none: its cursor moved, and its changes are the transaction's own
-abbrev pub own_outcome : Active → Call → Target → Evaluated → Standing → Standing
-own_outcome a call g evaluated st = record st {
-  own = with_at a.txn.0 (st.own a.txn.0 ++ changes_at g.db evaluated.changes) st.own;
-  places = with_at a.session (moved call evaluated.place (st.places a.session)) st.places;
-}
-
 -- where it then stands, unless it ends its transaction
 abbrev pub after_wrote : Wrote → Standing → Active → Call → Target → Evaluated → Standing
-after_wrote Done st a call g ev = own_outcome a call g ev (answered a call g st)
+after_wrote Done st a call g ev = with_outcome a call g ev (answered a call g st)
 after_wrote Full st a call g ev = answered a call g st
 after_wrote NoNumbers st a call g ev = answered a call g st
 after_wrote Failed st a call g ev = faulted st
@@ -61,20 +55,18 @@ pub record HasPushed (s : Sessions) (a : Active) (needs : List Need) (n : ℕ) (
 
 module _ {D : Type 0} (observable : Bool) (history : D → History) (sync_out read_out : D → Option ℕ) (read_of : D → ℕ) where
   -- the changes of a call are its transaction's own, and are logged or not
-  pub record HasPushedAndLogged (old new : Environment D) (a : Active) (needs : List Need) (st : Standing) (g : Target) (changes : List RecordChange) (result : Result Wrote AllocError) : Type 0 where
+  pub record HasPushedAndLogged (old new : Environment D) (a : Active) (needs : List Need) (st : Standing) (cs : List (Numbered × RecordChange)) (result : Result Wrote AllocError) : Type 0 where
     pub more : List (ℕ × RecordChange)
     pub taken : HasTaken new.sessions true a needs (with_own a.txn.0 more st)
-    pub is : IfOk result (λ wrote. more ≡ changes_at g.db changes)
-    pub writes : WritesOwn observable history sync_out read_out read_of old new st a.txn.0 g changes (owing (with_own a.txn.0 (changes_at g.db changes) st)) result
+    pub is : IfOk result (λ wrote. more ≡ with_numbers cs)
+    pub writes : WritesOwn observable history sync_out read_out read_of old new st a.txn.0 cs (owing (with_own a.txn.0 (with_numbers cs) st)) result
 
-  -- so a call that evaluates to this was written, whose transaction goes on
-  abbrev pub WritesAs : Evaluated → ℕ → Environment D → Environment D → Standing → Active → Call → Target → Wrote → Type 0
-  WritesAs ev most old new st a call g wrote =
-      HasStepped observable history sync_out read_out read_of most old new (owing_with (Some a) st) (changes_on g ev.changes) [] (λ limit. IsLogged (log_limit limit) ev.answer (answer_for wrote ev.answer))
-      (after_wrote wrote st a call g ev) (answer_for wrote ev.answer)
-
+  -- so a call was written, whose transaction goes on
   abbrev pub WritesUp : ℕ → Environment D → Environment D → Standing → Active → Call → Target → Wrote → Type 0
-  WritesUp most old new st a call g wrote = WritesAs (outcome_of st a call g) most old new st a call g wrote
+  WritesUp most old new st a call g wrote =
+      let ev : Evaluated = outcome_of st a call g in
+      HasStepped observable history sync_out read_out read_of most old new (owing_with (Some a) st) (with_names (changes_with st a g ev.changes)) []
+      (λ limit. IsLogged (log_limit limit) ev.answer (answer_for wrote ev.answer)) (after_wrote wrote st a call g ev) (answer_for wrote ev.answer)
 
   abbrev pub ComesUp : ℕ → Environment D → Environment D → Standing → Active → Call → Target → Result Wrote AllocError → Type 0
   ComesUp most old new st a call g (Ok wrote) = WritesUp most old new st a call g wrote

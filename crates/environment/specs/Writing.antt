@@ -7,10 +7,8 @@ use Rattle.log_buffer.specs.Log.{HasLog}
 use Rattle.log_file.specs.Log.{Log}
 use Rattle.std.specs.declared.alloc.AllocError.{AllocError}
 use Rattle.std.specs.List.{AllByRecursion}
-use Rattle.std.specs.Ordering.{is_eq}
 use Rattle.je_disk.specs.Moments.{History, now}
 use Rattle.std.specs.Option.{is_some, option_map_or}
-use Rattle.je_order.specs.Order.{name_cmp}
 use Rattle.je_order.specs.Transactions.{is_same_txn}
 use Rattle.je_order.specs.declared.txn_id.TxnId.{TxnId}
 use Rattle.store_model.specs.declared.isolation.Isolation.TheVariants.{RepeatableRead}
@@ -22,8 +20,9 @@ use Rattle.store_model.specs.declared.answer.Answer.TheVariants.{LogFull, IdsEnd
 use Rattle.store_model.specs.declared.answer.Fault.TheVariants.{Disk}
 use Rattle.store_model.specs.declared.record_change.RecordChange.{RecordChange}
 use Rattle.store_model.specs.Needs.{changed_name}
-use Rattle.je_answers.specs.Standing.{Standing, database_at}
-use Rattle.je_answers.specs.Views.{Target, changes_at, changes_on}
+use Rattle.store_model.specs.Indexes.{Numbered}
+use Rattle.je_answers.specs.Standing.{Standing}
+use Rattle.je_answers.specs.Views.{with_names, with_numbers}
 use Rattle.log_buffer.specs.Buffer.{IsUnchanged, disk_of as disk_below, file_max_of, end_of}
 use Rattle.in_tree.specs.declared.logged_trees.LogTrees.{LogTrees}
 use Rattle.in_tree.specs.Limits.{GrewFitting, HasRoomFor, TriedFitting, commit_sizes}
@@ -34,12 +33,13 @@ use Rattle.record_tree.specs.declared.tree_err.TreeErr.TheVariants.{Full as TooF
 use Rattle.log_entry.specs.declared.entry.Entry.{Entry}
 use Rattle.sessions.specs.AtStanding.{with_own}
 use Rattle.standing_laws.specs.Laws.{IsOnlyOf}
-use Rattle.txn_views.specs.Seen.{is_right_change, seen_value}
+use Rattle.txn_views.specs.Seen.{seen_value}
 use Rattle.engine.specs.Limits.{last_number, numbers_for}
 use Rattle.engine.specs.Whole.{AreLeft, end_file}
 use Rattle.environment.specs.declared.environment.Environment.{Environment}
 use Rattle.environment.specs.declared.wrote.Wrote.{Wrote}
 use Rattle.environment.specs.declared.wrote.Wrote.TheVariants.{Done, Full, NoNumbers, Failed}
+use Rattle.environment.specs.Changing.{AreApartIn, IsRightIn}
 use Rattle.environment.specs.Steps.{HasFailedWith, HasGrown}
 use Rattle.environment.specs.Valid.{IsValidWith, fitting}
 use Rattle.environment.specs.Whole.{HasLimit}
@@ -49,21 +49,13 @@ use Rattle.environment.specs.Written.{first_at, first_for, had_at, names_at}
 abbrev pub has_record : TxnId → AllCells → TreeChange → Bool
 has_record txn cells c = option_map_or (λ o. is_some (seen_value RepeatableRead txn o)) (value_at c.name (cells c.db)) false
 
--- no two changes are of one name
-abbrev pub AreApart : List RecordChange → Type 0
-AreApart [] = Unit {0}
-AreApart (c ∷ cs) = AllByRecursion (λ e. is_eq (name_cmp (changed_name c) (changed_name e)) ≡ false) cs × AreApart cs
-
--- a transaction of that number may write these changes in a database, which nobody else has changed there
-pub record MayWrite (st : Standing) (txn : ℕ) (g : Target) (changes : List RecordChange) : Type 0 where
-  pub some : changes ≢ []
+-- a transaction of that number may write these changes, of which nobody else has changed a name
+pub record MayWrite (st : Standing) (txn : ℕ) (cs : List (Numbered × RecordChange)) : Type 0 where
+  pub some : cs ≢ []
   pub drawn : txn ≤ st.last_txn
-  pub there : database_at g.db st ≡ Some g.database
-  pub named : st.numbers g.database.name ≡ g.db
-  pub above : g.db ≢ 0
-  pub right : AllByRecursion (λ c. is_right_change g.database.kind c ≡ true) changes
-  pub free : AllByRecursion (λ c. IsOnlyOf g.db (changed_name c) txn st.own) changes
-  pub apart : AreApart changes
+  pub each : AllByRecursion (IsRightIn st) cs
+  pub free : AllByRecursion (λ c. IsOnlyOf c.0 (changed_name c.1) txn st.own) (with_numbers cs)
+  pub apart : AreApartIn (with_numbers cs)
 
 -- what changes come to that may lack numbers, where the trees find this limit
 abbrev pub wrote_by : Option TreeErr → Wrote
@@ -159,20 +151,20 @@ module _ {D : Type 0} where
 
   module _ (observable : Bool) (history : D → History) (sync_out read_out : D → Option ℕ) (read_of : D → ℕ) where
     -- Changes that a transaction under way writes: they are logged and its own; or they met a limit, or the disk failed; or there was no memory.
-    abbrev pub WritesOwn : Environment D → Environment D → Standing → ℕ → Target → List RecordChange → ℕ → Result Wrote AllocError → Type 0
-    WritesOwn old new st txn g changes owed (Ok Done) =
-        IsValidAt observable history new (with_own txn (changes_at g.db changes) st)
+    abbrev pub WritesOwn : Environment D → Environment D → Standing → ℕ → List (Numbered × RecordChange) → ℕ → Result Wrote AllocError → Type 0
+    WritesOwn old new st txn cs owed (Ok Done) =
+        IsValidAt observable history new (with_own txn (with_numbers cs) st)
         × HasGrown observable history sync_out read_out read_of old.engine.trees.log new.engine.trees.log []
-        × HasLimit old owed (changes_on g changes) None
+        × HasLimit old owed (with_names cs) None
         × (file_max_of new.engine.trees.log ≡ file_max_of old.engine.trees.log)
-        × (new.engine.kept ≡ record old.engine.kept { last_node = old.engine.kept.last_node + numbers_for (length changes) })
-        × (end_file new.engine.trees ≤ end_file old.engine.trees + most_entries (length changes))
-    WritesOwn old new st txn g changes owed (Ok Full) = IsValidAt observable history new st × IsLeft old new × HasLimit old owed (changes_on g changes) (Some LogFull)
-    WritesOwn old new st txn g changes owed (Ok NoNumbers) = IsValidAt observable history new st × IsLeft old new × HasLimit old owed (changes_on g changes) (Some IdsEnded)
-    WritesOwn old new st txn g changes owed (Ok Failed) =
+        × (new.engine.kept ≡ record old.engine.kept { last_node = old.engine.kept.last_node + numbers_for (length cs) })
+        × (end_file new.engine.trees ≤ end_file old.engine.trees + most_entries (length cs))
+    WritesOwn old new st txn cs owed (Ok Full) = IsValidAt observable history new st × IsLeft old new × HasLimit old owed (with_names cs) (Some LogFull)
+    WritesOwn old new st txn cs owed (Ok NoNumbers) = IsValidAt observable history new st × IsLeft old new × HasLimit old owed (with_names cs) (Some IdsEnded)
+    WritesOwn old new st txn cs owed (Ok Failed) =
         HasFailedWith observable history sync_out read_out read_of old.engine.trees.log new.engine.trees.log []
-        × HasLimit old owed (changes_on g changes) None
+        × HasLimit old owed (with_names cs) None
         × (file_max_of new.engine.trees.log ≡ file_max_of old.engine.trees.log)
         × (new.engine.kept ≡ record old.engine.kept { fault = Some Disk })
         × (end_file new.engine.trees ≡ 0)
-    WritesOwn old new st txn g changes owed (Err error) = IsValidAt observable history new st × IsLeft old new
+    WritesOwn old new st txn cs owed (Err error) = IsValidAt observable history new st × IsLeft old new

@@ -1,8 +1,7 @@
 // A call that is a transaction of its own, once more.
-ghost use Rattle.std.specs.Prelude.{◌≡◌, None, Some, ℕ, List as Lists, [], OnErr, true};
+ghost use Rattle.std.specs.Prelude.{◌≡◌, None, Some, ℕ, [], OnErr, true};
 ghost use Rattle.std.specs.Option.{option_copied};
 ghost use Rattle.store_model.specs.declared.call.Call.{Call as Asked};
-ghost use Rattle.db_catalog.specs.declared.found_db.FoundDb.{FoundDb as Found};
 ghost use Rattle.je_answers.specs.declared.active.Active.{Active as Transaction};
 ghost use Rattle.je_answers.specs.Standing.{Standing, active_of};
 ghost use Rattle.je_answers.specs.Refusals.{early_refusal};
@@ -14,17 +13,18 @@ ghost use Rattle.environment.specs.Calls.{HasCause};
 ghost use Rattle.environment.specs.Steps.{ComesTo, MayCall, StandsAt};
 ghost use Rattle.environment.specs.Whole.{CanGoOn, disk_of, reach_of};
 
+use crate::call_plan::CallPlan;
 use crate::calling::told;
 use crate::environment::Environment;
 use crate::moving::{Move, move_by, move_of};
 use crate::outcome::Outcome;
 use db_catalog::FoundDb;
 use je_disk::Disk;
-use je_order::{List, Name, TxnId, Word};
+use je_order::{Name, TxnId, Word};
 use sessions::Taken;
 use std::alloc::{AllocError, Global};
 use store_model::{Answer, Call, Isolation, RecordChange};
-use txn_views::{AccessPlan, CursorPlan};
+use txn_views::TargetPlan;
 
 impl<D: Disk> Environment<D> {
     // Makes a call again that waited, and is a transaction of its own, from where its cursor stands.
@@ -50,28 +50,21 @@ impl<D: Disk> Environment<D> {
         ensures bounds { CanGoOn self.new }
         ensures cause { HasCause (D.faults (disk_of self.old)) (D.faults (disk_of self.new)) result }
     {
-        let CursorPlan { plan, place } = self.plan(alloc, txn, level, db, found, call, at)?;
-        let AccessPlan {
+        let CallPlan { target, others } = self.plan(alloc, txn, level, db, found, call, at)?;
+        let TargetPlan {
             answer,
             changes,
             needs,
-        } = plan;
+            place,
+        } = target;
         let moves = move_of(session, call, place);
-        let taken = self
-            .sessions
-            .take(alloc, session, line, call, db, found.kind, needs, true);
+        let taken = self.sessions.take(
+            alloc, session, line, call, db, found.kind, &others, needs, true,
+        );
+        drop(others);
         match taken {
             Ok(Taken::Ready) => {
-                self.finish_again(
-                    alloc,
-                    session,
-                    txn,
-                    level,
-                    found.number,
-                    answer,
-                    changes,
-                    moves,
-                )
+                self.finish_again(alloc, session, txn, level, answer, changes, moves)
             }
             Ok(
                 Taken::Stopped {
@@ -103,16 +96,15 @@ impl<D: Disk> Environment<D> {
         session: u8,
         txn: TxnId,
         level: Isolation,
-        number: u32,
         answer: Answer,
-        changes: List<RecordChange>,
+        changes: Vec<(u32, RecordChange)>,
         moves: Option<Move>,
     ) -> Result<Outcome, AllocError>
-        requires taken { (before : Environment D) × (most : ℕ) × (st : Standing) × (a : Transaction) × (asked : Asked) × (db : Lists ℕ) × (found : Found) × (g : Target)
-            × IsTakenUp D.observable D.history most before self.old st session a asked db found g answer changes × (a.txn ≡ txn) × (a.level ≡ level) × (g.db ≡ number) × (a.is_auto ≡ true) × (st.own a.txn.0 ≡ []) }
+        requires taken { (before : Environment D) × (most : ℕ) × (st : Standing) × (a : Transaction) × (asked : Asked) × (g : Target)
+            × IsTakenUp D.observable D.history most before self.old st session a asked g answer changes.items × (a.txn ≡ txn) × (a.level ≡ level) × (a.is_auto ≡ true) × (st.own a.txn.0 ≡ []) }
         requires bounds { CanGoOn self.old }
-        ensures comes { (before : Environment D) (most line : ℕ) (st : Standing) (a : Transaction) (asked : Asked) (db : Lists ℕ) (found : Found) (g : Target)
-            → IsTakenUp D.observable D.history most before self.old st session a asked db found g answer changes → Moves session asked (outcome_of st a asked g).place moves → a.txn ≡ txn → a.level ≡ level → g.db ≡ number → a.is_auto ≡ true → st.own a.txn.0 ≡ []
+        ensures comes { (before : Environment D) (most line : ℕ) (st : Standing) (a : Transaction) (asked : Asked) (g : Target)
+            → IsTakenUp D.observable D.history most before self.old st session a asked g answer changes.items → Moves session asked (outcome_of st a asked g).place moves → a.txn ≡ txn → a.level ≡ level → a.is_auto ≡ true → st.own a.txn.0 ≡ []
             → AccessesTo D.observable D.history D.sync_out D.read_out D.read_of most before self.new st a line asked g result }
         ensures bounds { CanGoOn self.new }
         ensures cause { HasCause (D.faults (disk_of self.old)) (D.faults (disk_of self.new)) result }
@@ -125,6 +117,6 @@ impl<D: Disk> Environment<D> {
             return Ok(told(alloc, answer));
         }
         drop(answer);
-        self.commit_again(alloc, session, txn, level, number, changes, moves)
+        self.commit_again(alloc, session, txn, level, changes, moves)
     }
 }

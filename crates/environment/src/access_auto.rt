@@ -1,12 +1,12 @@
 // A call on records that is a transaction of its own, among others.
-ghost use Rattle.std.specs.Prelude.{◌≡◌, ◌≤◌, ◌+◌, None, ℕ, List, OnErr, IfOk, true};
+ghost use Rattle.std.specs.Prelude.{◌≡◌, ◌≤◌, ◌+◌, None, ℕ, List as Lists, OnErr, IfOk, true};
 ghost use Rattle.store_model.specs.declared.call.Call.{Call as Asked};
 ghost use Rattle.store_model.specs.declared.need.Need.{Need};
 ghost use Rattle.store_model.specs.declared.store.TheConstants.{LAST_DATABASE};
 ghost use Rattle.store_model.specs.Refusals.{next_txn};
 ghost use Rattle.je_answers.specs.Standing.{Standing, active_of};
 ghost use Rattle.je_answers.specs.Refusals.{early_refusal};
-ghost use Rattle.je_answers.specs.Views.{Target, needs_in};
+ghost use Rattle.je_answers.specs.Views.{Target, needs_in, with_numbers};
 ghost use Rattle.je_answers.specs.Locking.{all_got};
 ghost use Rattle.je_answers.specs.Events.{auto_active, begun};
 ghost use Rattle.je_answers.specs.After.{ended, with_locks};
@@ -14,24 +14,27 @@ ghost use Rattle.sessions.specs.AtStanding.{AreSessionsAt, owing};
 ghost use Rattle.sessions.specs.Taking.{HasTaken};
 ghost use Rattle.engine.specs.Limits.{IsWithin};
 ghost use Rattle.standing_laws.specs.Right.{AreSound, MayWait};
-ghost use Rattle.environment.specs.Access.{IsFoundFor};
-ghost use Rattle.environment.specs.Auto.{IsAutoAt, IsPlannedAuto, IsTakenAuto, with_sessions};
+ghost use Rattle.environment.specs.Access.{IsFoundFor, IsOnDb, IsPlannedFor};
+ghost use Rattle.environment.specs.Auto.{IsAutoAt, IsLoggedAuto, IsNamedAs, IsPlannedAuto, IsTakenAuto, changes_auto, outcome_auto, with_sessions};
 ghost use Rattle.environment.specs.Calls.{HasCause, IsOnRecords};
+ghost use Rattle.environment.specs.Changing.{MayMake};
 ghost use Rattle.environment.specs.Steps.{ComesTo, MayCall, StandsAt};
 ghost use Rattle.environment.specs.Whole.{CanGoOn, disk_of, reach_of};
 
+use crate::auto_plan::log_of;
+use crate::call_plan::CallPlan;
 use crate::calling::told;
 use crate::environment::Environment;
 use crate::outcome::Outcome;
 use db_catalog::FoundDb;
 use je_disk::Disk;
-use je_order::{TxnId, Word};
+use je_order::{List, TxnId, Word};
 use record_tree::Records;
-use sessions::{Sessions, Taken};
+use sessions::{NamedDb, Sessions, Taken};
 use std::alloc::{AllocError, Global};
-use store_model::{Answer, Call, Durability, Isolation, Kind, Need};
-use txn_core::{Planned, PlannedChanges, plan};
-use txn_views::plan_access;
+use store_model::{Answer, Call, Durability, Isolation, Kind, Need, RecordChange};
+use txn_core::{Planned, PlannedChanges};
+use txn_views::TargetPlan;
 
 impl<D: Disk> Environment<D> {
     // Makes a call on records of a session without a transaction: its own one begins with it, and ends unless it waits.
@@ -54,58 +57,61 @@ impl<D: Disk> Environment<D> {
         ensures bounds { CanGoOn self.new }
         ensures cause { HasCause (D.faults (disk_of self.old)) (D.faults (disk_of self.new)) result }
     {
-        let planned = self.plan_auto(alloc, session, call)?;
-        let needs = self.needs_auto(alloc, session, found, call)?;
+        if self.sessions.is_empty() {
+            return self.access_alone(alloc, db, found, call);
+        }
+        let CallPlan { target, others } = self.plan_auto(alloc, db, found, call)?;
+        let TargetPlan {
+            answer,
+            changes,
+            needs,
+            place,
+        } = target;
+        drop(place);
+        let planned = self.log_planned(alloc, answer, changes)?;
         let owed = self.owed_with_one()?;
         self.run_auto(
-            alloc, session, line, db, found.kind, call, planned, needs, owed,
+            alloc, session, line, db, found.kind, call, planned, &others, needs, owed,
         )
     }
 
-    // What the call comes to where it gets its locks.
-    fn plan_auto(&self, alloc: Global, session: u8, call: &Call) -> Result<Planned, AllocError>
-        requires here { (most : ℕ) × (st : Standing) × (g : Target) × IsAutoAt most D.observable D.history self.now st session call.now g }
-        ensures plans { (most : ℕ) (st : Standing) (g : Target) → IsAutoAt most D.observable D.history self.now st session call.now g → IfOk result (IsPlannedAuto self.now st session call.now) }
-    {
-        match plan(
-            &self.engine.trees,
-            alloc,
-            self.engine.kept.totals,
-            self.engine.kept.last_db,
-            call,
-        ) {
-            Ok(planned) => Ok(planned),
-            Err(error) => Err(error),
-        }
-    }
-
-    // The locks that the call needs.
-    fn needs_auto(
+    // What the call comes to where it gets its locks, and the locks.
+    fn plan_auto(
         &self,
         alloc: Global,
-        session: u8,
+        db: &Word,
         found: FoundDb,
         call: &Call,
-    ) -> Result<Vec<Need>, AllocError>
-        requires here { (most : ℕ) × (st : Standing) × (g : Target) × IsAutoAt most D.observable D.history self.now st session call.now g × (g.db ≡ found.number) × (g.database.kind ≡ found.kind) }
-        ensures needs { (most : ℕ) (st : Standing) (g : Target) → IsAutoAt most D.observable D.history self.now st session call.now g → g.db ≡ found.number → g.database.kind ≡ found.kind
-            → IfOk result (λ needs. needs.items ≡ needs_in (begun st session) (auto_active st session) call.now g) }
+    ) -> Result<CallPlan, AllocError>
+        requires here { (most session : ℕ) × (st : Standing) × (g : Target) × IsAutoAt most D.observable D.history self.now st session call.now g × IsOnDb st db.now found g }
+        ensures plans { (most session : ℕ) (st : Standing) (g : Target) → IsAutoAt most D.observable D.history self.now st session call.now g → IsOnDb st db.now found g
+            → IfOk result (IsPlannedFor (begun st session) (auto_active st session) call.now g) }
+        ensures may { (most session : ℕ) (st : Standing) (g : Target) → IsAutoAt most D.observable D.history self.now st session call.now g → IsOnDb st db.now found g
+            → MayMake st (changes_auto st session call.now g) }
     {
         let txn = TxnId(self.engine.kept.last_txn + 1);
         self.engine.trees.are_ordered();
-        match plan_access(
-            &self.engine.trees,
-            alloc,
-            txn,
-            Isolation::RepeatableRead,
-            found,
-            call,
-        ) {
-            Ok(plan) => {
-                drop(plan.answer);
-                drop(plan.changes);
-                Ok(plan.needs)
-            }
+        self.plan(alloc, txn, Isolation::RepeatableRead, db, found, call, None)
+    }
+
+    // What the call logs where it changes something, or else its answer.
+    pub(crate) fn log_planned(
+        &self,
+        alloc: Global,
+        answer: Answer,
+        changes: Vec<(u32, RecordChange)>,
+    ) -> Result<Planned, AllocError>
+        ensures plans { (most session : ℕ) (st : Standing) (call : Asked) (g : Target) → IsAutoAt most D.observable D.history self.now st session call g → MayMake st (changes_auto st session call g)
+            → answer ≡ (outcome_auto st session call g).answer → changes.items ≡ with_numbers (changes_auto st session call g) → IfOk result (IsPlannedAuto self.now.engine st session call g) }
+    {
+        if changes.is_empty() {
+            drop(changes);
+            return Ok(Planned::Answered(answer));
+        }
+        drop(answer);
+        is_number(self.engine.kept.last_db);
+        match log_of(&self.engine.trees, alloc, &self.engine.kept, changes) {
+            Ok(planned) => Ok(Planned::Logs(planned)),
             Err(error) => Err(error),
         }
     }
@@ -131,13 +137,14 @@ impl<D: Disk> Environment<D> {
         kind: Kind,
         call: &Call,
         planned: Planned,
+        others: &List<NamedDb>,
         needs: Vec<Need>,
         owed: u32,
     ) -> Result<Outcome, AllocError>
-        requires here { (most : ℕ) × (st : Standing) × (g : Target) × IsAutoAt most D.observable D.history self.old st session call.now g × IsPlannedAuto self.old st session call.now planned × (needs.items ≡ needs_in (begun st session) (auto_active st session) call.now g) × (owed ≡ owing st + 1) × (g.database.name ≡ db.now) × (g.database.kind ≡ kind) }
+        requires here { (most : ℕ) × (st : Standing) × (g : Target) × IsAutoAt most D.observable D.history self.old st session call.now g × IsPlannedAuto self.old.engine st session call.now g planned × (needs.items ≡ needs_in (begun st session) (auto_active st session) call.now g) × (owed ≡ owing st + 1) × IsNamedAs db.now kind others.now g }
         requires bounds { CanGoOn self.old }
         requires call { MayWait call.now }
-        ensures comes { (most : ℕ) (st : Standing) (g : Target) → IsAutoAt most D.observable D.history self.old st session call.now g → g.database.name ≡ db.now → g.database.kind ≡ kind → IsPlannedAuto self.old st session call.now planned
+        ensures comes { (most : ℕ) (st : Standing) (g : Target) → IsAutoAt most D.observable D.history self.old st session call.now g → IsNamedAs db.now kind others.now g → IsPlannedAuto self.old.engine st session call.now g planned
             → needs.items ≡ needs_in (begun st session) (auto_active st session) call.now g → owed ≡ owing st + 1 → ComesTo D.observable D.history D.sync_out D.read_out D.read_of most self.old self.new st session line call.now result }
         ensures bounds { CanGoOn self.new }
         ensures cause { HasCause (D.faults (disk_of self.old)) (D.faults (disk_of self.new)) result }
@@ -154,7 +161,7 @@ impl<D: Disk> Environment<D> {
         )?;
         match self
             .sessions
-            .take(alloc, session, line, call, db, kind, needs, true)
+            .take(alloc, session, line, call, db, kind, others, needs, true)
         {
             Ok(Taken::Ready) => self.go_auto(alloc, session, txn, planned, owed),
             Ok(Taken::Stopped { answer, victims }) => {
@@ -177,9 +184,9 @@ impl<D: Disk> Environment<D> {
         planned: Planned,
         owed: u32,
     ) -> Result<Outcome, AllocError>
-        requires here { (most : ℕ) × (s : Sessions) × (st : Standing) × (call : Asked) × (g : Target) × IsAutoAt most D.observable D.history (with_sessions s self.old) st session call g × IsPlannedAuto self.old st session call planned × IsTakenAuto self.old st session call g × (txn.0 ≡ next_txn st.last_txn) × (owed ≡ owing st + 1) }
+        requires here { (most : ℕ) × (s : Sessions) × (st : Standing) × (call : Asked) × (g : Target) × IsAutoAt most D.observable D.history (with_sessions s self.old) st session call g × IsPlannedAuto self.old.engine st session call g planned × IsTakenAuto self.old st session call g × (txn.0 ≡ next_txn st.last_txn) × (owed ≡ owing st + 1) }
         requires bounds { CanGoOn self.old }
-        ensures comes { (most : ℕ) (s : Sessions) (st : Standing) (line : ℕ) (call : Asked) (g : Target) → IsAutoAt most D.observable D.history (with_sessions s self.old) st session call g → IsPlannedAuto self.old st session call planned
+        ensures comes { (most : ℕ) (s : Sessions) (st : Standing) (line : ℕ) (call : Asked) (g : Target) → IsAutoAt most D.observable D.history (with_sessions s self.old) st session call g → IsPlannedAuto self.old.engine st session call g planned
             → IsTakenAuto self.old st session call g → txn.0 ≡ next_txn st.last_txn → owed ≡ owing st + 1
             → ComesTo D.observable D.history D.sync_out D.read_out D.read_of most (with_sessions s self.old) self.new st session line call result }
         ensures bounds { CanGoOn self.new }
@@ -204,9 +211,9 @@ impl<D: Disk> Environment<D> {
         planned: PlannedChanges,
         owed: u32,
     ) -> Result<Outcome, AllocError>
-        requires here { (most : ℕ) × (s : Sessions) × (st : Standing) × (call : Asked) × (g : Target) × IsAutoAt most D.observable D.history (with_sessions s self.old) st session call g × IsPlannedAuto self.old st session call (Planned.Logs planned) × IsTakenAuto self.old st session call g × (txn.0 ≡ next_txn st.last_txn) × (owed ≡ owing st + 1) }
+        requires here { (most : ℕ) × (s : Sessions) × (st : Standing) × (call : Asked) × (g : Target) × IsAutoAt most D.observable D.history (with_sessions s self.old) st session call g × IsLoggedAuto self.old.engine st session call g planned × IsTakenAuto self.old st session call g × (txn.0 ≡ next_txn st.last_txn) × (owed ≡ owing st + 1) }
         requires bounds { CanGoOn self.old }
-        ensures comes { (most : ℕ) (s : Sessions) (st : Standing) (line : ℕ) (call : Asked) (g : Target) → IsAutoAt most D.observable D.history (with_sessions s self.old) st session call g → IsPlannedAuto self.old st session call (Planned.Logs planned)
+        ensures comes { (most : ℕ) (s : Sessions) (st : Standing) (line : ℕ) (call : Asked) (g : Target) → IsAutoAt most D.observable D.history (with_sessions s self.old) st session call g → IsLoggedAuto self.old.engine st session call g planned
             → IsTakenAuto self.old st session call g → txn.0 ≡ next_txn st.last_txn → owed ≡ owing st + 1
             → ComesTo D.observable D.history D.sync_out D.read_out D.read_of most (with_sessions s self.old) self.new st session line call result }
         ensures bounds { CanGoOn self.new }
@@ -232,14 +239,14 @@ impl<D: Disk> Environment<D> {
 }
 
 // A database's number is no greater than the last one.
-fn is_number(number: u32)
+pub(crate) fn is_number(number: u32)
     ensures { number ≤ LAST_DATABASE }
 {}
 
 // Ends the transaction of a call that got its locks.
 fn close_auto(sessions: &mut Sessions, session: u8, txn: TxnId)
-    requires taken { (st : Standing) × (needs : List Need) × (txn ≡ (auto_active st session).txn) × HasTaken sessions.old true (auto_active st session) needs (begun st session) }
-    ensures { (st : Standing) (needs : List Need) → txn ≡ (auto_active st session).txn → HasTaken sessions.old true (auto_active st session) needs (begun st session)
+    requires taken { (st : Standing) × (needs : Lists Need) × (txn ≡ (auto_active st session).txn) × HasTaken sessions.old true (auto_active st session) needs (begun st session) }
+    ensures { (st : Standing) (needs : Lists Need) → txn ≡ (auto_active st session).txn → HasTaken sessions.old true (auto_active st session) needs (begun st session)
         → AreSessionsAt sessions.new (ended (auto_active st session) (with_locks (auto_active st session) (all_got (auto_active st session).txn needs st.locks.at) (begun st session))) }
 {
     sessions.answered(txn, Isolation::RepeatableRead, true);
@@ -248,8 +255,8 @@ fn close_auto(sessions: &mut Sessions, session: u8, txn: TxnId)
 
 // Takes it back, as if it had not begun.
 fn undo_auto(sessions: &mut Sessions, txn: TxnId)
-    requires taken { (session : ℕ) × (st : Standing) × (needs : List Need) × (txn ≡ (auto_active st session).txn) × HasTaken sessions.old true (auto_active st session) needs (begun st session) }
-    ensures { (session : ℕ) (st : Standing) (needs : List Need) → txn ≡ (auto_active st session).txn → HasTaken sessions.old true (auto_active st session) needs (begun st session) → AreSessionsAt sessions.new st }
+    requires taken { (session : ℕ) × (st : Standing) × (needs : Lists Need) × (txn ≡ (auto_active st session).txn) × HasTaken sessions.old true (auto_active st session) needs (begun st session) }
+    ensures { (session : ℕ) (st : Standing) (needs : Lists Need) → txn ≡ (auto_active st session).txn → HasTaken sessions.old true (auto_active st session) needs (begun st session) → AreSessionsAt sessions.new st }
 {
     sessions.give_up(txn);
     sessions.undo_begin();

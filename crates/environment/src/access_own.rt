@@ -1,5 +1,5 @@
 // A call on records in a transaction.
-ghost use Rattle.std.specs.Prelude.{◌≡◌, ◌≢◌, None, Some, ℕ, List as Lists, [], OnErr, true, false};
+ghost use Rattle.std.specs.Prelude.{◌≡◌, ◌≢◌, None, Some, ℕ, [], OnErr, true, false};
 ghost use Rattle.std.specs.Option.{option_copied};
 ghost use Rattle.je_answers.specs.declared.active.Active.{Active as Transaction};
 ghost use Rattle.je_answers.specs.Standing.{Standing, active_of};
@@ -8,12 +8,12 @@ ghost use Rattle.je_answers.specs.Views.{Target, outcome_of};
 ghost use Rattle.engine.specs.Limits.{IsWithin};
 ghost use Rattle.standing_laws.specs.Right.{AreSound, MayWait};
 ghost use Rattle.store_model.specs.declared.call.Call.{Call as Asked};
-ghost use Rattle.db_catalog.specs.declared.found_db.FoundDb.{FoundDb as Found};
 ghost use Rattle.environment.specs.Access.{AccessesTo, IsFoundFor, IsTakenUp, Moves};
 ghost use Rattle.environment.specs.Calls.{HasCause};
 ghost use Rattle.environment.specs.Steps.{ComesTo, MayCall, StandsAt};
 ghost use Rattle.environment.specs.Whole.{CanGoOn, disk_of, reach_of};
 
+use crate::call_plan::CallPlan;
 use crate::calling::told;
 use crate::environment::Environment;
 use crate::moving::{Move, move_by, move_of};
@@ -21,11 +21,11 @@ use crate::outcome::Outcome;
 use crate::own_writing::answer_by;
 use db_catalog::FoundDb;
 use je_disk::Disk;
-use je_order::{List, Name, TxnId, Word};
+use je_order::{Name, TxnId, Word};
 use sessions::Taken;
 use std::alloc::{AllocError, Global};
 use store_model::{Answer, Call, Isolation, RecordChange};
-use txn_views::{AccessPlan, CursorPlan};
+use txn_views::TargetPlan;
 
 impl<D: Disk> Environment<D> {
     // Makes a call on records in a transaction of the session, from where its cursor stands.
@@ -51,20 +51,20 @@ impl<D: Disk> Environment<D> {
         ensures bounds { CanGoOn self.new }
         ensures cause { HasCause (D.faults (disk_of self.old)) (D.faults (disk_of self.new)) result }
     {
-        let CursorPlan { plan, place } = self.plan(alloc, txn, level, db, found, call, at)?;
-        let AccessPlan {
+        let CallPlan { target, others } = self.plan(alloc, txn, level, db, found, call, at)?;
+        let TargetPlan {
             answer,
             changes,
             needs,
-        } = plan;
+            place,
+        } = target;
         let moves = move_of(session, call, place);
-        let taken = self
-            .sessions
-            .take(alloc, session, line, call, db, found.kind, needs, true);
+        let taken = self.sessions.take(
+            alloc, session, line, call, db, found.kind, &others, needs, true,
+        );
+        drop(others);
         match taken {
-            Ok(Taken::Ready) => {
-                self.finish_own(alloc, txn, level, found.number, answer, changes, moves)
-            }
+            Ok(Taken::Ready) => self.finish_own(alloc, txn, level, answer, changes, moves),
             Ok(
                 Taken::Stopped {
                     answer: stop,
@@ -94,16 +94,15 @@ impl<D: Disk> Environment<D> {
         alloc: Global,
         txn: TxnId,
         level: Isolation,
-        number: u32,
         answer: Answer,
-        changes: List<RecordChange>,
+        changes: Vec<(u32, RecordChange)>,
         moves: Option<Move>,
     ) -> Result<Outcome, AllocError>
-        requires taken { (before : Environment D) × (most session : ℕ) × (st : Standing) × (a : Transaction) × (asked : Asked) × (db : Lists ℕ) × (found : Found) × (g : Target)
-            × IsTakenUp D.observable D.history most before self.old st session a asked db found g answer changes × (a.txn ≡ txn) × (a.level ≡ level) × (g.db ≡ number) × (a.is_auto ≡ false) }
+        requires taken { (before : Environment D) × (most session : ℕ) × (st : Standing) × (a : Transaction) × (asked : Asked) × (g : Target)
+            × IsTakenUp D.observable D.history most before self.old st session a asked g answer changes.items × (a.txn ≡ txn) × (a.level ≡ level) × (a.is_auto ≡ false) }
         requires bounds { CanGoOn self.old }
-        ensures comes { (before : Environment D) (most session line : ℕ) (st : Standing) (a : Transaction) (asked : Asked) (db : Lists ℕ) (found : Found) (g : Target)
-            → IsTakenUp D.observable D.history most before self.old st session a asked db found g answer changes → Moves session asked (outcome_of st a asked g).place moves → a.txn ≡ txn → a.level ≡ level → g.db ≡ number → a.is_auto ≡ false
+        ensures comes { (before : Environment D) (most session line : ℕ) (st : Standing) (a : Transaction) (asked : Asked) (g : Target)
+            → IsTakenUp D.observable D.history most before self.old st session a asked g answer changes.items → Moves session asked (outcome_of st a asked g).place moves → a.txn ≡ txn → a.level ≡ level → a.is_auto ≡ false
             → AccessesTo D.observable D.history D.sync_out D.read_out D.read_of most before self.new st a line asked g result }
         ensures bounds { CanGoOn self.new }
         ensures cause { HasCause (D.faults (disk_of self.old)) (D.faults (disk_of self.new)) result }
@@ -114,7 +113,7 @@ impl<D: Disk> Environment<D> {
             move_by(&mut self.sessions, moves);
             return Ok(told(alloc, answer));
         }
-        self.write_own(alloc, txn, level, number, answer, changes, moves)
+        self.write_own(alloc, txn, level, answer, changes, moves)
     }
 
     // Logs what a call changes that got its locks, and answers it.
@@ -123,29 +122,24 @@ impl<D: Disk> Environment<D> {
         alloc: Global,
         txn: TxnId,
         level: Isolation,
-        number: u32,
         answer: Answer,
-        changes: List<RecordChange>,
+        changes: Vec<(u32, RecordChange)>,
         moves: Option<Move>,
     ) -> Result<Outcome, AllocError>
-        requires taken { (before : Environment D) × (most session : ℕ) × (st : Standing) × (a : Transaction) × (asked : Asked) × (db : Lists ℕ) × (found : Found) × (g : Target)
-            × IsTakenUp D.observable D.history most before self.old st session a asked db found g answer changes × (a.txn ≡ txn) × (a.level ≡ level) × (g.db ≡ number) × (a.is_auto ≡ false) }
-        requires some { changes ≢ [] }
+        requires taken { (before : Environment D) × (most session : ℕ) × (st : Standing) × (a : Transaction) × (asked : Asked) × (g : Target)
+            × IsTakenUp D.observable D.history most before self.old st session a asked g answer changes.items × (a.txn ≡ txn) × (a.level ≡ level) × (a.is_auto ≡ false) }
+        requires some { changes.items ≢ [] }
         requires bounds { CanGoOn self.old }
-        ensures comes { (before : Environment D) (most session line : ℕ) (st : Standing) (a : Transaction) (asked : Asked) (db : Lists ℕ) (found : Found) (g : Target)
-            → IsTakenUp D.observable D.history most before self.old st session a asked db found g answer changes → Moves session asked (outcome_of st a asked g).place moves → a.txn ≡ txn → a.level ≡ level → g.db ≡ number → a.is_auto ≡ false
+        ensures comes { (before : Environment D) (most session line : ℕ) (st : Standing) (a : Transaction) (asked : Asked) (g : Target)
+            → IsTakenUp D.observable D.history most before self.old st session a asked g answer changes.items → Moves session asked (outcome_of st a asked g).place moves → a.txn ≡ txn → a.level ≡ level → a.is_auto ≡ false
             → AccessesTo D.observable D.history D.sync_out D.read_out D.read_of most before self.new st a line asked g result }
         ensures bounds { CanGoOn self.new }
         ensures cause { HasCause (D.faults (disk_of self.old)) (D.faults (disk_of self.new)) result }
     {
-        match self.write_up(alloc, txn, level, number, changes.as_slice(), moves) {
-            Ok(wrote) => {
-                drop(changes);
-                Ok(told(alloc, answer_by(wrote, answer)))
-            }
+        match self.write_up(alloc, txn, level, changes, moves) {
+            Ok(wrote) => Ok(told(alloc, answer_by(wrote, answer))),
             Err(error) => {
                 drop(answer);
-                drop(changes);
                 Err(error)
             }
         }

@@ -1,8 +1,7 @@
 // A call among transactions.
-ghost use Rattle.std.specs.Prelude.{◌≡◌, [], ℕ, List, None, Some, true, false, Ok, OnErr};
+ghost use Rattle.std.specs.Prelude.{◌≡◌, [], ℕ, List, None, Some, Ok, OnErr};
 ghost use Rattle.je_disk.specs.Moments.{now};
 ghost use Rattle.je_answers.specs.Standing.{Standing};
-ghost use Rattle.je_answers.specs.Alone.{IsAutoCommitted};
 ghost use Rattle.je_answers.specs.Refusals.{early_refusal};
 ghost use Rattle.engine.specs.Limits.{IsWithin};
 ghost use Rattle.environment.specs.Calls.{HasCause};
@@ -28,24 +27,6 @@ pub(crate) fn told(alloc: Global, answer: Answer) -> Outcome
     }
 }
 
-// Whether a call may be a transaction of its own.
-pub(crate) fn is_alone(call: &Call) -> bool
-    ensures { result ≡ true → IsAutoCommitted call.now }
-{
-    match call {
-        Call::List
-        | Call::Create { .. }
-        | Call::Remove { .. }
-        | Call::Rename { .. }
-        | Call::Truncate { .. }
-        | Call::Get { .. }
-        | Call::GetBoth { .. }
-        | Call::Put { .. }
-        | Call::Delete { .. } => true,
-        _ => false,
-    }
-}
-
 impl<D: Disk> Environment<D> {
     // Answers a call.
     pub(crate) fn answer(
@@ -63,9 +44,6 @@ impl<D: Disk> Environment<D> {
     {
         if let Some(first) = self.engine.kept.fault {
             return Ok(self.answer_invalid(alloc, session, line, call, first));
-        }
-        if self.sessions.is_empty() && is_alone(call) {
-            return self.answer_alone(alloc, session, line, call);
         }
         self.answer_among(alloc, session, line, call)
     }

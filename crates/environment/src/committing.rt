@@ -66,7 +66,7 @@ fn answer_of(durability: Durability, commits: u64) -> Answer
 }
 
 // Whether a change sets a name.
-pub(crate) fn sets(change: &RecordChange) -> bool
+fn sets(change: &RecordChange) -> bool
     ensures { result ≡ is_set change.now }
 {
     match change {
@@ -76,7 +76,7 @@ pub(crate) fn sets(change: &RecordChange) -> bool
 }
 
 // How many of some own changes set a name.
-fn count_set(own: &[(u32, RecordChange)]) -> u64
+pub(crate) fn count_set(own: &[(u32, RecordChange)]) -> u64
     ensures { result ≡ count_by (λ c. is_set c.1) own.now }
 {
     let mut count = 0u64;

@@ -1,42 +1,27 @@
 // What a call changes that waited and is a transaction of its own: logged, and committed.
-ghost use Rattle.std.specs.Prelude.{◌≡◌, ◌≢◌, ◌≤◌, ◌+◌, ℕ, List as Lists, [], Ok, true, count_by};
+ghost use Rattle.std.specs.Prelude.{◌≡◌, ◌≢◌, ◌≤◌, ◌+◌, ℕ, [], Ok, true};
 ghost use Rattle.je_order.specs.Counts.{HasRisen};
 ghost use Rattle.store_model.specs.declared.call.Call.{Call as Asked};
 ghost use Rattle.store_model.specs.declared.answer.Answer.{Answer as Answered};
-ghost use Rattle.db_catalog.specs.declared.found_db.FoundDb.{FoundDb as Found};
 ghost use Rattle.je_answers.specs.declared.active.Active.{Active as Transaction};
 ghost use Rattle.je_answers.specs.Standing.{Standing};
 ghost use Rattle.je_answers.specs.Views.{Target, outcome_of};
 ghost use Rattle.environment.specs.Access.{AccessesTo, HasAccessed, IsTakenUp, Moves};
 ghost use Rattle.environment.specs.Again.{HasWrittenAgain};
 ghost use Rattle.environment.specs.Calls.{HasCause};
-ghost use Rattle.environment.specs.Committing.{is_set};
 ghost use Rattle.environment.specs.Whole.{CanGoOn, disk_of};
 
 use crate::calling::told;
-use crate::committing::{had_of, records_before, sets};
+use crate::committing::{count_set, had_of, records_before};
 use crate::environment::Environment;
 use crate::moving::{Move, move_by};
 use crate::outcome::Outcome;
 use crate::own_writing::{take_back, undo_own};
 use crate::wrote::Wrote;
 use je_disk::Disk;
-use je_order::{List, TxnId};
+use je_order::TxnId;
 use std::alloc::{AllocError, Global};
 use store_model::{Answer, Isolation, RecordChange};
-
-// How many of some changes set a name.
-fn count_sets(changes: &[RecordChange]) -> u64
-    ensures { result ≡ count_by is_set changes.now }
-{
-    let mut count = 0u64;
-    for change in changes {
-        if sets(change) {
-            count += 1;
-        }
-    }
-    count
-}
 
 // All but those that there were.
 fn less(all: u64, had: u64) -> u64
@@ -54,30 +39,27 @@ impl<D: Disk> Environment<D> {
         session: u8,
         txn: TxnId,
         level: Isolation,
-        number: u32,
-        changes: List<RecordChange>,
+        changes: Vec<(u32, RecordChange)>,
         moves: Option<Move>,
     ) -> Result<Outcome, AllocError>
-        requires taken { (before : Environment D) × (most : ℕ) × (st : Standing) × (a : Transaction) × (asked : Asked) × (db : Lists ℕ) × (found : Found) × (g : Target) × (answer : Answered)
-            × IsTakenUp D.observable D.history most before self.old st session a asked db found g answer changes × (a.txn ≡ txn) × (a.level ≡ level) × (g.db ≡ number) × (a.is_auto ≡ true) × (st.own a.txn.0 ≡ []) }
-        requires some { changes ≢ [] }
+        requires taken { (before : Environment D) × (most : ℕ) × (st : Standing) × (a : Transaction) × (asked : Asked) × (g : Target) × (answer : Answered)
+            × IsTakenUp D.observable D.history most before self.old st session a asked g answer changes.items × (a.txn ≡ txn) × (a.level ≡ level) × (a.is_auto ≡ true) × (st.own a.txn.0 ≡ []) }
+        requires some { changes.items ≢ [] }
         requires bounds { CanGoOn self.old }
-        ensures comes { (before : Environment D) (most line : ℕ) (st : Standing) (a : Transaction) (asked : Asked) (db : Lists ℕ) (found : Found) (g : Target) (answer : Answered)
-            → IsTakenUp D.observable D.history most before self.old st session a asked db found g answer changes → Moves session asked (outcome_of st a asked g).place moves → a.txn ≡ txn → a.level ≡ level → g.db ≡ number → a.is_auto ≡ true → st.own a.txn.0 ≡ []
+        ensures comes { (before : Environment D) (most line : ℕ) (st : Standing) (a : Transaction) (asked : Asked) (g : Target) (answer : Answered)
+            → IsTakenUp D.observable D.history most before self.old st session a asked g answer changes.items → Moves session asked (outcome_of st a asked g).place moves → a.txn ≡ txn → a.level ≡ level → a.is_auto ≡ true → st.own a.txn.0 ≡ []
             → AccessesTo D.observable D.history D.sync_out D.read_out D.read_of most before self.new st a line asked g result }
         ensures bounds { CanGoOn self.new }
         ensures cause { HasCause (D.faults (disk_of self.old)) (D.faults (disk_of self.new)) result }
     {
-        let set = count_sets(changes.as_slice());
+        let set = count_set(changes.as_slice());
         let Some(all) = records_before(&self.engine.kept, set) else {
             drop(changes);
             drop(moves);
             self.sessions.give_up(txn);
             return Err(AllocError);
         };
-        let pushed = self.push_and_log(alloc, txn, number, changes.as_slice());
-        drop(changes);
-        match pushed {
+        match self.push_and_log(alloc, txn, changes) {
             Ok(wrote) => Ok(self.end_again(alloc, session, txn, level, all, wrote, moves)),
             Err(error) => {
                 drop(moves);

@@ -1,24 +1,18 @@
 // The log and the trees get the changes of a call on records.
-ghost use Rattle.std.specs.Prelude.{◌≡◌, ◌≤◌, ◌+◌, true, false, nat_lt, map, IfOk, IfSome};
-ghost use Rattle.je_order.specs.Counts.{HasRisen};
+ghost use Rattle.std.specs.Prelude.{◌≡◌, ◌≤◌, ◌+◌, true, false, nat_lt, IfSome};
 ghost use Rattle.std.specs.List.{AllByRecursion};
-ghost use Rattle.je_answers.specs.Standing.{Standing};
-ghost use Rattle.je_answers.specs.Views.{Target, changes_at};
 ghost use Rattle.log_buffer.specs.Buffer.{has_failed};
 ghost use Rattle.log_entry.specs.Body.{IsEntry};
 ghost use Rattle.record_map.specs.Cells.{value_at};
 ghost use Rattle.record_tree.specs.Logged.{entry_for};
 ghost use Rattle.record_tree.specs.Occupied.{IsFreeFor, write_in};
 ghost use Rattle.in_tree.specs.Observed.{cells_of, has_tree_of};
-ghost use Rattle.txn_core.specs.Plans.{record_planned};
-ghost use Rattle.sessions.specs.AtStanding.{owing, with_own};
 ghost use Rattle.engine.specs.Limits.{last_number, numbers_for};
-ghost use Rattle.environment.specs.Valid.{active_number};
 ghost use Rattle.environment.specs.Whole.{disk_of};
-ghost use Rattle.environment.specs.Writing.{IsValidAt, MayWrite, WritesAll, WritesOwn};
+ghost use Rattle.environment.specs.Writing.{WritesAll};
 
 use crate::environment::Environment;
-use crate::own_changes::{are_new, copy_changes, copy_names, count_had};
+use crate::own_changes::count_had;
 use crate::own_names::{append_at, make_room_at};
 use crate::tree_writing::{limit_of, write_changes};
 use crate::wrote::Wrote;
@@ -27,7 +21,7 @@ use je_disk::Disk;
 use je_order::TxnId;
 use record_tree::{Records, TreeChange, TreeName};
 use std::alloc::{AllocError, Global};
-use store_model::{Fault, RecordChange};
+use store_model::Fault;
 
 // Whether so many changes may lack a number of a node.
 fn may_lack(last_node: u64, changes: usize) -> bool
@@ -45,7 +39,7 @@ fn may_lack(last_node: u64, changes: usize) -> bool
 impl<D: Disk> Environment<D> {
     // Logs changes of a transaction and makes them in the trees, and notes their names. Where the disk failed, the
     // fault is noted.
-    fn write_all(
+    pub(crate) fn write_all(
         &mut self,
         alloc: Global,
         txn: TxnId,
@@ -66,11 +60,10 @@ impl<D: Disk> Environment<D> {
             return limit_of(&mut self.engine.trees, alloc, txn, changes, owed);
         }
         self.engine.trees.are_ordered();
-        let had = count_had(&self.engine.trees, txn, changes);
-        // A call changes at most one name without a record: were it otherwise, this would run out of memory.
-        if are_new(changes.len(), had) {
+        // Of each database a call changes at most one name without a record: were it otherwise, this would run out of memory.
+        let Some(had) = count_had(&self.engine.trees, txn, changes) else {
             return Err(AllocError);
-        }
+        };
         let first = self.engine.trees.log.end();
         make_room_at(
             &mut self.written.by_txn,
@@ -95,30 +88,5 @@ impl<D: Disk> Environment<D> {
             Wrote::Full => Ok(Wrote::Full),
             Wrote::NoNumbers => Err(AllocError),
         }
-    }
-
-    // Logs changes of a transaction under way, with room for as many Commits behind them, and makes them in the trees. Where the
-    // disk failed, the fault is noted.
-    pub(crate) fn log_own(
-        &mut self,
-        alloc: Global,
-        txn: TxnId,
-        db: u32,
-        changes: &[RecordChange],
-        owed: u32,
-    ) -> Result<Wrote, AllocError>
-        requires can { (st : Standing) × (g : Target) × IsValidAt D.observable D.history self.old st × MayWrite st txn.0 g changes.now × (g.db ≡ db) × (active_number st.actives txn.0 ≡ true)
-            × (self.old.engine.kept.last_txn ≡ st.last_txn) × (self.old.engine.kept.last_db ≡ st.last_db) }
-        requires entries { AllByRecursion (λ c. IsEntry (entry_for txn c.db c.name c.value)) (map (record_planned db) changes.now) }
-        ensures sessions { self.new.sessions ≡ self.old.sessions }
-        ensures writes { (st : Standing) (g : Target) → IsValidAt D.observable D.history self.old st → MayWrite st txn.0 g changes.now → g.db ≡ db → active_number st.actives txn.0 ≡ true
-            → self.old.engine.kept.last_txn ≡ st.last_txn → self.old.engine.kept.last_db ≡ st.last_db → owed ≡ owing (with_own txn.0 (changes_at g.db changes.now) st)
-            → WritesOwn D.observable D.history D.sync_out D.read_out D.read_of self.old self.new st txn.0 g changes.now owed result }
-        ensures never_falls { D.faults (disk_of self.old) ≤ D.faults (disk_of self.new) }
-        ensures rose { IfOk result (λ wrote. wrote ≡ Wrote.Failed → HasRisen (D.faults (disk_of self.old)) (D.faults (disk_of self.new))) }
-    {
-        let planned = copy_changes(alloc, db, changes)?;
-        let names = copy_names(alloc, db, changes)?;
-        self.write_all(alloc, txn, planned.as_slice(), names, owed)
     }
 }

@@ -1,11 +1,11 @@
 // A call's own changes as what is logged and written of them.
-ghost use Rattle.std.specs.Prelude.{◌≡◌, ◌+◌, IfOk, map, count_by, nat_lt};
+ghost use Rattle.std.specs.Prelude.{◌≡◌, IfOk, IfSome, true, map, count_by};
+ghost use Rattle.std.specs.List.{AllByRecursion};
 ghost use Rattle.std.specs.Option.{is_some};
-ghost use Rattle.je_answers.specs.Views.{changes_at};
-ghost use Rattle.record_tree.specs.Occupied.{occupied_by};
+ghost use Rattle.record_tree.specs.Occupied.{AreFewNew, occupied_by};
 ghost use Rattle.store_model.specs.declared.isolation.Isolation.TheVariants.{RepeatableRead};
 ghost use Rattle.txn_views.specs.Seen.{seen_value};
-ghost use Rattle.txn_core.specs.Plans.{record_planned};
+ghost use Rattle.txn_log.specs.Own.{tree_of};
 ghost use Rattle.txn_views.specs.Laws.{own_name, own_names};
 ghost use Rattle.environment.specs.Writing.{has_record};
 
@@ -17,7 +17,7 @@ use store_model::RecordChange;
 use txn_core::reading::committed_in;
 
 fn copy_change(alloc: Global, db: u32, change: &RecordChange) -> Result<TreeChange, AllocError>
-    ensures { IfOk result (λ planned. planned ≡ record_planned db change.now) }
+    ensures { IfOk result (λ planned. planned ≡ tree_of (db, change.now)) }
 {
     match change {
         RecordChange::Set { at, value } => {
@@ -42,17 +42,16 @@ fn copy_change(alloc: Global, db: u32, change: &RecordChange) -> Result<TreeChan
     }
 }
 
-// The changes of the records of one database, as what is logged of them.
+// Changes, each with its database's number, as what is logged of them.
 pub(crate) fn copy_changes(
     alloc: Global,
-    db: u32,
-    changes: &[RecordChange],
+    changes: &[(u32, RecordChange)],
 ) -> Result<Vec<TreeChange>, AllocError>
-    ensures { IfOk result (λ planned. planned.items ≡ map (record_planned db) changes.now) }
+    ensures { IfOk result (λ planned. planned.items ≡ map tree_of changes.now) }
 {
     let mut planned = Vec::new(alloc);
     for change in changes {
-        planned.push(copy_change(alloc, db, change)?)?;
+        planned.push(copy_change(alloc, change.0, &change.1)?)?;
     }
     Ok(planned)
 }
@@ -71,14 +70,13 @@ fn copy_name(alloc: Global, db: u32, change: &RecordChange) -> Result<TreeName, 
 // The names of these changes in the trees.
 pub(crate) fn copy_names(
     alloc: Global,
-    db: u32,
-    changes: &[RecordChange],
+    changes: &[(u32, RecordChange)],
 ) -> Result<Vec<TreeName>, AllocError>
-    ensures { IfOk result (λ names. names.items ≡ own_names (changes_at db changes.now)) }
+    ensures { IfOk result (λ names. names.items ≡ own_names changes.now) }
 {
     let mut names = Vec::new(alloc);
     for change in changes {
-        names.push(copy_name(alloc, db, change)?)?;
+        names.push(copy_name(alloc, change.0, &change.1)?)?;
     }
     Ok(names)
 }
@@ -106,25 +104,32 @@ fn holds<T: Records>(trees: &T, txn: TxnId, change: &TreeChange) -> bool
     }
 }
 
-// How many of these names have one.
-pub(crate) fn count_had<T: Records>(trees: &T, txn: TxnId, changes: &[TreeChange]) -> u64
-    ensures { result ≡ count_by (has_record txn (T.cells trees.now)) changes.now }
+// Whether each of these names has one, of those of a database.
+fn have_in<T: Records>(trees: &T, txn: TxnId, db: u32, changes: &[TreeChange]) -> bool
+    ensures { result ≡ true → AllByRecursion (λ e. db ≡ e.db → has_record txn (T.cells trees.now) e ≡ true) changes.now }
 {
-    let mut count = 0u64;
     for change in changes {
-        if holds(trees, txn, change) {
-            count += 1;
+        if change.db == db && !holds(trees, txn, change) {
+            return false;
         }
     }
-    count
+    true
 }
 
-// Whether more than one of so many changes is of a name that has none, where so many have one.
-pub(crate) fn are_new(changes: usize, had: u64) -> bool
-    ensures { result ≡ nat_lt (had + 1) changes }
+// How many of these names have one; None where of those of a database more than one has none.
+pub(crate) fn count_had<T: Records>(trees: &T, txn: TxnId, changes: &[TreeChange]) -> Option<u64>
+    ensures counted { IfSome result (λ had. had ≡ count_by (has_record txn (T.cells trees.now)) changes.now) }
+    ensures few { IfSome result (λ had. AreFewNew (T.cells trees.now) changes.now) }
 {
-    match had.checked_add(1) {
-        Some(most) => most < changes as u64,
-        None => false,
+    let mut count = 0u64;
+    let mut rest = changes;
+    while let Some((change, later)) = rest.split_first() {
+        if holds(trees, txn, change) {
+            count += 1;
+        } else if !have_in(trees, txn, change.db, later) {
+            return None;
+        }
+        rest = later;
     }
+    Some(count)
 }

@@ -1,23 +1,24 @@
 // What a call changes that got its locks: pushed and logged, and how it ends.
-ghost use Rattle.std.specs.Prelude.{◌≡◌, ◌≢◌, ◌≤◌, ◌<◌, ◌^◌, ℕ, [], List as Lists, Option as Maybe, true, map, IfOk, OnOk, OnErr};
+ghost use Rattle.std.specs.Prelude.{◌≡◌, ◌≢◌, ◌≤◌, ◌<◌, ◌^◌, ℕ, [], List as Lists, Option as Maybe, true, map, IfOk};
 ghost use Rattle.std.specs.List.{AllByRecursion};
 ghost use Rattle.je_order.specs.Counts.{HasRisen};
 ghost use Rattle.je_order.specs.declared.name.Name.{Name as Named};
 ghost use Rattle.log_entry.specs.Body.{IsEntry};
 ghost use Rattle.record_tree.specs.Logged.{entry_for};
-ghost use Rattle.txn_core.specs.Plans.{record_planned};
+ghost use Rattle.store_model.specs.Indexes.{Numbered};
+ghost use Rattle.txn_log.specs.Own.{tree_of};
+ghost use Rattle.txn_views.specs.Laws.{own_names};
 ghost use Rattle.store_model.specs.declared.call.Call.{Call as Asked};
 ghost use Rattle.store_model.specs.declared.answer.Answer.{Answer as Answered};
 ghost use Rattle.store_model.specs.declared.need.Need.{Need};
 ghost use Rattle.store_model.specs.declared.record_change.RecordChange.{RecordChange as Changed};
 ghost use Rattle.je_answers.specs.declared.active.Active.{Active as Transaction};
 ghost use Rattle.je_answers.specs.Standing.{Standing};
-ghost use Rattle.je_answers.specs.Views.{Target, changes_at, needs_in, outcome_of};
+ghost use Rattle.je_answers.specs.Views.{Target, changes_with, needs_in, outcome_of, with_numbers};
 ghost use Rattle.je_answers.specs.Locking.{all_got};
 ghost use Rattle.je_answers.specs.After.{with_locks};
 ghost use Rattle.sessions.specs.AtStanding.{AreSessionsAt, owing, with_own};
 ghost use Rattle.sessions.specs.Taking.{HasTaken};
-ghost use Rattle.db_catalog.specs.declared.found_db.FoundDb.{FoundDb as Found};
 ghost use Rattle.environment.specs.Access.{IsTakenUp, Moves};
 ghost use Rattle.environment.specs.OwnEnds.{AreEndedBy, ComesUp, HasPushed, HasPushedAndLogged, answer_for};
 ghost use Rattle.environment.specs.Valid.{active_number};
@@ -26,61 +27,39 @@ ghost use Rattle.environment.specs.Writing.{IsValidAt, MayWrite, WritesOwn};
 
 use crate::environment::Environment;
 use crate::moving::{Move, move_by};
+use crate::own_changes::{copy_changes, copy_names};
 use crate::wrote::Wrote;
 use je_disk::Disk;
-use je_order::{List, TxnId, copy_of};
-use record_tree::Records;
+use je_order::TxnId;
+use record_tree::{Records, TreeChange, TreeName};
 use sessions::Sessions;
 use std::alloc::{AllocError, Global};
 use store_model::{Answer, Isolation, RecordChange};
-
-fn copy_own(change: &RecordChange) -> Result<RecordChange, AllocError>
-    ensures { IfOk result (λ copy. copy ≡ change.now) }
-{
-    match change {
-        RecordChange::Set { at, value } => {
-            let value = copy_of(value)?;
-            let at = copy_of(at)?;
-            Ok(RecordChange::Set { at, value })
-        }
-        RecordChange::Unset { at } => {
-            let at = copy_of(at)?;
-            Ok(RecordChange::Unset { at })
-        }
-    }
-}
-
-// The same changes once more.
-fn copy_list(alloc: Global, changes: &[RecordChange]) -> Result<List<RecordChange>, AllocError>
-    ensures { IfOk result (λ copies. copies ≡ changes.now) }
-{
-    let mut copies = Vec::new(alloc);
-    for change in changes {
-        copies.push(copy_own(change)?)?;
-    }
-    Ok(List::from_vec(copies))
-}
 
 // A number has 64 bits: for those who reason above it. It does nothing.
 fn number_fits(number: u64)
     ensures { number < 2 ^ 64 }
 {}
 
-// Puts changes at the end of a transaction's own; where there is no memory, none of them.
-fn push_copy(
-    sessions: &mut Sessions,
-    alloc: Global,
-    txn: TxnId,
-    db: u32,
-    changes: &[RecordChange],
-) -> Result<(), AllocError>
-    ensures taken { OnOk result ((a : Transaction) (needs : Lists Need) (st : Standing) → HasTaken sessions.old true a needs st → HasTaken sessions.new true a needs (with_own txn.0 (changes_at db changes.now) st)) }
-    ensures err { OnErr result ((a : Transaction) (needs : Lists Need) (st : Standing) → HasTaken sessions.old true a needs st → HasTaken sessions.new true a needs st) }
+// The same of a number of 32 bits.
+fn db_fits(number: u32)
+    ensures { number < 2 ^ 32 }
+{}
+
+// Changes as the trees get them, and the names of these.
+#[derive(Drop)]
+struct Copied {
+    changes: Vec<TreeChange>,
+    names: Vec<TreeName>,
+}
+
+fn copies_of(alloc: Global, changes: &[(u32, RecordChange)]) -> Result<Copied, AllocError>
+    ensures changes { IfOk result (λ copied. copied.changes.items ≡ map tree_of changes.now) }
+    ensures names { IfOk result (λ copied. copied.names.items ≡ own_names changes.now) }
 {
-    match copy_list(alloc, changes) {
-        Ok(copies) => sessions.push_own(alloc, txn, db, copies),
-        Err(error) => Err(error),
-    }
+    let names = copy_names(alloc, changes)?;
+    let changes = copy_changes(alloc, changes)?;
+    Ok(Copied { changes, names })
 }
 
 // Takes back the changes of a call that is answered without them.
@@ -168,52 +147,74 @@ impl<D: Disk> Environment<D> {
         Ok(owing as u32)
     }
 
-    // Logs changes that are their transaction's own already.
-    fn log_pushed(
-        &mut self,
-        alloc: Global,
-        txn: TxnId,
-        db: u32,
-        changes: &[RecordChange],
-    ) -> Result<Wrote, AllocError>
-        requires can { (st : Standing) × (g : Target) × IsValidAt D.observable D.history self.old st × MayWrite st txn.0 g changes.now × (g.db ≡ db) × (active_number st.actives txn.0 ≡ true)
-            × (self.old.engine.kept.last_txn ≡ st.last_txn) × (self.old.engine.kept.last_db ≡ st.last_db) }
-        requires entries { AllByRecursion (λ c. IsEntry (entry_for txn c.db c.name c.value)) (map (record_planned db) changes.now) }
+    // Logs changes that are their transaction's own already, as they were copied for the trees.
+    fn log_pushed(&mut self, alloc: Global, txn: TxnId, copied: Copied) -> Result<Wrote, AllocError>
+        requires can { (st : Standing) × (cs : Lists (Numbered × Changed)) × IsValidAt D.observable D.history self.old st × MayWrite st txn.0 cs × (copied.changes.items ≡ map tree_of (with_numbers cs)) }
+        requires entries { AllByRecursion (λ c. IsEntry (entry_for txn c.db c.name c.value)) copied.changes.items }
         ensures sessions { self.new.sessions ≡ self.old.sessions }
-        ensures writes { (st : Standing) (g : Target) (a : Transaction) (needs : Lists Need) → IsValidAt D.observable D.history self.old st → MayWrite st txn.0 g changes.now → g.db ≡ db → active_number st.actives txn.0 ≡ true
-            → self.old.engine.kept.last_txn ≡ st.last_txn → self.old.engine.kept.last_db ≡ st.last_db → HasTaken self.old.sessions true a needs (with_own txn.0 (changes_at g.db changes.now) st)
-            → WritesOwn D.observable D.history D.sync_out D.read_out D.read_of self.old self.new st txn.0 g changes.now (owing (with_own txn.0 (changes_at g.db changes.now) st)) result }
+        ensures writes { (st : Standing) (cs : Lists (Numbered × Changed)) (a : Transaction) (needs : Lists Need) → IsValidAt D.observable D.history self.old st → MayWrite st txn.0 cs → active_number st.actives txn.0 ≡ true
+            → self.old.engine.kept.last_db ≡ st.last_db → copied.changes.items ≡ map tree_of (with_numbers cs) → copied.names.items ≡ own_names (with_numbers cs) → HasTaken self.old.sessions true a needs (with_own txn.0 (with_numbers cs) st)
+            → WritesOwn D.observable D.history D.sync_out D.read_out D.read_of self.old self.new st txn.0 cs (owing (with_own txn.0 (with_numbers cs) st)) result }
         ensures never_falls { D.faults (disk_of self.old) ≤ D.faults (disk_of self.new) }
         ensures rose { IfOk result (λ wrote. wrote ≡ Wrote.Failed → HasRisen (D.faults (disk_of self.old)) (D.faults (disk_of self.new))) }
     {
+        let Copied { changes, names } = copied;
         match self.owed() {
-            Ok(owed) => self.log_own(alloc, txn, db, changes, owed),
+            Ok(owed) => self.write_all(alloc, txn, changes.as_slice(), names, owed),
             Err(error) => Err(error),
         }
     }
 
-    // Makes changes a transaction's own, and logs them.
+    // Makes changes a transaction's own, and logs them as they were copied.
+    fn push_copied(
+        &mut self,
+        alloc: Global,
+        txn: TxnId,
+        changes: Vec<(u32, RecordChange)>,
+        copied: Copied,
+    ) -> Result<Wrote, AllocError>
+        requires can { (st : Standing) × (cs : Lists (Numbered × Changed)) × IsValidAt D.observable D.history self.old st × MayWrite st txn.0 cs × (copied.changes.items ≡ map tree_of (with_numbers cs)) }
+        requires entries { AllByRecursion (λ c. IsEntry (entry_for txn c.db c.name c.value)) copied.changes.items }
+        ensures writes { (st : Standing) (cs : Lists (Numbered × Changed)) (a : Transaction) (needs : Lists Need) → IsValidAt D.observable D.history self.old st → MayWrite st a.txn.0 cs → a.txn ≡ txn → active_number st.actives a.txn.0 ≡ true
+            → self.old.engine.kept.last_db ≡ st.last_db → changes.items ≡ with_numbers cs → copied.changes.items ≡ map tree_of (with_numbers cs) → copied.names.items ≡ own_names (with_numbers cs) → HasTaken self.old.sessions true a needs st
+            → HasPushedAndLogged D.observable D.history D.sync_out D.read_out D.read_of self.old self.new a needs st cs result }
+        ensures never_falls { D.faults (disk_of self.old) ≤ D.faults (disk_of self.new) }
+        ensures rose { IfOk result (λ wrote. wrote ≡ Wrote.Failed → HasRisen (D.faults (disk_of self.old)) (D.faults (disk_of self.new))) }
+    {
+        match self.sessions.push_own(alloc, txn, changes) {
+            Ok(()) => self.log_pushed(alloc, txn, copied),
+            Err(error) => {
+                drop(copied);
+                Err(error)
+            }
+        }
+    }
+
+    // Makes what a call changes that got its locks its transaction's own, and logs it.
     pub(crate) fn push_and_log(
         &mut self,
         alloc: Global,
         txn: TxnId,
-        number: u32,
-        changes: &[RecordChange],
+        changes: Vec<(u32, RecordChange)>,
     ) -> Result<Wrote, AllocError>
-        requires taken { (before : Environment D) × (most session : ℕ) × (st : Standing) × (a : Transaction) × (asked : Asked) × (db : Lists ℕ) × (found : Found) × (g : Target) × (answer : Answered)
-            × IsTakenUp D.observable D.history most before self.old st session a asked db found g answer changes.now × (a.txn ≡ txn) × (g.db ≡ number) }
-        requires some { changes.now ≢ [] }
-        ensures writes { (before : Environment D) (most session : ℕ) (st : Standing) (a : Transaction) (asked : Asked) (db : Lists ℕ) (found : Found) (g : Target) (answer : Answered)
-            → IsTakenUp D.observable D.history most before self.old st session a asked db found g answer changes.now → a.txn ≡ txn → g.db ≡ number
-            → HasPushedAndLogged D.observable D.history D.sync_out D.read_out D.read_of self.old self.new a (needs_in st a asked g) st g changes.now result }
+        requires taken { (before : Environment D) × (most session : ℕ) × (st : Standing) × (a : Transaction) × (asked : Asked) × (g : Target) × (answer : Answered)
+            × IsTakenUp D.observable D.history most before self.old st session a asked g answer changes.items × (a.txn ≡ txn) }
+        requires some { changes.items ≢ [] }
+        ensures writes { (before : Environment D) (most session : ℕ) (st : Standing) (a : Transaction) (asked : Asked) (g : Target) (answer : Answered)
+            → IsTakenUp D.observable D.history most before self.old st session a asked g answer changes.items → a.txn ≡ txn
+            → HasPushedAndLogged D.observable D.history D.sync_out D.read_out D.read_of self.old self.new a (needs_in st a asked g) st (changes_with st a g (outcome_of st a asked g).changes) result }
         ensures never_falls { D.faults (disk_of self.old) ≤ D.faults (disk_of self.new) }
         ensures rose { IfOk result (λ wrote. wrote ≡ Wrote.Failed → HasRisen (D.faults (disk_of self.old)) (D.faults (disk_of self.new))) }
     {
         self.engine.trees.are_ordered();
         number_fits(txn.0);
-        match push_copy(&mut self.sessions, alloc, txn, number, changes) {
-            Ok(()) => self.log_pushed(alloc, txn, number, changes),
-            Err(error) => Err(error),
+        db_fits(self.engine.kept.last_db);
+        match copies_of(alloc, changes.as_slice()) {
+            Ok(copied) => self.push_copied(alloc, txn, changes, copied),
+            Err(error) => {
+                drop(changes);
+                Err(error)
+            }
         }
     }
 
@@ -223,23 +224,22 @@ impl<D: Disk> Environment<D> {
         alloc: Global,
         txn: TxnId,
         level: Isolation,
-        number: u32,
-        changes: &[RecordChange],
+        changes: Vec<(u32, RecordChange)>,
         moves: Option<Move>,
     ) -> Result<Wrote, AllocError>
-        requires taken { (before : Environment D) × (most session : ℕ) × (st : Standing) × (a : Transaction) × (asked : Asked) × (db : Lists ℕ) × (found : Found) × (g : Target) × (answer : Answered)
-            × IsTakenUp D.observable D.history most before self.old st session a asked db found g answer changes.now × (a.txn ≡ txn) × (a.level ≡ level) × (g.db ≡ number) }
-        requires some { changes.now ≢ [] }
+        requires taken { (before : Environment D) × (most session : ℕ) × (st : Standing) × (a : Transaction) × (asked : Asked) × (g : Target) × (answer : Answered)
+            × IsTakenUp D.observable D.history most before self.old st session a asked g answer changes.items × (a.txn ≡ txn) × (a.level ≡ level) }
+        requires some { changes.items ≢ [] }
         requires bounds { CanGoOn self.old }
-        ensures comes { (before : Environment D) (most session : ℕ) (st : Standing) (a : Transaction) (asked : Asked) (db : Lists ℕ) (found : Found) (g : Target) (answer : Answered)
-            → IsTakenUp D.observable D.history most before self.old st session a asked db found g answer changes.now → Moves session asked (outcome_of st a asked g).place moves → a.txn ≡ txn → a.level ≡ level → g.db ≡ number
+        ensures comes { (before : Environment D) (most session : ℕ) (st : Standing) (a : Transaction) (asked : Asked) (g : Target) (answer : Answered)
+            → IsTakenUp D.observable D.history most before self.old st session a asked g answer changes.items → Moves session asked (outcome_of st a asked g).place moves → a.txn ≡ txn → a.level ≡ level
             → ComesUp D.observable D.history D.sync_out D.read_out D.read_of most before self.new st a asked g result }
         ensures bounds { CanGoOn self.new }
         ensures never_falls { D.faults (disk_of self.old) ≤ D.faults (disk_of self.new) }
         ensures rose { IfOk result (λ wrote. wrote ≡ Wrote.Failed → HasRisen (D.faults (disk_of self.old)) (D.faults (disk_of self.new))) }
     {
         let len = self.sessions.own(txn).len();
-        match self.push_and_log(alloc, txn, number, changes) {
+        match self.push_and_log(alloc, txn, changes) {
             Ok(wrote) => {
                 end_own(&mut self.sessions, txn, level, len, wrote, moves);
                 Ok(wrote)

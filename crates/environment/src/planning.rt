@@ -1,24 +1,26 @@
 // What a call on records comes to for a transaction, and what it needs.
-ghost use Rattle.std.specs.Prelude.{◌≡◌, IfOk};
+ghost use Rattle.std.specs.Prelude.{◌≡◌, None, IfOk};
 ghost use Rattle.std.specs.Option.{option_copied};
 ghost use Rattle.je_answers.specs.declared.active.Active.{Active as Transaction};
 ghost use Rattle.je_answers.specs.Standing.{Standing};
 ghost use Rattle.je_answers.specs.Views.{Target};
 ghost use Rattle.standing_laws.specs.Right.{AreSound};
+ghost use Rattle.txn_views.specs.Targets.{IsOutcomeIn};
 ghost use Rattle.environment.specs.Access.{IsOnDb, IsPlannedFor};
 ghost use Rattle.environment.specs.Writing.{IsValidAt};
 
+use crate::call_plan::CallPlan;
 use crate::environment::Environment;
 use db_catalog::FoundDb;
 use je_disk::Disk;
-use je_order::{Name, TxnId, Word};
+use je_order::{List, Name, TxnId, Word};
 use std::alloc::{AllocError, Global};
 use store_model::{Call, Isolation};
-use txn_views::{CursorPlan, plan_cursor};
+use txn_views::{FoundTarget, OutcomePlan, plan_outcome, plan_target};
 
 impl<D: Disk> Environment<D> {
     // What a call comes to for a transaction at a level, on a database that was found under a name and from where its cursor
-    // stands, and the locks that it needs.
+    // stands, and the locks that it needs. No database is an index or has one.
     pub(crate) fn plan(
         &self,
         alloc: Global,
@@ -28,12 +30,49 @@ impl<D: Disk> Environment<D> {
         found: FoundDb,
         call: &Call,
         at: Option<&Name>,
-    ) -> Result<CursorPlan, AllocError>
+    ) -> Result<CallPlan, AllocError>
         requires here { (st : Standing) × (a : Transaction) × (g : Target) × IsValidAt D.observable D.history self.now st × AreSound st × IsOnDb st db.now found g × (g.at ≡ option_copied at) × (a.txn ≡ txn) × (a.level ≡ level) }
         ensures { IfOk result (λ p. (st : Standing) (a : Transaction) (g : Target) → IsValidAt D.observable D.history self.now st → AreSound st → IsOnDb st db.now found g → g.at ≡ option_copied at.entry → a.txn ≡ txn → a.level ≡ level
-            → IsPlannedFor st a call.now g p.plan.answer p.plan.changes p.plan.needs.items p.place) }
+            → IsPlannedFor st a call.now g p) }
     {
         self.engine.trees.are_ordered();
-        plan_cursor(&self.engine.trees, alloc, txn, level, found, call, at)
+        let on = FoundTarget {
+            db: found,
+            over: None,
+            indexes: &[],
+        };
+        match plan_target(&self.engine.trees, alloc, txn, level, on, call, at) {
+            Ok(target) => Ok(CallPlan {
+                target,
+                others: List::new(alloc),
+            }),
+            Err(error) => Err(error),
+        }
+    }
+
+    // The same for a call without a cursor, and without its locks.
+    pub(crate) fn plan_outcome(
+        &self,
+        alloc: Global,
+        txn: TxnId,
+        level: Isolation,
+        db: &Word,
+        found: FoundDb,
+        call: &Call,
+    ) -> Result<OutcomePlan, AllocError>
+        requires here { (st : Standing) × (a : Transaction) × (g : Target) × IsValidAt D.observable D.history self.now st × AreSound st × IsOnDb st db.now found g × (g.at ≡ None) × (a.txn ≡ txn) × (a.level ≡ level) }
+        ensures { IfOk result (λ p. (st : Standing) (a : Transaction) (g : Target) → IsValidAt D.observable D.history self.now st → AreSound st → IsOnDb st db.now found g → g.at ≡ None → a.txn ≡ txn → a.level ≡ level
+            → IsOutcomeIn st a call.now g p) }
+    {
+        self.engine.trees.are_ordered();
+        let on = FoundTarget {
+            db: found,
+            over: None,
+            indexes: &[],
+        };
+        match plan_outcome(&self.engine.trees, alloc, txn, level, on, call) {
+            Ok(planned) => Ok(planned),
+            Err(error) => Err(error),
+        }
     }
 }

@@ -24,3 +24,5 @@ mod CursorUsers
 mod Results
 -- The databases of open cursors go by their names in a store that changed.
 pub mod CursorStores
+-- The name of a need's database.
+pub mod Naming

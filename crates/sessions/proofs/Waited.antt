@@ -20,7 +20,6 @@ use Rattle.je_answers.specs.Views.{Target, needs_in}
 use Rattle.je_answers.specs.Locking.{record_of, first_blocked, owner_before, with_wait, waits_in}
 use Rattle.je_answers.specs.Events.{told_in, cycle_of, waiting_answer, lock_target, asking, queues_before, locks_before, IsWaiting, IsStopped}
 use Rattle.je_answers.specs.After.{txns_of, with_victims, after_stop}
-use Rattle.je_answers.proofs.PlainTargets.{plain_lock_target}
 use Rattle.txn_locks.specs.Taking.{state_of, with_granted, IsMadeToWait}
 use Rattle.standing_laws.specs.Right.{HaveWaits, IsWaitIn, has_wait}
 use Rattle.standing_laws.proofs.Among.{its_session}
@@ -36,6 +35,9 @@ use Rattle.open_cursors.specs.declared.open_cursors.OpenCursors.{OpenCursors}
 use Rattle.lock_table.specs.Table.{Locks}
 use Rattle.sessions.specs.AtStanding.{AreCursorsOn, AreSessionsAt, AreLocksAt}
 use Rattle.sessions.specs.Taking.{HasStopped}
+use Rattle.sessions.specs.declared.named_db.NamedDb.{NamedDb}
+use Rattle.sessions.specs.Names.{target_by}
+use Rattle.sessions.proofs.Naming.{target_is}
 use Rattle.sessions.specs.Spares.{IsShort}
 use Rattle.sessions.specs.Waiting.{HasTold, HasWaited}
 use Rattle.standing_laws.proofs.Victims.{txns, few_victims, victims_in, all_wait}
@@ -113,15 +115,15 @@ its_own (Some first) v = tt
 abbrev wait_with : ℕ → ℕ → Call → TxnId → Wait
 wait_with session line call t = record { session = session; line = line; call = call; txn = t }
 
-pub waited : (taken : Taken) (k : Asker) (session line : ℕ) (call : Call) (db : List ℕ) (kind : Kind) (needs ns : List Need) (room : StopRoom) (b : Blocked) (old mid new : Sessions)
+pub waited : (taken : Taken) (k : Asker) (session line : ℕ) (call : Call) (db : List ℕ) (kind : Kind) (others : List NamedDb) (needs ns : List Need) (room : StopRoom) (b : Blocked) (old mid new : Sessions)
     → HasTold taken room kind needs b mid new → ns ≡ needs
     → IsMadeToWait k.txn ns b.at b.owner b.victims.items (state_of old.locks.locks) (state_of mid.locks.locks)
-    → room.wait ≡ record { session = session; line = line; call = call; txn = k.txn } → room.db ≡ db
+    → room.wait ≡ record { session = session; line = line; call = call; txn = k.txn } → room.db ≡ db → room.others ≡ others
     → mid.txns ≡ old.txns → mid.waiting.items ≡ old.waiting.items → mid.cursors ≡ old.cursors
     → HaveWaits old.txns.actives.items old.waiting.items (state_of old.locks.locks).pending
-    → HasWaited taken k session line call db kind needs old new
-waited Ready k session line call db kind needs ns room b old mid new h same made wait_is db_is txns_is ws_is cursors_is have = h
-waited (Stopped answer victims) k session line call db kind needs ns room b old mid new h same made wait_is db_is txns_is ws_is cursors_is have = λ st a g fault asker waits are at.
+    → HasWaited taken k session line call db kind others needs old new
+waited Ready k session line call db kind others needs ns room b old mid new h same made wait_is db_is others_is txns_is ws_is cursors_is have = h
+waited (Stopped answer victims) k session line call db kind others needs ns room b old mid new h same made wait_is db_is others_is txns_is ws_is cursors_is have = λ st a g fault asker waits are at.
     let state : state_of old.locks.locks ≡ st.locks = at_none st.fault old.locks.locks st.locks fault at.locks in
     let mine = its_session session st.actives a are.its in
     let w : room.wait ≡ asking a line call = wait_is ∙ ap₂ (λ (n : ℕ) (t : TxnId). wait_with n line call t) (sym mine.1) asker.its in
@@ -136,9 +138,10 @@ waited (Stopped answer victims) k session line call db kind needs ns room b old 
     let tells : victims ≡ map (told_in (st.waiting ++ asking a line call ∷ [])) b.victims.items = h.tells ∙ ap₂ (λ (l : List Wait) (x : Wait). map (told_in (l ++ x ∷ [])) b.victims.items) list w in
     let there : slice_get needs b.at ≡ Some m.need = ap (λ (l : List Need). slice_get l b.at) are.each ∙ m.there in
     let answers : answer ≡ waiting_answer (cycle_of a.txn b.victims.items) (lock_target g m.need) b.owner = h.answers m.need there
-    ∙ (ap (λ (x : Wait). waiting_answer (cycle_of x.txn b.victims.items) (record { db = room.db; kind = kind; at = m.need.at }) b.owner) w
-    ∙ ap₂ (λ (d : List ℕ) (q : Kind). waiting_answer (cycle_of a.txn b.victims.items) (record { db = d; kind = q; at = m.need.at }) b.owner) (db_is ∙ sym are.name) (sym are.its_kind)
-    ∙ ap (λ (x : LockTarget). waiting_answer (cycle_of a.txn b.victims.items) x b.owner) (sym (plain_lock_target g m.need are.alone))) in
+    ∙ (ap (λ (x : Wait). waiting_answer (cycle_of x.txn b.victims.items) (target_by room.others (room.db, kind) m.need) b.owner) w
+    ∙ ap (λ (x : LockTarget). waiting_answer (cycle_of a.txn b.victims.items) x b.owner)
+    (ap₂ (λ (o : List NamedDb) (d : List ℕ). target_by o (d, kind) m.need) others_is (db_is ∙ sym are.name)
+    ∙ ap (λ (q : Kind). target_by others (g.database.name, q) m.need) (sym are.its_kind) ∙ target_is others g m.need are.beside)) in
     let there_at : AreSessionsAt mid (record st { locks = state_of mid.locks.locks }) = record {
       actives = ap (λ (t : ActiveTxns). t.actives.items) txns_is ∙ at.actives;
       own = ap (λ (t : ActiveTxns). own_of t.own.entries) txns_is ∙ at.own;

@@ -2,3 +2,4 @@ pub mod AtStanding
 pub mod Taking
 pub mod Waiting
 pub mod Spares
+pub mod Names

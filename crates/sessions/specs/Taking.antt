@@ -9,7 +9,7 @@ use Rattle.store_model.specs.declared.victim.Victim.{Victim}
 use Rattle.store_model.specs.declared.answer.Answer.{Answer}
 use Rattle.je_answers.specs.declared.active.Active.{Active}
 use Rattle.je_answers.specs.Standing.{Standing, active_of}
-use Rattle.je_answers.specs.Views.{Target, IsPlain, needs_in}
+use Rattle.je_answers.specs.Views.{Target, needs_in}
 use Rattle.je_answers.specs.Locking.{first_blocked, owner_before}
 use Rattle.je_answers.specs.Events.{queues_before, IsStopped}
 use Rattle.je_answers.specs.After.{after_stop}
@@ -20,6 +20,8 @@ use Rattle.standing_laws.specs.Right.{HaveWaits}
 use Rattle.sessions.specs.declared.all_sessions.Sessions.{Sessions}
 use Rattle.sessions.specs.declared.taken.Taken.{Taken}
 use Rattle.sessions.specs.declared.taken.Taken.TheVariants.{Ready, Stopped}
+use Rattle.sessions.specs.declared.named_db.NamedDb.{NamedDb}
+use Rattle.sessions.specs.Names.{AreOthersOf}
 use Rattle.sessions.specs.AtStanding.{AreCursorsOn, AreSessionsAt}
 
 -- a session's transaction may ask for locks: it waits for none. At read committed it has no READ lock, unless its call waited before
@@ -58,10 +60,10 @@ abbrev pub IfStopped : Taken → (Answer → List Victim → Type 0) → Type 0
 IfStopped Ready P = Unit {0}
 IfStopped (Stopped answer victims) P = P answer victims
 
--- the needs are those of a call of the session's transaction on a database of that name and kind, that is no index and has none
-pub record AreNeedsOf (st : Standing) (session : ℕ) (call : Call) (db : List ℕ) (kind : Kind) (needs : List Need) (a : Active) (g : Target) : Type 0 where
+-- the needs are those of a call of the session's transaction on a database of that name and kind, with these others beside it
+pub record AreNeedsOf (st : Standing) (session : ℕ) (call : Call) (db : List ℕ) (kind : Kind) (others : List NamedDb) (needs : List Need) (a : Active) (g : Target) : Type 0 where
   pub its : active_of session st.actives ≡ Some a
   pub name : g.database.name ≡ db
   pub its_kind : g.database.kind ≡ kind
-  pub alone : IsPlain g
+  pub beside : AreOthersOf others g
   pub each : needs ≡ needs_in st a call g

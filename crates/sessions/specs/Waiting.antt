@@ -22,6 +22,8 @@ use Rattle.sessions.specs.declared.all_sessions.Sessions.{Sessions}
 use Rattle.sessions.specs.declared.taken.Taken.{Taken}
 use Rattle.sessions.specs.declared.taken.Taken.TheVariants.{Ready, Stopped}
 use Rattle.sessions.specs.declared.blocked.Blocked.{Blocked}
+use Rattle.sessions.specs.declared.named_db.NamedDb.{NamedDb}
+use Rattle.sessions.specs.Names.{target_by}
 use Rattle.sessions.specs.Spares.{HasSpare}
 use Rattle.sessions.specs.AtStanding.{AreSessionsAt}
 use Rattle.sessions.specs.Taking.{HasStopped, AreNeedsOf}
@@ -59,7 +61,7 @@ first_auto_in victims actives = option_map (λ a. (a.session, a.txn)) (find (is_
 
 -- the call of this room was stopped, where the locks have its wait: the victims were told and marked, their waits are taken out, and those of one call ended
 pub record HasToldSo (answer : Answer) (victims : List Victim) (room : StopRoom) (kind : Kind) (needs : List Need) (b : Blocked) (old new : Sessions) : Type 0 where
-  pub answers : (need : Need) → slice_get needs b.at ≡ Some need → answer ≡ waiting_answer (cycle_of room.wait.txn b.victims.items) (record { db = room.db; kind = kind; at = need.at }) b.owner
+  pub answers : (need : Need) → slice_get needs b.at ≡ Some need → answer ≡ waiting_answer (cycle_of room.wait.txn b.victims.items) (target_by room.others (room.db, kind) need) b.owner
   pub tells : victims ≡ map (told_in (old.waiting.items ++ room.wait ∷ [])) b.victims.items
   pub stands : (st : Standing) → HaveOwnSessions st.actives → AreSessionsAt old st → AreSessionsAt new (with_victims victims (record st { waiting = st.waiting ++ room.wait ∷ [] }))
 
@@ -68,7 +70,7 @@ HasTold Ready room kind needs b old new = ⊥
 HasTold (Stopped answer victims) room kind needs b old new = HasToldSo answer victims room kind needs b old new
 
 -- a call of a transaction that waits was stopped
-abbrev pub HasWaited : Taken → Asker → ℕ → ℕ → Call → List ℕ → Kind → List Need → Sessions → Sessions → Type 0
-HasWaited Ready k session line call db kind needs old new = ⊥
-HasWaited (Stopped answer victims) k session line call db kind needs old new =
-    (st : Standing) (a : Active) (g : Target) → st.fault ≡ None → IsAsker k a → a.waits ≡ true → AreNeedsOf st session call db kind needs a g → AreSessionsAt old st → HasStopped new st a line call g answer victims
+abbrev pub HasWaited : Taken → Asker → ℕ → ℕ → Call → List ℕ → Kind → List NamedDb → List Need → Sessions → Sessions → Type 0
+HasWaited Ready k session line call db kind others needs old new = ⊥
+HasWaited (Stopped answer victims) k session line call db kind others needs old new =
+    (st : Standing) (a : Active) (g : Target) → st.fault ≡ None → IsAsker k a → a.waits ≡ true → AreNeedsOf st session call db kind others needs a g → AreSessionsAt old st → HasStopped new st a line call g answer victims

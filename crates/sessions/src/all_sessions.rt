@@ -8,7 +8,7 @@ ghost use Rattle.je_answers.specs.declared.active.Active.{Active};
 ghost use Rattle.je_answers.specs.declared.wait.Wait.{Wait as WaitingCall};
 ghost use Rattle.je_answers.specs.Standing.{Standing, active_of, place_at, wait_of as wait_in};
 ghost use Rattle.je_answers.specs.Alone.{Alone, alone};
-ghost use Rattle.je_answers.specs.Views.{Target, changes_at};
+ghost use Rattle.je_answers.specs.Views.{Target};
 ghost use Rattle.je_answers.specs.Refusals.{early_refusal as refusal_of};
 ghost use Rattle.je_answers.specs.Locking.{all_got, IsLeastUser, IsUnused, IsAwaited};
 ghost use Rattle.je_answers.specs.Events.{resumed as resumed_in, IsReady};
@@ -19,12 +19,12 @@ ghost use Rattle.open_cursors.specs.Under.{IsUnderIn};
 ghost use Rattle.sessions.specs.AtStanding.{AreSessionsAt, with_active, with_own, with_places, without_call, owing as owing_in};
 ghost use Rattle.sessions.specs.Taking.{MayAsk, HasTaken, HasStopped, IfReady, IfStopped, AreNeedsOf};
 
-use crate::Taken;
 use crate::ending::end_one;
 use crate::finding::{forget_for, leave_out, next_ready_in, taken_out, wait_at};
 use crate::refusing::early_refusal_in;
 use crate::taking::take_for;
 use crate::using::{cursor_user_in, lesser_of};
+use crate::{NamedDb, Taken};
 use active_txns::ActiveTxns;
 use je_answers::{Active, Wait};
 use je_order::{List, Name, TxnId, Word};
@@ -135,7 +135,8 @@ impl Sessions {
     /// Takes the locks that a call of a session's transaction needs, one after another, up to the first that
     /// has another owner in its way. There the call waits, or is answered that the lock is not available, as
     /// the transaction was begun. `resumed` says whether the call had waited before. `db` and `kind` are of
-    /// the call's database. The only error is out of memory, and nothing is changed by it.
+    /// the call's database, and `others` are the primary that it is an index of, if it is one, and then the
+    /// indexes of its records. The only error is out of memory, and nothing is changed by it.
     pub fn take(
         &mut self,
         alloc: Global,
@@ -144,16 +145,19 @@ impl Sessions {
         call: &Call,
         db: &Word,
         kind: Kind,
+        others: &List<NamedDb>,
         needs: Vec<Need>,
         resumed: bool,
     ) -> Result<Taken, AllocError>
         requires may { MayAsk self.old session resumed }
         requires call { MayWait call.now }
         ensures ready { IfOk result (λ taken. IfReady taken ((st : Standing) (a : Active) → st.fault ≡ None → active_of session st.actives ≡ Some a → AreSessionsAt self.old st → HasTaken self.new resumed a needs.items st)) }
-        ensures stopped { IfOk result (λ taken. IfStopped taken (λ answer victims. (st : Standing) (a : Active) (g : Target) → st.fault ≡ None → AreNeedsOf st session call.now db.now kind needs.items a g → AreSessionsAt self.old st → HasStopped self.new st a line call.now g answer victims)) }
+        ensures stopped { IfOk result (λ taken. IfStopped taken (λ answer victims. (st : Standing) (a : Active) (g : Target) → st.fault ≡ None → AreNeedsOf st session call.now db.now kind others.now needs.items a g → AreSessionsAt self.old st → HasStopped self.new st a line call.now g answer victims)) }
         ensures err { OnErr result ((st : Standing) → AreSessionsAt self.old st → AreSessionsAt self.new st) }
     {
-        take_for(self, alloc, session, line, call, db, kind, needs, resumed)
+        take_for(
+            self, alloc, session, line, call, db, kind, others, needs, resumed,
+        )
     }
 
     /// Gives back what the level does not keep, once a call that got its needs is answered. It takes no
@@ -173,19 +177,18 @@ impl Sessions {
         self.locks.give_up(txn);
     }
 
-    /// Puts changes of one database at the end of a transaction's own, all of them or none. The only error is
-    /// out of memory, and nothing is changed by it.
+    /// Puts changes, each with its database's number, at the end of a transaction's own, all of them or none.
+    /// The only error is out of memory, and nothing is changed by it.
     pub fn push_own(
         &mut self,
         alloc: Global,
         txn: TxnId,
-        db: u32,
-        changes: List<RecordChange>,
+        changes: Vec<(u32, RecordChange)>,
     ) -> Result<(), AllocError>
-        ensures taken { OnOk result ((resumed : Bool) (a : Active) (needs : List Need) (st : Standing) → HasTaken self.old resumed a needs st → HasTaken self.new resumed a needs (with_own txn.0 (changes_at db changes) st)) }
+        ensures taken { OnOk result ((resumed : Bool) (a : Active) (needs : List Need) (st : Standing) → HasTaken self.old resumed a needs st → HasTaken self.new resumed a needs (with_own txn.0 changes.items st)) }
         ensures err { OnErr result ((resumed : Bool) (a : Active) (needs : List Need) (st : Standing) → HasTaken self.old resumed a needs st → HasTaken self.new resumed a needs st) }
     {
-        self.txns.push_all(alloc, txn, db, changes)
+        self.txns.push_all(alloc, txn, changes)
     }
 
     /// Leaves the first changes of a transaction, those before it pushed its last ones, as where the log did

@@ -12,6 +12,7 @@ pub mod blocked;
 pub mod copying;
 pub mod ending;
 pub mod finding;
+pub mod named_db;
 pub mod refusing;
 pub mod spare;
 pub mod stop_room;
@@ -21,4 +22,5 @@ pub mod telling;
 pub mod using;
 
 pub use all_sessions::Sessions;
+pub use named_db::NamedDb;
 pub use taken::Taken;

@@ -1,6 +1,7 @@
 // Room for what a stop tells.
+use crate::NamedDb;
 use je_answers::Wait;
-use je_order::{TxnId, Word};
+use je_order::{List, TxnId, Word};
 use store_model::Victim;
 
 /// What a call needs of memory where it begins to wait, made before any lock is changed.
@@ -8,6 +9,7 @@ use store_model::Victim;
 pub struct StopRoom {
     pub wait: Wait,
     pub db: Word,
+    pub others: List<NamedDb>,
     pub told: Vec<Victim>,
     pub buffers: Vec<Vec<TxnId>>,
 }

@@ -18,6 +18,7 @@ ghost use Rattle.txn_locks.specs.Taking.{state_of, when_answered};
 ghost use Rattle.standing_laws.specs.Right.{MayWait, HaveWaits};
 ghost use Rattle.sessions.specs.AtStanding.{AreSessionsAt};
 ghost use Rattle.sessions.specs.Taking.{MayAsk, HasTaken, HasStopped, IfReady, IfStopped, AreNeedsOf};
+ghost use Rattle.sessions.specs.Names.{target_by};
 ghost use Rattle.sessions.specs.Spares.{IsShort};
 ghost use Rattle.sessions.specs.Waiting.{HasRoomFor, HasTold, HasWaited};
 ghost use Rattle.sessions.specs.declared.taken.Taken.TheVariants.{Stopped};
@@ -30,7 +31,7 @@ use crate::ending::{end_autos, leave_victims_out};
 use crate::spare::buffers_of;
 use crate::stop_room::StopRoom;
 use crate::telling::{answer_of, target_of, tell_each};
-use crate::{Sessions, Taken};
+use crate::{NamedDb, Sessions, Taken};
 use je_answers::Wait;
 use je_order::{List, TxnId, Word, copy_of};
 use std::alloc::{AllocError, Global};
@@ -45,14 +46,17 @@ fn room_for(
     line: u32,
     call: &Call,
     db: &Word,
+    others: &List<NamedDb>,
 ) -> Result<StopRoom, AllocError>
     requires { MayWait call.now }
     ensures wait { IfOk result (λ room. room.wait ≡ record { session = session; line = line; call = call.now; txn = txn }) }
     ensures db { IfOk result (λ room. room.db ≡ db.now) }
+    ensures others { IfOk result (λ room. room.others ≡ others.now) }
     ensures room { IfOk result (HasRoomFor calls) }
 {
     let call = copy_call(call)?;
     let db = copy_of(db)?;
+    let others = copy_of(others)?;
     let told = Vec::with_capacity(alloc, calls)?;
     let buffers = buffers_of(alloc, calls)?;
     Ok(StopRoom {
@@ -63,6 +67,7 @@ fn room_for(
             txn,
         },
         db,
+        others,
         told,
         buffers,
     })
@@ -82,7 +87,7 @@ fn tell(
     requires at { blocked.at < length needs.items }
     requires few { length blocked.victims.items ≤ length sessions.old.waiting.items + 1 }
     requires short { AllByRecursion (IsShort (length sessions.old.waiting.items + 1)) blocked.victims.items }
-    ensures answer { (need : Needed) → slice_get needs.items blocked.at ≡ Some need → result.0 ≡ waiting_answer (cycle_of room.wait.txn blocked.victims.items) (record { db = room.db; kind = kind; at = need.at }) blocked.owner }
+    ensures answer { (need : Needed) → slice_get needs.items blocked.at ≡ Some need → result.0 ≡ waiting_answer (cycle_of room.wait.txn blocked.victims.items) (target_by room.others (room.db, kind) need) blocked.owner }
     ensures victims { result.1.items ≡ map (told_in (sessions.old.waiting.items ++ room.wait ∷ [])) blocked.victims.items }
     ensures actives { sessions.new.txns.actives.items ≡ marked result.1.items sessions.old.txns.actives.items }
     ensures own { sessions.new.txns.own.entries ≡ sessions.old.txns.own.entries }
@@ -93,6 +98,7 @@ fn tell(
     let StopRoom {
         wait,
         db,
+        others,
         told,
         buffers,
     } = room;
@@ -100,7 +106,7 @@ fn tell(
     let mut buffers = buffers;
     let txn = wait.txn;
     sessions.waiting.push(wait).unwrap();
-    let target = target_of(db, kind, needs, at);
+    let target = target_of(db, kind, others, needs, at);
     let answer = answer_of(&mut buffers, txn, target, owner, victims.as_slice());
     let victims = tell_each(
         &mut sessions.txns,
@@ -147,17 +153,18 @@ fn wait_for(
     call: &Call,
     db: &Word,
     kind: Kind,
+    others: &List<NamedDb>,
     needs: Vec<Need>,
 ) -> Result<Taken, AllocError>
     requires call { MayWait call.now }
     requires none { pending_at asker.now.txn sessions.old.locks.locks ≡ None }
     requires stopped { (n : Needed) × (first_blocked asker.now.txn needs.items (state_of sessions.old.locks.locks).at ≡ Some n) }
     requires waits { HaveWaits sessions.old.txns.actives.items sessions.old.waiting.items (state_of sessions.old.locks.locks).pending }
-    ensures told { IfOk result (λ taken. HasWaited taken asker.now session line call.now db.now kind needs.items sessions.old sessions.new) }
+    ensures told { IfOk result (λ taken. HasWaited taken asker.now session line call.now db.now kind others.now needs.items sessions.old sessions.new) }
     ensures err { OnErr result ((st : Standing) → AreSessionsAt sessions.old st → AreSessionsAt sessions.new st) }
 {
     let calls = sessions.waiting.len() + 1;
-    let room = room_for(alloc, calls, asker.txn, session, line, call, db)?;
+    let room = room_for(alloc, calls, asker.txn, session, line, call, db, others)?;
     sessions.waiting.reserve(1)?;
     let blocked = ask_waiting(&mut sessions.locks, alloc, asker, needs.as_slice())?;
     Ok(stop(sessions, room, kind, needs, blocked))
@@ -195,13 +202,14 @@ pub(crate) fn take_for(
     call: &Call,
     db: &Word,
     kind: Kind,
+    others: &List<NamedDb>,
     needs: Vec<Need>,
     resumed: bool,
 ) -> Result<Taken, AllocError>
     requires may { MayAsk sessions.old session resumed }
     requires call { MayWait call.now }
     ensures ready { IfOk result (λ taken. IfReady taken ((st : Standing) (a : Active) → st.fault ≡ None → active_of session st.actives ≡ Some a → AreSessionsAt sessions.old st → HasTaken sessions.new resumed a needs.items st)) }
-    ensures stopped { IfOk result (λ taken. IfStopped taken (λ answer victims. (st : Standing) (a : Active) (g : Target) → st.fault ≡ None → AreNeedsOf st session call.now db.now kind needs.items a g → AreSessionsAt sessions.old st → HasStopped sessions.new st a line call.now g answer victims)) }
+    ensures stopped { IfOk result (λ taken. IfStopped taken (λ answer victims. (st : Standing) (a : Active) (g : Target) → st.fault ≡ None → AreNeedsOf st session call.now db.now kind others.now needs.items a g → AreSessionsAt sessions.old st → HasStopped sessions.new st a line call.now g answer victims)) }
     ensures err { OnErr result ((st : Standing) → AreSessionsAt sessions.old st → AreSessionsAt sessions.new st) }
 {
     let asker = asker_of(&sessions.txns, session);
@@ -214,6 +222,6 @@ pub(crate) fn take_for(
     }
     sessions.locks.give_up(asker.txn);
     wait_for(
-        sessions, alloc, &asker, session, line, call, db, kind, needs,
+        sessions, alloc, &asker, session, line, call, db, kind, others, needs,
     )
 }

@@ -8,8 +8,10 @@ ghost use Rattle.store_model.specs.declared.need.Need.{Need as Needed};
 ghost use Rattle.je_answers.specs.Events.{told_in, cycle_of, waiting_answer};
 ghost use Rattle.je_answers.specs.After.{marked, is_victim};
 ghost use Rattle.active_txns.specs.Marks.{HaveOwnSessions};
+ghost use Rattle.sessions.specs.Names.{named_by, target_by};
 ghost use Rattle.sessions.specs.Spares.{HasSpare, IsShort};
 
+use crate::NamedDb;
 use crate::spare::copied;
 use active_txns::ActiveTxns;
 use je_answers::Wait;
@@ -26,13 +28,33 @@ fn cycle_in(victims: &[(TxnId, List<TxnId>)], txn: TxnId) -> Option<&List<TxnId>
     }
 }
 
+// The name and the kind of a database: those of one of the others, or the call's own.
+fn known_as(others: Vec<NamedDb>, number: u32, db: Word, kind: Kind) -> (Word, Kind)
+    ensures { result ≡ named_by others.items number (db, kind) }
+{
+    for other in others {
+        if other.number == number {
+            let NamedDb { name, kind, .. } = other;
+            return (name, kind);
+        }
+    }
+    (db, kind)
+}
+
 // What a call waits for.
-pub(crate) fn target_of(db: Word, kind: Kind, needs: Vec<Need>, at: usize) -> LockTarget
+pub(crate) fn target_of(
+    db: Word,
+    kind: Kind,
+    others: List<NamedDb>,
+    needs: Vec<Need>,
+    at: usize,
+) -> LockTarget
     requires { at < length needs.items }
-    ensures { (need : Needed) → slice_get needs.items at ≡ Some need → result ≡ record { db = db; kind = kind; at = need.at } }
+    ensures { (need : Needed) → slice_get needs.items at ≡ Some need → result ≡ target_by others (db, kind) need }
 {
     let mut needs = needs;
     let need = needs.swap_remove(at);
+    let (db, kind) = known_as(others.into_vec(), need.db, db, kind);
     LockTarget {
         db,
         kind,

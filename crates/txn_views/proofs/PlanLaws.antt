@@ -18,10 +18,16 @@ use Rattle.store_model.specs.Reads.{seen, passed_to}
 use Rattle.store_model.specs.Records.{Evaluated, evaluation, look_of, early_of, conclude}
 use Rattle.store_model.specs.Indexes.{Numbered, changes_in, data_under, with_indexes, changed_through, all_changes, answer_through}
 use Rattle.store_model.specs.Needs.{Part, part_of, part_needs, ends, needs_unless, record_needs, write_needs, change_needs}
-use Rattle.je_answers.specs.Views.{view_in, occupied_in, with_numbers}
+use Rattle.je_answers.specs.declared.active.Active.{Active}
+use Rattle.je_answers.specs.Standing.{Standing}
+use Rattle.je_answers.specs.Views.{Target, changes_with, needs_in, outcome_of, view_in, occupied_in, with_numbers}
 use Rattle.log_replay.specs.Rows.{pair_of}
 use Rattle.txn_views.specs.Seen.{seen_rows}
-use Rattle.txn_views.specs.Targets.{PlansAreModels, found_at, over_of, indexes_at, seen_in, names_in, found_changes, known, IsSeenAs, with_found_numbers}
+use Rattle.record_tree.specs.Occupied.{AllCells}
+use Rattle.txn_views.specs.declared.found_target.FoundTarget.{FoundTarget}
+use Rattle.txn_views.specs.declared.outcome_plan.OutcomePlan.{OutcomePlan}
+use Rattle.txn_views.specs.declared.target_plan.TargetPlan.{TargetPlan}
+use Rattle.txn_views.specs.Targets.{AreSeenAs, IsFoundTarget, IsOutcomeIn, IsOutcomePlan, IsPlanIn, IsTargetPlan, OutcomesAreModels, PlansAreModels, found_at, over_of, indexes_at, seen_in, names_in, found_changes, known, IsSeenAs, with_found_numbers}
 
 -- two databases, of which one is what a plan knows, in two views
 record Same (see see' : Numbered → List Pair) (occ occ' : Numbered → List Name) (d e : Numbered) : Type 0 where
@@ -147,48 +153,115 @@ if_weaker : {X : Type 0} (P Q : X → Type 0) (o : Option X) → ((x : X) → P 
 if_weaker P Q None step h = tt
 if_weaker P Q (Some x) step h = step x h
 
+module _ (st : Standing) (a : Active) (call : Call) (g : Target) (cells : AllCells) (found : FoundTarget) (is : IsFoundTarget g found) (sees : AreSeenAs st a g cells) where
+  abbrev see : Numbered → List Pair
+  see = seen_in a.level a.txn cells
+
+  abbrev see' : Numbered → List Pair
+  see' = view_in st a
+
+  abbrev names : Numbered → List Name
+  names = names_in cells
+
+  abbrev names' : Numbered → List Name
+  names' = occupied_in st
+
+  abbrev d : Numbered
+  d = found_at found.db
+
+  abbrev e : Numbered
+  e = (g.db, g.database)
+
+  abbrev SameIn : Numbered → Numbered → Type 0
+  SameIn = Same see see' names names'
+
+  same : (q : Numbered) → IsSeenAs st a cells q → SameIn (known q) q
+  same q h = record { number = refl; kind = refl; seen = h.0; names = h.1 }
+
+  own : SameIn d e
+  own = record {
+    number = is.number;
+    kind = is.kind;
+    seen = ap₂ (λ (n : ℕ) (k : Kind). map (pair_of k) (seen_rows a.level a.txn (cells n))) is.number is.kind ∙ sees.db.0;
+    names = ap (λ (n : ℕ). keys_of (cells n)) is.number ∙ sees.db.1;
+  }
+
+  over : IfSome g.over (λ q. SameIn (known q) q)
+  over = if_weaker (IsSeenAs st a cells) (λ q. SameIn (known q) q) g.over same sees.over
+
+  indexes : AllByRecursion (λ i. SameIn (known i) i) g.indexes
+  indexes = all_weaker (IsSeenAs st a cells) (λ i. SameIn (known i) i) same g.indexes sees.indexes
+
+  abbrev evaluated : Evaluated
+  evaluated = evaluation g.database.kind call g.at (see' e)
+
+  evaluates : evaluation found.db.kind call g.at (see d) ≡ evaluated
+  evaluates = ap₂ (λ (k : Kind) (ps : List Pair). evaluation k call g.at ps) is.kind own.seen
+
+  abbrev here : List RecordChange → List (Numbered × RecordChange)
+  here cs = all_changes (over_of found.over) d (indexes_at found.indexes.now) see cs
+
+  abbrev there : List RecordChange → List (Numbered × RecordChange)
+  there cs = all_changes g.over e g.indexes see' cs
+
+  alike : (cs : List RecordChange) → AllSame see see' names names' (here cs) (there cs)
+  alike cs =
+      subst (λ (l : List (Numbered × RecordChange)). AllSame see see' names names' l (there cs))
+      (ap₂ (λ (o : Option Numbered) (l : List Numbered). all_changes o d l see cs) (sym is.over) (sym is.indexes))
+      (changes_same see see' names names' g.over d e g.indexes cs (changing_same see see' names names' g.over d e own over) indexes)
+
+  -- its answer and its changes
+  answers : (answer : Answer) → answer ≡ answer_through (over_of found.over) see (evaluation found.db.kind call g.at (see d)).answer → answer ≡ (outcome_of st a call g).answer
+  answers answer plan =
+      plan ∙ ap (λ (x : Evaluated). answer_through (over_of found.over) see x.answer) evaluates
+      ∙ ap (λ (o : Option Numbered). answer_through o see evaluated.answer) is.over
+      ∙ answer_same see see' g.over evaluated.answer (if_weaker (λ q. SameIn (known q) q) (λ q. see (known q) ≡ see' q) g.over (λ q h. h.seen) over)
+
+  changes : (cs : List (ℕ × RecordChange)) → cs ≡ with_found_numbers (found_changes (here (evaluation found.db.kind call g.at (see d)).changes)) → cs ≡ with_numbers (changes_with st a g (outcome_of st a call g).changes)
+  changes cs plan =
+      plan ∙ ap (λ (x : Evaluated). with_found_numbers (found_changes (here x.changes))) evaluates
+      ∙ numbers_same see see' names names' (here evaluated.changes) (there evaluated.changes) (alike evaluated.changes)
+
+  -- its locks
+  abbrev part : Option Part
+  part = part_of a.level call
+
+  records : (answer : Answer) → record_needs part (over_of found.over) answer ≡ record_needs part g.over answer
+  records answer = ap (λ (o : Option Numbered). record_needs part o answer) is.over ∙ record_same part g.over answer
+
+  abbrev needs_here : List RecordChange → List Need
+  needs_here cs = flat_map (change_needs a.level see names) (here cs)
+
+  abbrev needs_there : List RecordChange → List Need
+  needs_there cs = flat_map (change_needs a.level see' names') (there cs)
+
+  needs : needs_by a.level call g.at found.db.kind found.db.number (see d) (names d) (record_needs part (over_of found.over)) needs_here ≡ needs_in st a call g
+  needs =
+      ap₂ (λ (k : Kind) (n : ℕ). needs_by a.level call g.at k n (see d) (names d) (record_needs part (over_of found.over)) needs_here) is.kind is.number
+      ∙ ap₂ (λ (ps : List Pair) (ns : List Name). needs_by a.level call g.at g.database.kind g.db ps ns (record_needs part (over_of found.over)) needs_here) own.seen own.names
+      ∙ ap₂ (λ (r : Answer → List Need) (f : List RecordChange → List Need). needs_by a.level call g.at g.database.kind g.db (see' e) (names' e) r f) (fun_ext records)
+      (fun_ext (λ cs. needs_same a.level see see' names names' (here cs) (there cs) (alike cs)))
+
+  model_of : (p : TargetPlan) → IsTargetPlan a.level a.txn cells found call g.at p → IsPlanIn st a call g p
+  model_of p plan = record {
+    answer = answers p.answer plan.answer;
+    changes = changes p.changes.items plan.changes;
+    needs = plan.needs ∙ needs;
+    place = plan.place ∙ ap (λ (x : Evaluated). x.place) evaluates;
+  }
+
+  -- of one without locks
+  abbrev at_place : Option Name → Evaluated
+  at_place at = evaluation found.db.kind call at (see d)
+
+  outcome_of_it : (p : OutcomePlan) → g.at ≡ None → IsOutcomePlan a.level a.txn cells found call p → IsOutcomeIn st a call g p
+  outcome_of_it p none plan = record {
+    answer = answers p.answer (plan.answer ∙ ap (λ (o : Option Name). answer_through (over_of found.over) see (at_place o).answer) (sym none));
+    changes = changes p.changes.items (plan.changes ∙ ap (λ (o : Option Name). with_found_numbers (found_changes (here (at_place o).changes))) (sym none));
+  }
+
 pub plans_are_models : PlansAreModels
-plans_are_models st a call g cells found p is sees plan =
-    let see : Numbered → List Pair = seen_in a.level a.txn cells in
-    let see' : Numbered → List Pair = view_in st a in
-    let names : Numbered → List Name = names_in cells in
-    let names' : Numbered → List Name = occupied_in st in
-    let d : Numbered = found_at found.db in
-    let e : Numbered = (g.db, g.database) in
-    let SameIn : Numbered → Numbered → Type 0 = Same see see' names names' in
-    let same : (q : Numbered) → IsSeenAs st a cells q → SameIn (known q) q = λ q h. record { number = refl; kind = refl; seen = h.0; names = h.1 } in
-    let own : SameIn d e = record {
-      number = is.number;
-      kind = is.kind;
-      seen = ap₂ (λ (n : ℕ) (k : Kind). map (pair_of k) (seen_rows a.level a.txn (cells n))) is.number is.kind ∙ sees.db.0;
-      names = ap (λ (n : ℕ). keys_of (cells n)) is.number ∙ sees.db.1;
-    } in
-    let over : IfSome g.over (λ q. SameIn (known q) q) = if_weaker (IsSeenAs st a cells) (λ q. SameIn (known q) q) g.over same sees.over in
-    let indexes : AllByRecursion (λ i. SameIn (known i) i) g.indexes = all_weaker (IsSeenAs st a cells) (λ i. SameIn (known i) i) same g.indexes sees.indexes in
-    let evaluates : evaluation found.db.kind call g.at (see d) ≡ evaluation g.database.kind call g.at (see' e) =
-    ap₂ (λ (k : Kind) (ps : List Pair). evaluation k call g.at ps) is.kind own.seen in
-    let evaluated : Evaluated = evaluation g.database.kind call g.at (see' e) in
-    let here : List RecordChange → List (Numbered × RecordChange) = λ cs. all_changes (over_of found.over) d (indexes_at found.indexes.now) see cs in
-    let there : List RecordChange → List (Numbered × RecordChange) = λ cs. all_changes g.over e g.indexes see' cs in
-    let alike : (cs : List RecordChange) → AllSame see see' names names' (here cs) (there cs) = λ cs.
-    subst (λ (l : List (Numbered × RecordChange)). AllSame see see' names names' l (there cs))
-    (ap₂ (λ (o : Option Numbered) (l : List Numbered). all_changes o d l see cs) (sym is.over) (sym is.indexes))
-    (changes_same see see' names names' g.over d e g.indexes cs (changing_same see see' names names' g.over d e own over) indexes) in
-    let part : Option Part = part_of a.level call in
-    let records : (answer : Answer) → record_needs part (over_of found.over) answer ≡ record_needs part g.over answer = λ answer.
-    ap (λ (o : Option Numbered). record_needs part o answer) is.over ∙ record_same part g.over answer in
-    let needs_here : List RecordChange → List Need = λ cs. flat_map (change_needs a.level see names) (here cs) in
-    let needs_there : List RecordChange → List Need = λ cs. flat_map (change_needs a.level see' names') (there cs) in
-    record {
-      answer = plan.answer ∙ ap (λ (x : Evaluated). answer_through (over_of found.over) see x.answer) evaluates
-          ∙ ap (λ (o : Option Numbered). answer_through o see evaluated.answer) is.over
-          ∙ answer_same see see' g.over evaluated.answer (if_weaker (λ q. SameIn (known q) q) (λ q. see (known q) ≡ see' q) g.over (λ q h. h.seen) over);
-      changes = ap with_found_numbers (plan.changes ∙ ap (λ (x : Evaluated). found_changes (here x.changes)) evaluates)
-          ∙ numbers_same see see' names names' (here evaluated.changes) (there evaluated.changes) (alike evaluated.changes);
-      needs = plan.needs
-          ∙ ap₂ (λ (k : Kind) (n : ℕ). needs_by a.level call g.at k n (see d) (names d) (record_needs part (over_of found.over)) needs_here) is.kind is.number
-          ∙ ap₂ (λ (ps : List Pair) (ns : List Name). needs_by a.level call g.at g.database.kind g.db ps ns (record_needs part (over_of found.over)) needs_here) own.seen own.names
-          ∙ ap₂ (λ (r : Answer → List Need) (f : List RecordChange → List Need). needs_by a.level call g.at g.database.kind g.db (see' e) (names' e) r f) (fun_ext records)
-          (fun_ext (λ cs. needs_same a.level see see' names names' (here cs) (there cs) (alike cs)));
-      place = plan.place ∙ ap (λ (x : Evaluated). x.place) evaluates;
-    }
+plans_are_models st a call g cells found p is sees plan = model_of st a call g cells found is sees p plan
+
+pub outcomes_are_models : OutcomesAreModels
+outcomes_are_models st a call g cells found p is sees none plan = outcome_of_it st a call g cells found is sees p none plan

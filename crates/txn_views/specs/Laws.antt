@@ -7,6 +7,7 @@ use Rattle.je_order.specs.Order.{name_cmp}
 use Rattle.je_order.specs.declared.name.Name.{Name}
 use Rattle.je_order.specs.declared.txn_id.TxnId.{TxnId}
 use Rattle.record_map.specs.Cells.{value_at, IsRising}
+use Rattle.record_tree.specs.declared.tree_change.TreeChange.{TreeChange}
 use Rattle.record_tree.specs.declared.tree_name.TreeName.{TreeName}
 use Rattle.record_tree.specs.Occupied.{AllCells, IsFreeFor, AreWritten, HasChangedAll, after_commit, after_abort, write_in}
 use Rattle.store_model.specs.declared.kind.Kind.{Kind}
@@ -17,7 +18,7 @@ use Rattle.store_model.specs.Records.{evaluation}
 use Rattle.store_model.specs.Refusals.{database_refuses}
 use Rattle.je_answers.specs.declared.active.Active.{Active}
 use Rattle.je_answers.specs.Standing.{Standing, with_at}
-use Rattle.je_answers.specs.Views.{Target, view_of, occupied, of_db, changes_at}
+use Rattle.je_answers.specs.Views.{Target, view_of, occupied, of_db}
 use Rattle.log_replay.specs.Rows.{Row, are_right, pair_of}
 use Rattle.txn_core.specs.Known.{committed_rows, IsQuiet}
 use Rattle.txn_core.specs.Plans.{record_planned}
@@ -63,12 +64,16 @@ own_name c = record { db = c.0; name = changed_name c.1 }
 abbrev pub own_names : List (ℕ × RecordChange) → List TreeName
 own_names changes = map own_name changes
 
--- a transaction wrote changes in the database of a number, whose names nobody else had changed
+-- an own change as a change of the trees
+abbrev pub planned_own : ℕ × RecordChange → TreeChange
+planned_own c = record_planned c.0 c.1
+
+-- a transaction wrote changes, each in the database of a number, whose names nobody else had changed
 abbrev pub WritesAreOwn : Type 0
-WritesAreOwn = (txn : TxnId) (number : ℕ) (changes : List RecordChange) (own : ℕ → List (ℕ × RecordChange)) (old new : AllCells) →
-    HasWrites old own → AllByRecursion (λ c. IsFreeFor txn (write_in (value_at c.name (old c.db)))) (map (record_planned number) changes) →
-    AreWritten txn (map (record_planned number) changes) old new →
-    HasWrites new (own_with txn.0 (own txn.0 ++ changes_at number changes) own)
+WritesAreOwn = (txn : TxnId) (changes : List (ℕ × RecordChange)) (own : ℕ → List (ℕ × RecordChange)) (old new : AllCells) →
+    HasWrites old own → AllByRecursion (λ c. IsFreeFor txn (write_in (value_at c.name (old c.db)))) (map planned_own changes) →
+    AreWritten txn (map planned_own changes) old new →
+    HasWrites new (own_with txn.0 (own txn.0 ++ changes) own)
 
 -- a transaction's changes were committed, or given up
 abbrev pub EndsLeaveWrites : Type 0

@@ -25,6 +25,7 @@ use Rattle.db_catalog.specs.declared.found_db.FoundDb.{FoundDb}
 use Rattle.txn_views.specs.declared.found_index.FoundIndex.{FoundIndex}
 use Rattle.txn_views.specs.declared.found_target.FoundTarget.{FoundTarget}
 use Rattle.txn_views.specs.declared.db_change.DbChange.{DbChange}
+use Rattle.txn_views.specs.declared.outcome_plan.OutcomePlan.{OutcomePlan}
 use Rattle.txn_views.specs.declared.target_plan.TargetPlan.{TargetPlan}
 use Rattle.txn_views.specs.Seen.{seen_rows}
 
@@ -85,6 +86,10 @@ found_change c = record { db = record { number = c.0.0; kind = c.0.1.kind }; cha
 abbrev pub found_changes : List (Numbered × RecordChange) → List DbChange
 found_changes changes = map found_change changes
 
+-- changes with their databases' numbers
+abbrev pub with_found_numbers : List DbChange → List (ℕ × RecordChange)
+with_found_numbers changes = map (λ c. (c.db.number, c.change)) changes
+
 -- what changes in an index with the record of a key, by its data before and after
 abbrev pub pairs_in : List ℕ → Option (List ℕ) → Option (List ℕ) → Numbered → List (Numbered × RecordChange)
 pairs_in key old new i = map (λ c. (i, c)) (pairs_by i.1.index key old new)
@@ -105,10 +110,16 @@ evaluated_at level txn cells found call at = evaluation found.db.kind call at (s
 -- the plan is what the model says
 pub record IsTargetPlan (level : Isolation) (txn : TxnId) (cells : AllCells) (found : FoundTarget) (call : Call) (at : Option Name) (p : TargetPlan) : Type 0 where
   pub answer : p.answer ≡ answer_through (over_of found.over) (seen_in level txn cells) (evaluated_at level txn cells found call at).answer
-  pub changes : p.changes.items ≡ found_changes (all_changes (over_of found.over) (found_at found.db) (indexes_at found.indexes.now) (seen_in level txn cells)
-      (evaluated_at level txn cells found call at).changes)
+  pub changes : p.changes.items ≡ with_found_numbers (found_changes (all_changes (over_of found.over) (found_at found.db) (indexes_at found.indexes.now) (seen_in level txn cells)
+      (evaluated_at level txn cells found call at).changes))
   pub needs : p.needs.items ≡ needs_through level (over_of found.over) (found_at found.db) (indexes_at found.indexes.now) (seen_in level txn cells) (names_in cells) call at
   pub place : p.place ≡ (evaluated_at level txn cells found call at).place
+
+-- and that of a call without a cursor, without its locks
+pub record IsOutcomePlan (level : Isolation) (txn : TxnId) (cells : AllCells) (found : FoundTarget) (call : Call) (p : OutcomePlan) : Type 0 where
+  pub answer : p.answer ≡ answer_through (over_of found.over) (seen_in level txn cells) (evaluated_at level txn cells found call None).answer
+  pub changes : p.changes.items ≡ with_found_numbers (found_changes (all_changes (over_of found.over) (found_at found.db) (indexes_at found.indexes.now) (seen_in level txn cells)
+      (evaluated_at level txn cells found call None).changes))
 
 -- ---- the target of a call in a standing
 
@@ -132,17 +143,22 @@ pub record AreSeenAs (st : Standing) (a : Active) (g : Target) (cells : AllCells
   pub over : IfSome g.over (IsSeenAs st a cells)
   pub indexes : AllByRecursion (IsSeenAs st a cells) g.indexes
 
--- the changes of a plan with their databases' numbers
-abbrev pub with_found_numbers : List DbChange → List (ℕ × RecordChange)
-with_found_numbers changes = map (λ c. (c.db.number, c.change)) changes
-
 -- the plan is what the call comes to in the standing
 pub record IsPlanIn (st : Standing) (a : Active) (call : Call) (g : Target) (p : TargetPlan) : Type 0 where
   pub answer : p.answer ≡ (outcome_of st a call g).answer
-  pub changes : with_found_numbers p.changes.items ≡ with_numbers (changes_with st a g (outcome_of st a call g).changes)
+  pub changes : p.changes.items ≡ with_numbers (changes_with st a g (outcome_of st a call g).changes)
   pub needs : p.needs.items ≡ needs_in st a call g
   pub place : p.place ≡ (outcome_of st a call g).place
 
 abbrev pub PlansAreModels : Type 0
 PlansAreModels = (st : Standing) (a : Active) (call : Call) (g : Target) (cells : AllCells) (found : FoundTarget) (p : TargetPlan) → IsFoundTarget g found → AreSeenAs st a g cells →
     IsTargetPlan a.level a.txn cells found call g.at p → IsPlanIn st a call g p
+
+-- and so of a plan without locks, for a call without a cursor
+pub record IsOutcomeIn (st : Standing) (a : Active) (call : Call) (g : Target) (p : OutcomePlan) : Type 0 where
+  pub answer : p.answer ≡ (outcome_of st a call g).answer
+  pub changes : p.changes.items ≡ with_numbers (changes_with st a g (outcome_of st a call g).changes)
+
+abbrev pub OutcomesAreModels : Type 0
+OutcomesAreModels = (st : Standing) (a : Active) (call : Call) (g : Target) (cells : AllCells) (found : FoundTarget) (p : OutcomePlan) → IsFoundTarget g found → AreSeenAs st a g cells → g.at ≡ None →
+    IsOutcomePlan a.level a.txn cells found call p → IsOutcomeIn st a call g p

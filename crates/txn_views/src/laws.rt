@@ -2,7 +2,7 @@
 ghost use Rattle.std.specs.Prelude.{◌≡◌, ℕ, List, []};
 ghost use Rattle.record_tree.specs.Occupied.{AllCells};
 ghost use Rattle.store_model.specs.declared.record_change.RecordChange.{RecordChange};
-ghost use Rattle.txn_views.specs.Targets.{PlansAreModels};
+ghost use Rattle.txn_views.specs.Targets.{OutcomesAreModels, PlansAreModels};
 ghost use Rattle.txn_views.specs.Laws.{ViewsAreSeen, ChangesAreRight, WritesAreOwn, EndsLeaveWrites, DropsLeaveWrites, NobodyWrites, FreeNamesMayBeWritten, NoneIsLast};
 
 /// The records that a transaction sees in the cells of a database are those of the model's view, and are right; the
@@ -50,4 +50,9 @@ pub fn none_is_last()
 /// model says of the call: its answer, its changes with their databases' numbers, its locks and its cursor's place.
 pub fn plans_are_models()
     ensures { PlansAreModels }
+{}
+
+/// And so is one without locks: its answer and its changes.
+pub fn outcomes_are_models()
+    ensures { OutcomesAreModels }
 {}

@@ -9,12 +9,12 @@ ghost use Rattle.store_model.specs.Indexes.{index_answer, answer_through};
 ghost use Rattle.store_model.specs.Needs.{record_needs};
 ghost use Rattle.cursor_je.specs.Reaches.{part_in};
 ghost use Rattle.txn_views.specs.declared.db_change.DbChange.{DbChange as Changed};
-ghost use Rattle.txn_views.specs.Targets.{db_at, over_of, seen_in, needs_for, IsReadable, AreReadable, IsTargetPlan};
+ghost use Rattle.txn_views.specs.Targets.{db_at, over_of, seen_in, needs_for, with_found_numbers, IsReadable, AreReadable, IsOutcomePlan, IsTargetPlan};
 
 use crate::indexing::{all_changes, data_under};
 use crate::txn_rows::TxnRows;
 use crate::viewer::Viewer;
-use crate::{DbChange, FoundTarget, TargetPlan};
+use crate::{DbChange, FoundTarget, OutcomePlan, TargetPlan};
 use cursor_je::needing::{push_write, read_needs};
 use cursor_je::plan;
 use cursor_je::read_part::{ReadPart, part_of};
@@ -22,7 +22,7 @@ use db_catalog::FoundDb;
 use je_order::{Bound, Name, Octets, TxnId, copy_of};
 use record_tree::Records;
 use std::alloc::{AllocError, Global};
-use store_model::{Answer, Call, Isolation, Need};
+use store_model::{Answer, Call, Isolation, Need, RecordChange};
 
 // A record that was found in an index: its key there, its own key and its data.
 fn index_record<T: Records>(
@@ -129,6 +129,21 @@ fn push_changes<T: Records>(
     Ok(())
 }
 
+// Changes with their databases' numbers.
+fn with_numbers(
+    alloc: Global,
+    changes: Vec<DbChange>,
+) -> Result<Vec<(u32, RecordChange)>, AllocError>
+    ensures { IfOk result (λ own. own.items ≡ with_found_numbers changes.items) }
+{
+    let mut own = Vec::new(alloc);
+    'changes: for change in changes {
+        let DbChange { db, change } = change;
+        own.push((db.number, change))?;
+    }
+    Ok(own)
+}
+
 /// What a call on the records of a database comes to for a transaction at a level, with its cursor at that place, where
 /// the database has indexes or is one: the answer, all changes and the locks, all as the model has them. Refusals are
 /// asked before; room in the log is not asked. It looks at the records and the occupied names that the call is about
@@ -160,10 +175,41 @@ pub fn plan_target<T: Records>(
     let changes = all_changes(trees, alloc, viewer, found, planned.changes)?;
     push_changes(&mut needs, trees, alloc, viewer, changes.as_slice())?;
     let answer = answer_of(trees, alloc, viewer, found.over, planned.answer)?;
+    let own = with_numbers(alloc, changes)?;
     Ok(TargetPlan {
         answer,
-        changes,
+        changes: own,
         needs,
         place: planned.place,
+    })
+}
+
+/// The same for a call without a cursor, and without its locks: its answer and all changes. The only error is out of memory.
+pub fn plan_outcome<T: Records>(
+    trees: &T,
+    alloc: Global,
+    txn: TxnId,
+    level: Isolation,
+    found: FoundTarget<'_>,
+    call: &Call,
+) -> Result<OutcomePlan, AllocError>
+    requires { AreReadable level txn (T.cells trees.now) found }
+    ensures { IfOk result (IsOutcomePlan level txn (T.cells trees.now) found.entry call.now) }
+{
+    let viewer = Viewer { txn, level };
+    let view = TxnRows {
+        trees,
+        number: found.db.number,
+        kind: found.db.kind,
+        viewer,
+    };
+    let planned = plan(alloc, &view, call, None)?;
+    let changes = all_changes(trees, alloc, viewer, found, planned.changes)?;
+    let answer = answer_of(trees, alloc, viewer, found.over, planned.answer)?;
+    let own = with_numbers(alloc, changes)?;
+    drop(planned.place);
+    Ok(OutcomePlan {
+        answer,
+        changes: own,
     })
 }

@@ -24,12 +24,12 @@ pub returns-in-Some-clause-changes : goal.returns-in-Some-clause-changes
 returns-in-Some-clause-changes c =
     changes_put c.args.own.now.entries _ c.args.txn (record { changes = c.push.new.self; first = c.in-Some.found.now.first }) _
     ((c.get_mut.follows.holds (record { changes = c.push.new.self; first = c.in-Some.found.now.first })).3 (sym (ap is_some c.in-Some.ensures.value))).0
-    (c.in_ok-push.ensures.items ∙ ap (λ o. option_map_or (λ (x : OwnChanges). x.changes.items) o [] ++ (c.args.db, c.args.change) ∷ []) c.in-Some.ensures.value)
+    (c.in_ok-push.ensures.items ∙ ap (λ o. option_map_or (λ (x : OwnChanges). x.changes.items) o [] ++ c.args.change ∷ []) c.in-Some.ensures.value)
 
 pub returns-clause-changes : goal.returns-clause-changes
 returns-clause-changes c =
     changes_put c.args.own.now.entries c.insert.new.self.entries c.args.txn c.in_ok-first.first _ (λ q. rw (← c.get_mut.follows.holds-at-none) (c.in_ok-insert.ensures.updates.0 q))
-    (c.in_ok-first.ensures.changes ∙ ap (λ o. option_map_or (λ (x : OwnChanges). x.changes.items) o [] ++ (c.args.db, c.args.change) ∷ []) c.in_default.ensures.value)
+    (c.in_ok-first.ensures.changes ∙ ap (λ o. option_map_or (λ (x : OwnChanges). x.changes.items) o [] ++ c.args.change ∷ []) c.in_default.ensures.value)
 
 pub returns-clause-first : goal.returns-clause-first
 returns-clause-first c =

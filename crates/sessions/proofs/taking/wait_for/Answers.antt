@@ -14,5 +14,5 @@ stop-requires-clause-short c =
 
 pub returns-clause-told : goal.returns-clause-told
 returns-clause-told c =
-    waited c.stop.result c.args.asker.now c.args.session c.args.line c.args.call.now c.args.db.now c.args.kind c.args.needs.items _ c.in_ok-room.room c.in_ok-blocked.blocked c.args.sessions.now _ c.stop.new.sessions
-    c.stop.ensures.told c.as_slice.ensures.value c.in_ok-blocked.ensures.waits c.in_ok-room.ensures.wait c.in_ok-room.ensures.db refl c.reserve.ensures.items refl c.requires.waits
+    waited c.stop.result c.args.asker.now c.args.session c.args.line c.args.call.now c.args.db.now c.args.kind c.args.others.now c.args.needs.items _ c.in_ok-room.room c.in_ok-blocked.blocked c.args.sessions.now _ c.stop.new.sessions
+    c.stop.ensures.told c.as_slice.ensures.value c.in_ok-blocked.ensures.waits c.in_ok-room.ensures.wait c.in_ok-room.ensures.db c.in_ok-room.ensures.others refl c.reserve.ensures.items refl c.requires.waits

@@ -26,14 +26,14 @@ log_among-requires-clause-free g c =
 pub log_among-requires-clause-few : goal.log_among-requires-clause-few
 log_among-requires-clause-few g c =
     let here = c.requires.here in
-    few_new (cells_of c.args.self.now.engine.trees) c.args.planned.changes.items c.are_ordered.ensures here.6.few
+    few_new (cells_of c.args.self.now.engine.trees) c.args.planned.changes.items c.are_ordered.ensures here.6.log.few
 
 -- src/access_auto.rt:190:15
 pub log_among-requires-clause-there : goal.log_among-requires-clause-there
 log_among-requires-clause-there g c =
     let here = c.requires.here in
     let old = c.args.self.now in
-    made_there old.engine.trees old.engine.kept (alone_in here.2) c.args.session here.3 c.args.planned (here.5.at.valid here.5.valid).made here.6
+    made_there old.engine.trees old.engine.kept (alone_in here.2) c.args.session here.3 c.args.planned (here.5.at.valid here.5.valid).made here.6.log
 
 -- src/access_auto.rt:190:15
 pub log_among-requires-clause-new : goal.log_among-requires-clause-new
@@ -41,7 +41,7 @@ log_among-requires-clause-new g c = λ low.
     let here = c.requires.here in
     let old = c.args.self.now in
     made_new old.engine.trees old.engine.kept (alone_in here.2) c.args.session here.3 c.args.planned (here.5.at.valid here.5.valid).made
-    (subst (λ (n : ℕ). Rattle.std.specs.List.AllByRecursion (λ m. m ≤ n) (numbers_of (committed (cells_of old.engine.trees)))) (sym here.5.at.last_db) (here.5.at.valid here.5.valid).makes.numbers) here.6 low
+    (subst (λ (n : ℕ). Rattle.std.specs.List.AllByRecursion (λ m. m ≤ n) (numbers_of (committed (cells_of old.engine.trees)))) (sym here.5.at.last_db) (here.5.at.valid here.5.valid).makes.numbers) here.6.log low
 
 -- src/access_auto.rt:190:15
 pub log_among-requires-clause-entries : goal.log_among-requires-clause-entries
@@ -49,7 +49,7 @@ log_among-requires-clause-entries g c =
     let here = c.requires.here in
     let old = c.args.self.now in
     let few = below g.D.Disk.observable g.D.Disk.history g.D.Disk.sync_out g.D.Disk.read_out g.D.Disk.read_of here.0 (with_sessions here.1 old) here.2 c.args.session 0 here.3 here.4 c.args.planned here.5 here.6 here.7.free in
-    here.6.entries (txn_of (old.engine.kept.last_txn + 1)) (omega (arith, few))
+    here.6.log.entries (txn_of (old.engine.kept.last_txn + 1)) (omega (arith, few))
 
 -- src/access_auto.rt:174:5
 pub returns-in-Ok-DiskFault-clause-comes : goal.returns-in-Ok-DiskFault-clause-comes

@@ -1,14 +1,39 @@
-use Rattle.environment.specs.Auto.{alone_in}
-use Rattle.environment.proofs.AutoCalls.{auto_call, has_model, may_plan}
+use Rattle.std.proofs.Common.{refl}
+use Rattle.je_answers.specs.Events.{auto_active, begun}
+use Rattle.environment.proofs.AutoChanges.{may_be_made, on_there, same_txn, so_planned, sound_there, valid_there}
 use Rattle.environment.proofs.environment.Environment.plan_auto.Goals as goal
 
-pub plan-requires-clause-can : goal.plan-requires-clause-can
-plan-requires-clause-can g c =
-    let here = c.requires.here in
-    may_plan here.0 g.D.Disk.observable g.D.Disk.history c.args.self.now here.1 c.args.session c.args.call.now here.2 here.3
+pub plan-requires : goal.plan-requires
+plan-requires g c =
+    let h = c.requires.here in
+    let e = c.args.self.now in
+    let st = h.2 in
+    let may = h.4 in
+    let on = h.5 in
+    record {
+      here = (
+        begun st h.1,
+        auto_active st h.1,
+        h.3,
+        valid_there h.0 g.D.Disk.observable g.D.Disk.history e st h.1 c.args.call.now c.args.db.now c.args.found h.3 may on,
+        sound_there h.0 g.D.Disk.observable g.D.Disk.history e st h.1 c.args.call.now c.args.db.now c.args.found h.3 may on,
+        on_there h.0 g.D.Disk.observable g.D.Disk.history e st h.1 c.args.call.now c.args.db.now c.args.found h.3 may on,
+        may.stands,
+        same_txn h.0 g.D.Disk.observable g.D.Disk.history e st h.1 c.args.call.now c.args.db.now c.args.found h.3 may on,
+        refl,
+      );
+    }
 
-pub plan-requires-clause-call : goal.plan-requires-clause-call
-plan-requires-clause-call g c = auto_call c.args.call.now c.requires.here.3.db c.requires.here.3.records
-
-pub returns-in-Ok : goal.returns-in-Ok
-returns-in-Ok g c = record { plans = λ most st on may. c.in-Ok.ensures (alone_in st) c.args.session (has_model most g.D.Disk.observable g.D.Disk.history c.args.self.now st c.args.session c.args.call.now on may) }
+pub returns : goal.returns
+returns g c = record {
+  plans = λ most session st t may on.
+      let e = c.args.self.now in
+      so_planned _ _ c.plan.result
+      (λ p is.
+      is (begun st session) (auto_active st session) t
+      (valid_there most g.D.Disk.observable g.D.Disk.history e st session c.args.call.now c.args.db.now c.args.found t may on)
+      (sound_there most g.D.Disk.observable g.D.Disk.history e st session c.args.call.now c.args.db.now c.args.found t may on)
+      (on_there most g.D.Disk.observable g.D.Disk.history e st session c.args.call.now c.args.db.now c.args.found t may on) may.stands
+      (same_txn most g.D.Disk.observable g.D.Disk.history e st session c.args.call.now c.args.db.now c.args.found t may on) refl) c.plan.ensures;
+  may = λ most session st t may on. may_be_made most g.D.Disk.observable g.D.Disk.history c.args.self.now st session c.args.call.now c.args.db.now c.args.found t may on c.are_ordered.ensures;
+}

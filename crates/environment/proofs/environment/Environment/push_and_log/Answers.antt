@@ -1,55 +1,48 @@
-use Rattle.std.proofs.Common.{◌≡◌, ℕ, true, refl, sym, subst, arith}
+use Rattle.std.proofs.Common.{◌≡◌, ◌∙◌, List, map, true, ap, sym, subst}
+use Rattle.std.specs.List.{AllByRecursion}
 use Rattle.je_order.specs.declared.txn_id.TxnId.{TxnId}
-use Rattle.je_answers.specs.Views.{changes_at, needs_in}
-use Rattle.sessions.specs.AtStanding.{with_own}
-use Rattle.sessions.specs.Taking.{HasTaken}
+use Rattle.log_entry.specs.Body.{IsEntry}
+use Rattle.record_tree.specs.Logged.{entry_for}
+use Rattle.record_tree.specs.declared.tree_change.TreeChange.{TreeChange}
+use Rattle.je_answers.specs.Views.{changes_with, needs_in, outcome_of}
+use Rattle.txn_log.specs.Own.{tree_of}
+use Rattle.txn_views.specs.Laws.{own_names}
 use Rattle.environment.specs.Valid.{active_number}
 use Rattle.environment.specs.Writing.{MayWrite}
-use Rattle.environment.proofs.FinishLaws.{in_sessions}
-use Rattle.environment.proofs.OwnEnds.{entries_are, is_active_, last_db_now, last_txn_now, logged_then, may_write, none_pushed, valid_now}
+use Rattle.environment.proofs.OwnEnds.{entries_now, is_active_, last_db_now, may_write, none_pushed, valid_now}
 use Rattle.environment.proofs.environment.Environment.push_and_log.Goals as goal
 
-pub log_pushed-requires-clause-can : goal.log_pushed-requires-clause-can
-log_pushed-requires-clause-can g c =
+-- taken: before, most, session, standing, transaction, call, target, answer, taken up, its number
+pub push_copied-requires-clause-can : goal.push_copied-requires-clause-can
+push_copied-requires-clause-can g c =
     let r = c.requires.taken in
-    let old = c.args.self.now in (
+    let old = c.args.self.now in
+    let cs = changes_with r.3 r.4 r.6 (outcome_of r.3 r.4 r.5 r.6).changes in (
       r.3,
-      r.8,
-      valid_now g.D.Disk.observable g.D.Disk.history g.D.Disk.sync_out g.D.Disk.read_out g.D.Disk.read_of r.0 old r.1 r.2 r.3 r.4 r.5 r.6 r.7 r.8 r.9 c.args.changes.now r.10,
-      subst (λ (t : TxnId). MayWrite r.3 t.0 r.8 c.args.changes.now) r.11
-          (may_write g.D.Disk.observable g.D.Disk.history g.D.Disk.sync_out g.D.Disk.read_out g.D.Disk.read_of r.0 old r.1 r.2 r.3 r.4 r.5 r.6 r.7 r.8 r.9 c.args.changes.now r.10 c.are_ordered.ensures c.requires.some),
-      r.12,
-      subst (λ (t : TxnId). active_number r.3.actives t.0 ≡ true) r.11
-          (is_active_ g.D.Disk.observable g.D.Disk.history g.D.Disk.sync_out g.D.Disk.read_out g.D.Disk.read_of r.0 old r.1 r.2 r.3 r.4 r.5 r.6 r.7 r.8 r.9 c.args.changes.now r.10),
-      last_txn_now g.D.Disk.observable g.D.Disk.history g.D.Disk.sync_out g.D.Disk.read_out g.D.Disk.read_of r.0 old r.1 r.2 r.3 r.4 r.5 r.6 r.7 r.8 r.9 c.args.changes.now r.10,
-      last_db_now g.D.Disk.observable g.D.Disk.history g.D.Disk.sync_out g.D.Disk.read_out g.D.Disk.read_of r.0 old r.1 r.2 r.3 r.4 r.5 r.6 r.7 r.8 r.9 c.args.changes.now r.10,
+      cs,
+      valid_now g.D.Disk.observable g.D.Disk.history g.D.Disk.sync_out g.D.Disk.read_out g.D.Disk.read_of r.0 old r.1 r.2 r.3 r.4 r.5 r.6 r.7 c.args.changes.items r.8,
+      subst (λ (t : TxnId). MayWrite r.3 t.0 cs) r.9 (may_write g.D.Disk.observable g.D.Disk.history g.D.Disk.sync_out g.D.Disk.read_out g.D.Disk.read_of r.0 old r.1 r.2 r.3 r.4 r.5 r.6 r.7 c.args.changes.items r.8 c.are_ordered.ensures c.requires.some),
+      c.in-Ok.ensures.changes ∙ ap (map tree_of) (c.as_slice.ensures.value ∙ r.8.changes_are),
     )
 
-pub log_pushed-requires-clause-entries : goal.log_pushed-requires-clause-entries
-log_pushed-requires-clause-entries g c =
+pub push_copied-requires-clause-entries : goal.push_copied-requires-clause-entries
+push_copied-requires-clause-entries g c =
     let r = c.requires.taken in
-    entries_are g.D.Disk.observable g.D.Disk.history g.D.Disk.sync_out g.D.Disk.read_out g.D.Disk.read_of r.0 c.args.self.now r.1 r.2 r.3 r.4 r.5 r.6 r.7 r.8 r.9 c.args.changes.now r.10 c.are_ordered.ensures c.args.txn c.args.number
-    c.number_fits.ensures (let fits = c.ranges.number.fits in omega (arith, fits))
+    subst (λ (l : List TreeChange). AllByRecursion (λ x. IsEntry (entry_for c.args.txn x.db x.name x.value)) l) (sym (c.in-Ok.ensures.changes ∙ ap (map tree_of) (c.as_slice.ensures.value ∙ r.8.changes_are)))
+    (entries_now g.D.Disk.observable g.D.Disk.history g.D.Disk.sync_out g.D.Disk.read_out g.D.Disk.read_of r.0 c.args.self.now r.1 r.2 r.3 r.4 r.5 r.6 r.7 c.args.changes.items r.8 c.are_ordered.ensures c.args.txn
+    c.number_fits.ensures c.db_fits.ensures)
 
 pub returns-in-Ok-clause-writes : goal.returns-in-Ok-clause-writes
-returns-in-Ok-clause-writes g c before most session st a asked db found t answer up is number =
+returns-in-Ok-clause-writes g c before most session st a asked t answer up is =
     let old = c.args.self.now in
-    let mid = in_sessions c.push_copy.new.sessions old in
-    let txn = c.args.txn in
-    let pushed = subst (λ (n : ℕ). HasTaken c.push_copy.new.sessions true a (needs_in st a asked t) (with_own txn.0 (changes_at n c.args.changes.now) st)) (sym number)
-    (c.in-Ok.ensures.taken a (needs_in st a asked t) st up.taken) in
-    let may = subst (λ (x : TxnId). MayWrite st x.0 t c.args.changes.now) is
-    (may_write g.D.Disk.observable g.D.Disk.history g.D.Disk.sync_out g.D.Disk.read_out g.D.Disk.read_of before old most session st a asked db found t answer c.args.changes.now up c.are_ordered.ensures c.requires.some) in
-    let active = subst (λ (x : TxnId). active_number st.actives x.0 ≡ true) is
-    (is_active_ g.D.Disk.observable g.D.Disk.history g.D.Disk.sync_out g.D.Disk.read_out g.D.Disk.read_of before old most session st a asked db found t answer c.args.changes.now up) in
-    let writes = c.log_pushed.ensures.writes st t a (needs_in st a asked t)
-    (valid_now g.D.Disk.observable g.D.Disk.history g.D.Disk.sync_out g.D.Disk.read_out g.D.Disk.read_of before old most session st a asked db found t answer c.args.changes.now up) may number active
-    (last_txn_now g.D.Disk.observable g.D.Disk.history g.D.Disk.sync_out g.D.Disk.read_out g.D.Disk.read_of before old most session st a asked db found t answer c.args.changes.now up)
-    (last_db_now g.D.Disk.observable g.D.Disk.history g.D.Disk.sync_out g.D.Disk.read_out g.D.Disk.read_of before old most session st a asked db found t answer c.args.changes.now up) pushed in
-    logged_then g.D.Disk.observable g.D.Disk.history g.D.Disk.sync_out g.D.Disk.read_out g.D.Disk.read_of old mid c.log_pushed.new.self a txn (needs_in st a asked t) st t c.args.changes.now c.log_pushed.result is refl c.log_pushed.ensures.sessions pushed writes
+    c.push_copied.ensures.writes st (changes_with st a t (outcome_of st a asked t).changes) a (needs_in st a asked t)
+    (valid_now g.D.Disk.observable g.D.Disk.history g.D.Disk.sync_out g.D.Disk.read_out g.D.Disk.read_of before old most session st a asked t answer c.args.changes.items up)
+    (may_write g.D.Disk.observable g.D.Disk.history g.D.Disk.sync_out g.D.Disk.read_out g.D.Disk.read_of before old most session st a asked t answer c.args.changes.items up c.are_ordered.ensures c.requires.some) is
+    (is_active_ g.D.Disk.observable g.D.Disk.history g.D.Disk.sync_out g.D.Disk.read_out g.D.Disk.read_of before old most session st a asked t answer c.args.changes.items up)
+    (last_db_now g.D.Disk.observable g.D.Disk.history g.D.Disk.sync_out g.D.Disk.read_out g.D.Disk.read_of before old most session st a asked t answer c.args.changes.items up)
+    up.changes_are (c.in-Ok.ensures.changes ∙ ap (map tree_of) (c.as_slice.ensures.value ∙ up.changes_are)) (c.in-Ok.ensures.names ∙ ap own_names (c.as_slice.ensures.value ∙ up.changes_are)) up.taken
 
 pub returns-in-Err-clause-writes : goal.returns-in-Err-clause-writes
-returns-in-Err-clause-writes g c before most session st a asked db found t answer up is number =
-    none_pushed g.D.Disk.observable g.D.Disk.history g.D.Disk.sync_out g.D.Disk.read_out g.D.Disk.read_of c.args.self.now c.push_copy.new.sessions a (needs_in st a asked t) st t c.args.changes.now c.in-Err.error
-    (valid_now g.D.Disk.observable g.D.Disk.history g.D.Disk.sync_out g.D.Disk.read_out g.D.Disk.read_of before c.args.self.now most session st a asked db found t answer c.args.changes.now up)
-    (c.in-Err.ensures.err a (needs_in st a asked t) st up.taken)
+returns-in-Err-clause-writes g c before most session st a asked t answer up is =
+    none_pushed g.D.Disk.observable g.D.Disk.history g.D.Disk.sync_out g.D.Disk.read_out g.D.Disk.read_of c.args.self.now c.args.self.now.sessions a (needs_in st a asked t) st (changes_with st a t (outcome_of st a asked t).changes) c.in-Err.error
+    (valid_now g.D.Disk.observable g.D.Disk.history g.D.Disk.sync_out g.D.Disk.read_out g.D.Disk.read_of before c.args.self.now most session st a asked t answer c.args.changes.items up) up.taken

@@ -1,5 +1,5 @@
 use Rattle.std.proofs.Common.{◌∙◌, ◌+◌, ◌≤◌, ℕ, ap, sym, subst}
-use Rattle.je_answers.specs.Views.{changes_at, needs_in, outcome_of}
+use Rattle.je_answers.specs.Views.{changes_with, needs_in, outcome_of, with_numbers}
 use Rattle.je_answers.specs.Locking.{all_got}
 use Rattle.je_answers.specs.After.{with_locks}
 use Rattle.in_tree.specs.Observed.{cells_of}
@@ -27,7 +27,7 @@ commit_own-requires-clause-own g c =
     let r = c.requires.written in
     let e = c.args.self.now in
     let valid = r.6.pushed.writes.0 in
-    own_free (cells_of e.engine.trees) (with_own r.3.txn.0 (changes_at r.5.db r.6.changes) r.2).own (committed (cells_of e.engine.trees)) e.written.by_txn.entries c.args.txn valid.writes valid.names
+    own_free (cells_of e.engine.trees) (with_own r.3.txn.0 (with_numbers (changes_with r.2 r.3 r.5 (outcome_of r.2 r.3 r.4 r.5).changes)) r.2).own (committed (cells_of e.engine.trees)) e.written.by_txn.entries c.args.txn valid.writes valid.names
 
 pub returns-in-Ok-clause-comes : goal.returns-in-Ok-clause-comes
 returns-in-Ok-clause-comes g c before most line st a asked t w moves =
