@@ -16,14 +16,14 @@ import sys
 import tempfile
 
 from child import run_child
-from scripts import create_scripts, empty_script, get_scripts, put_scripts, records_of
+from scripts import create_scripts, empty_script, get_scripts, index_scripts, put_scripts, records_of
 
 TOP = os.path.dirname(os.path.dirname(os.path.abspath(__file__)))
 PROGRAM = os.path.join(TOP, "crates", "jedb", "out", "jedb")
 LOCKS = os.path.join(TOP, "crates", "lock_bench", "out", "lock_bench")
 TUNABLES = "GLIBC_TUNABLES"  # by which ./jedb asks for large pages; left as it is
 
-PARTS = ["memory", "disk", "databases", "opening", "files", "locks"]
+PARTS = ["memory", "disk", "databases", "indexes", "opening", "files", "locks"]
 PROCESSORS = sorted(os.sched_getaffinity(0))
 MANY_FILES = ("--file-max", "100000")
 
@@ -80,13 +80,15 @@ class Case:
 
 
 class StoreCase(Case):
-    """Puts into new folders, gets from a folder, or an empty script on it (reopen)."""
+    """Puts into new folders, gets from a folder, an index made of its records (fill), or an empty script on it (reopen)."""
 
-    def __init__(self, bench, folder, work, size, system, names=("t",), options=(), note=""):
+    def __init__(self, bench, folder, work, size, system, names=("t",), options=(), note="", indexes=0):
         super().__init__(work + note, size)
         self.bench, self.folder, self.kind, self.program, self.options = bench, folder, work, system, options
         self.system = system.name
-        self.create, self.puts = create_scripts(bench.work, names), put_scripts(bench.work, bench.records(size), names)
+        self.create, self.puts = create_scripts(bench.work, names), put_scripts(bench.work, bench.records(size), names, indexes)
+        self.create += index_scripts(bench.work, names[0], 0) if indexes else []
+        self.index = index_scripts(bench.work, names[0], size) if work == "fill" else []
         self.gets = get_scripts(bench.work, bench.records(size), names[0]) if work == "get" else []
         self.bare = self.full = None
 
@@ -105,6 +107,11 @@ class StoreCase(Case):
             home = self.made(self.create)
             times = self.ran(home, empty), self.ran(home, self.puts)
             self.log = sum(os.path.getsize(os.path.join(at, name)) for at, _, names in os.walk(home) for name in names)
+            shutil.rmtree(home)
+            return times
+        if self.kind == "fill":
+            home = self.made(self.create, self.puts)
+            times = self.ran(home, empty), self.ran(home, self.index)
             shutil.rmtree(home)
             return times
         if self.full is None:
@@ -168,6 +175,11 @@ class Bench:
             few, many = (store("put", self.sizes(160_000)[0], options=it, note=note) for it, note in (((), ""), (MANY_FILES, ", small files")))
             many.beside = few
             return [few, many], 5
+        if part == "indexes":
+            size = self.sizes(100_000)[0]
+            plain, indexed, filled = store("put", size), store("put", size, indexes=1, note=", an index"), store("fill", size)
+            indexed.beside = filled.beside = plain
+            return [plain, indexed, filled], 5
         if part == "databases":
             names, size = [f"d{it}" for it in range(self.sizes(1_000)[0])], self.sizes(100_000)[0]
             pairs = [(store(work, size), store(work, size, names=names, note=f", {len(names):,} databases")) for work in ("put", "reopen")]

@@ -61,10 +61,16 @@ def create_scripts(work, names):
     return cut(work, f"create-{len(names)}", [f"s1 create {it} plain" for it in names], ["ok"] * len(names), lambda made: f" databases {made} records 0")
 
 
-def put_scripts(work, records, names):
-    """Each record once; databases take turns."""
+def index_scripts(work, name, records):
+    """An index of a database with so many records, by the first bytes of their data."""
+    return cut(work, f"index-{records}", [f"s1 create i index {name} slice 0 8"], ["ok"], lambda _: f" databases 2 records {2 * records}")
+
+
+def put_scripts(work, records, names, indexes=0):
+    """Each record once; databases take turns. So many indexes have a pair of each."""
     lines = [f"s1 put {names[at % len(names)]} {it.key} {it.data}" for at, it in enumerate(records)]
-    return cut(work, f"put-{len(records)}-{len(names)}", lines, ["ok"] * len(lines), lambda made: f" databases {len(names)} records {made}")
+    ending = lambda made: f" databases {len(names) + indexes} records {made * (1 + indexes)}"
+    return cut(work, f"put-{len(records)}-{len(names)}-{indexes}", lines, ["ok"] * len(lines), ending)
 
 
 def get_scripts(work, records, name):

@@ -21,23 +21,23 @@ PAGE = os.path.join(TOP, "docs", "TRUSTED.md")
 TOP_CALL = "run_je"  # the call whose contract is the store's theorem
 
 # The questions that a reader has, in order, each with the crates whose definitions answer it. What the theorem takes of a
-# crate that is not named here answers the question on the run; the rest of it is of parts that the program does not use.
+# crate that is not named here answers the question on the run.
 QUESTIONS = [
-    ("Store and answers", "je_order order_laws record_map store_model record_eval store_eval je_answers db_catalog"),
+    ("Store and answers", "je_order order_laws record_map store_model index_laws record_eval store_eval secondary cursor_je je_answers db_catalog"),
     ("Text", "je_io command_line script_text"),
     ("The disk and crashes", "je_disk mem_disk dir_disk"),
     ("The log's bytes", "je_bytes je_lsn log_entry log_file log_buffer log_replay log_trees log_meaning"),
-    ("Trees and records", "node_core record_tree node_log tree_nodes db_tree in_tree"),
-    ("The run", "recovery_je crash_recovery txn_core txn_log txn_views standing_laws sessions engine environment script_run je_program"),
-    ("Parts that the program does not use", ""),
+    ("Trees and records", "node_core record_tree node_log tree_nodes db_tree tree_images dirty_nodes in_tree checkpointer db_names index_map"),
+    ("Locks and transactions", "lock_mode waits_for lock_table lock_mgr txn_locks open_cursors active_txns standing_laws indexed_standings serial_replay sessions"),
+    ("The run", "recovery_je crash_recovery txn_core txn_log txn_views ending_laws engine environment script_run je_program"),
 ]
 
 HEAD = """\
 # What has to be believed
 
 The prover checks that the code meets its contracts. It does not check that the contracts say what a reader wants. This page
-lists the definitions behind the contracts: those that a contract of a public function cites, and those that such a
-definition cites in turn. Bodies, private contracts, loop invariants, lemmas and proofs need not be believed; they are checked.
+lists the definitions behind the contracts: those that a contract of a public function cites, or the invariant of a type with
+public fields, and those that such a definition cites in turn. Bodies, private contracts, loop invariants, lemmas and proofs need not be believed; they are checked.
 
 The first part is what the store's theorem, the contract of `{top}`, rests on. A reader who wants to know only what the
 program promises can stop there. [THEOREM.md](THEOREM.md) explains its clauses.
@@ -175,11 +175,16 @@ def contracts_of(crate, file, is_public_name):
             yield Contract(function[3], owner if in_owner else "", crate, module, scope.cited(text), bounds, public)
             n = end
             continue
-        elif re.match(r" {4}ghost (?!invariant|use)", line) and is_public_owner:
+        elif re.match(r" {4}ghost (?!use)", line) and is_public_owner and ("ghost invariant" not in line or has_public_fields(lines, owner)):
             yield Contract(owner, owner, crate, module, scope.cited(line), [], True)
         elif re.match(r" {4}type \w+:", line):
             yield Contract(owner, owner, crate, module, [], re.findall(r"\b[A-Z]\w+\b", line.partition(":")[2]), is_public_owner)
         n += 1
+
+
+def has_public_fields(lines, name):
+    """Whether callers make a value of a type by its fields, and so have to show its invariant."""
+    return bool(re.search(rf"^pub struct {name}\b.*{{\n(?: {{4}}///.*\n)* {{4}}pub \w+:", "\n".join(lines), re.M))
 
 
 def end_of_contract(lines, n, indent):
@@ -272,10 +277,10 @@ def docs_above(lines, n):
     return found
 
 
-def tables(repository, definitions, constants, other):
-    """The definitions by question, crate and file, each file's in its order; `other` is the question of crates without one."""
+def tables(repository, definitions, constants):
+    """The definitions by question, crate and file, each file's in its order."""
     asked = {crate: at for at, (_, crates) in enumerate(QUESTIONS) for crate in crates.split()}
-    order = lambda it: (asked.get(it.crate, other), repository.crates.index(it.crate), it.file, getattr(it, "line", -1))
+    order = lambda it: (asked.get(it.crate, len(QUESTIONS) - 1), repository.crates.index(it.crate), it.file, getattr(it, "line", -1))
     question = file = None
     listed = sorted([*constants.values(), *definitions.values()], key=order)
     for (at, path, says), alike in itertools.groupby(listed, lambda it: (order(it)[0], it.file, it.says)):
@@ -299,8 +304,8 @@ def page(repository):
             print(f"trusted: no comment above {it.name} in {it.file}", file=sys.stderr)
     for text in sorted(repository.lost):
         print(f"trusted: {text}", file=sys.stderr)
-    parts = [HEAD.format(top=TOP_CALL), f"\n## What `{TOP_CALL}` rests on: {len(own)} definitions\n", *tables(repository, own, own_constants, len(QUESTIONS) - 2),
-             f"\n\n## What contracts of other public functions cite besides: {len(rest)} definitions\n", *tables(repository, rest, more, len(QUESTIONS) - 1), "\n\n" + TAIL]
+    parts = [HEAD.format(top=TOP_CALL), f"\n## What `{TOP_CALL}` rests on: {len(own)} definitions\n", *tables(repository, own, own_constants),
+             f"\n\n## What contracts of other public functions cite besides: {len(rest)} definitions\n", *tables(repository, rest, more), "\n\n" + TAIL]
     return re.sub(r"\n{3,}", "\n\n", "\n".join(parts)).rstrip() + "\n"
 
 

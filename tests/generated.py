@@ -6,8 +6,8 @@
     python3 tests/generated.py --seed 7 --scripts 1  the script of one seed, with its report where it differs
     python3 tests/generated.py --program PATH      another build
 
-A script makes calls of one session on a database of each kind: by key, at cursors, with and without a transaction, with steps of
-checkpoints between them. Each folder is then opened again, and its records are read from both ends.
+A script makes calls of one session on a database of each kind and on indexes: by key, at cursors, with and without a transaction, with
+steps of checkpoints between them. Each folder is then opened again, and its records are read from both ends.
 """
 
 import argparse
@@ -18,10 +18,18 @@ import sys
 import tempfile
 
 import motions
-from model import KINDS, Model, PROGRAM, answered, first_wrong, hexed, report_of
+from model import KINDS, Model, PROGRAM, field, first_wrong, hexed, report_of, sliced
 
 KEYS = [b"", b"a", b"a\x00", b"ab", b"b", b"c", b"\xff", b"\xff\xff"]
-DATA = [b"", b"1", b"1\x00", b"2", b"\xff"]
+DATA = [b"", b"1", b"1\x00", b"2", b"\xff", b"2,1", b"1,,\xff"]
+INDEXES = {
+    "slice 0 1": sliced(0, 1),
+    "slice 1 1": sliced(1, 1),
+    "slice 0 2": sliced(0, 2),
+    "field 0 2c": field(0, b","),
+    "field 1 2c": field(1, b","),
+    "field 2 2c": field(2, b","),
+}
 MOTIONS = "first last next prev nextdup prevdup nextnodup prevnodup current".split()
 STEPS = {
     "begin": ("ok", "incheckpoint"),
@@ -33,7 +41,11 @@ STEPS = {
 
 def drawn(chance, model):
     """A call: its line, and what the model answers to it."""
-    db, key, data = chance.choice("pd"), chance.choice(KEYS), chance.choice(DATA)
+    db, key, data = chance.choice([*"ppd", *model.indexes]), chance.choice(KEYS), chance.choice(DATA)
+    if db in model.indexes and chance.random() < 0.8:
+        # (a pair that is there, or its key)
+        key, data = chance.choice(model.all(db) or [(key, data)])
+    index, made_by = chance.choice("ij"), chance.choice(sorted(INDEXES))
     cursor, to = chance.randint(1, 3), chance.randint(1, 3)
     mode = chance.choice(["", "no", "nodup"])
     rmw = chance.choice(["", " rmw"])
@@ -61,6 +73,9 @@ def drawn(chance, model):
         (4, f"cput{mode} c{cursor} {pair}", lambda: model.cput(mode, cursor, key, data)),
         (2, f"cputcur c{cursor} {hexed(data)}", lambda: model.cputcur(cursor, data)),
         (4, f"cdel c{cursor}", lambda: model.cdel(cursor)),
+        (2 if model.committed is None else 0, f"create {index} index p {made_by}", lambda: model.create_index(index, INDEXES[made_by])),
+        (1, f"remove {index}", lambda: model.remove_index(index)),
+        (1, f"truncate {db}", lambda: model.truncate(db)),
         (2 if model.committed is None else 0, f"begin {level} nosync nowait", model.begin),
         (1, "commit", lambda: model.end(True)),
         (1, "abort", lambda: model.end(False)),
@@ -82,6 +97,11 @@ def script_of(seed, calls):
         lines.append(f"s1 put {db} {hexed(key)} {hexed(data)}")
         said.append(model.put("", db, key, data))
         model.after_call()
+        if chance.random() < 0.15:
+            index, made_by = chance.choice("ij"), chance.choice(sorted(INDEXES))
+            lines.append(f"s1 create {index} index p {made_by}")
+            said.append(model.create_index(index, INDEXES[made_by]))
+            model.after_call()
     if chance.random() < 0.8:
         lines.append("s1 begin ser nosync wait")
         said.append(model.begin())
@@ -94,19 +114,21 @@ def script_of(seed, calls):
         lines.append(line)
         said.append(answer)
     model.end(False)
-    end = f"end commits {model.commits} databases 2 records {sum(map(len, model.records.values()))}"
-    return lines, said, end, model
+    return lines, said, ended(model, model.commits), model
+
+
+def ended(model, commits):
+    return f"end commits {commits} databases {len(KINDS) + len(model.indexes)} records {model.count_all()}"
 
 
 def read_again(model):
     """A script that reads all records from both ends, and what it is answered."""
     lines, said = ["s1 begin rr nosync wait"], ["ok txn"]
-    for db in sorted(KINDS):
-        for way, records in (("next", model.records[db]), ("prev", model.records[db][::-1])):
+    for db in [*KINDS, *model.indexes]:
+        for way, records in (("next", model.all(db)), ("prev", model.all(db)[::-1])):
             lines += [f"s1 open c1 {db}"] + [f"s1 cur c1 {way}"] * (len(records) + 1) + ["s1 close c1"]
-            said += ["ok"] + [answered(r) for r in records] + ["notfound", "ok"]
-    end = f"end commits 0 databases 2 records {sum(map(len, model.records.values()))}"
-    return lines, said, end
+            said += ["ok"] + [model.answered(db, r) for r in records] + ["notfound", "ok"]
+    return lines, said, ended(model, 0)
 
 
 def tried(program, seed, calls):

@@ -1,6 +1,6 @@
-"""A plain model of an environment of two databases, and how a report of the program is compared with it.
+"""A plain model of an environment of two databases and indexes of one, and how a report of the program is compared with it.
 
-The model keeps the records of each database as a sorted list and walks it. It knows nothing of the program.
+The model keeps the records of each database as a sorted list and walks it. An index is made anew at each look. It knows nothing of the program.
 """
 
 import os
@@ -15,8 +15,14 @@ def hexed(bytes_):
     return bytes_.hex() or "-"
 
 
-def answered(record):
-    return f"ok {hexed(record[0])} {hexed(record[1])}"
+def sliced(offset, length):
+    """An index by some bytes of the data."""
+    return lambda data: data[offset:offset + length] if offset + length <= len(data) else None
+
+
+def field(number, separator):
+    """An index by a field of the data."""
+    return lambda data: dict(enumerate(data.split(separator))).get(number)
 
 
 class Model:
@@ -24,22 +30,42 @@ class Model:
 
     def __init__(self):
         self.records = {db: [] for db in KINDS}
+        self.indexes = {}  # of p, by name: what gives the key of a record's data, None where it has none
         self.committed = None  # what was committed before the transaction under way; None outside one
         self.cursors = {}  # by number: the database, and where it stands
         self.changed = False
         self.commits = len(KINDS)
 
+    def all(self, db):
+        """The records of a database. Those of an index are pairs of its key and the record's own."""
+        if db not in self.indexes:
+            return self.records[db]
+        keyed = [(self.indexes[db](data), key) for key, data in self.records["p"]]
+        return sorted(pair for pair in keyed if pair[0] is not None)
+
+    def count_all(self):
+        return sum(len(self.all(db)) for db in [*KINDS, *self.indexes])
+
+    def answered(self, db, record):
+        """An index answers with the data of the record as well."""
+        data = [d for key, d in self.records["p"] if key == record[1]] if db in self.indexes else []
+        return "ok " + " ".join(map(hexed, [*record, *data]))
+
     def key_of(self, db, record):
-        """What tells a record from the others: its key, and in a database of duplicates its data."""
-        return record if db == "d" else record[0]
+        """What tells a record from the others: its key, and but for a plain database its data."""
+        return record[0] if db == "p" else record
 
     def all_of(self, db, key):
-        return [r for r in self.records[db] if r[0] == key]
+        return [r for r in self.all(db) if r[0] == key]
 
     def at(self, db, place):
-        return [r for r in self.records[db] if self.key_of(db, r) == self.key_of(db, place)]
+        return [r for r in self.all(db) if self.key_of(db, r) == self.key_of(db, place)]
 
     def change(self, db, remove, add):
+        """Takes records out and puts others in. By an index the primary's records are taken out."""
+        if db in self.indexes:
+            keys = [key for _, key in remove]
+            db, remove = "p", [r for r in self.records["p"] if r[0] in keys]
         self.records[db] = sorted([r for r in self.records[db] if r not in remove] + add)
         self.changed = True
 
@@ -48,11 +74,13 @@ class Model:
 
     def wants(self, mode, db, key, data):
         """Whether a put of this mode is refused, and how."""
+        if db in self.indexes:
+            return "readonlyindex"
         if mode == "nodup" and db == "p":
             return "onlyonduplicates"
         if mode == "no" and self.all_of(db, key):
             return "keyexist"
-        if mode == "nodup" and (key, data) in self.records[db]:
+        if mode == "nodup" and (key, data) in self.all(db):
             return "keyexist"
         return None
 
@@ -60,10 +88,10 @@ class Model:
 
     def get(self, db, key):
         found = self.all_of(db, key)
-        return answered(found[0]) if found else "notfound"
+        return self.answered(db, found[0]) if found else "notfound"
 
     def getboth(self, db, key, data):
-        return answered((key, data)) if (key, data) in self.records[db] else "notfound"
+        return self.answered(db, (key, data)) if (key, data) in self.all(db) else "notfound"
 
     def put(self, mode, db, key, data):
         refused = self.wants(mode, db, key, data)
@@ -76,6 +104,34 @@ class Model:
         if not found:
             return "notfound"
         self.change(db, found, [])
+        return "ok"
+
+    def create_index(self, db, key_in):
+        if self.committed is not None:
+            return "intxn"
+        if db in self.indexes:
+            return "nametaken"
+        self.indexes[db] = key_in
+        self.changed = True
+        return "ok"
+
+    def remove_index(self, db):
+        if self.committed is not None:
+            return "intxn"
+        if self.indexes.pop(db, None) is None:
+            return "nodatabase"
+        self.changed = True
+        return "ok"
+
+    def truncate(self, db):
+        if self.committed is not None:
+            return "intxn"
+        if db in self.indexes:
+            return "readonlyindex"
+        if db == "p" and self.indexes:
+            return "hasindex"
+        self.records[db] = []
+        self.changed = True
         return "ok"
 
     # Calls of cursors.
@@ -117,7 +173,7 @@ class Model:
     def moved(self, cursor, motion, key, data):
         """The record that a motion comes to; None where there is none."""
         db, place = self.cursors[cursor]
-        records = self.records[db]
+        records = self.all(db)
         if place is None:
             motion = {"next": "first", "nextnodup": "first", "prev": "last", "prevnodup": "last"}.get(motion, motion)
         here = None if place is None else self.key_of(db, place)
@@ -134,7 +190,7 @@ class Model:
             "key": lambda: self.all_of(db, key)[:1],
             "range": lambda: [r for r in records if r[0] >= key][:1],
             "both": lambda: [r for r in records if r == (key, data)],
-            "bothrange": lambda: [r for r in self.all_of(db, key) if (r[1] >= data if db == "d" else r[1] == data)][:1],
+            "bothrange": lambda: [r for r in self.all_of(db, key) if (r[1] == data if db == "p" else r[1] >= data)][:1],
         }[motion]()
         return found[0] if found else None
 
@@ -150,7 +206,7 @@ class Model:
         if found is None:
             return "notfound"
         self.cursors[cursor] = (db, found)
-        return answered(found)
+        return self.answered(db, found)
 
     def cput(self, mode, cursor, key, data):
         if cursor not in self.cursors:
@@ -165,8 +221,8 @@ class Model:
         if cursor not in self.cursors:
             return "nocursor"
         db, place = self.cursors[cursor]
-        if db == "d":
-            return "notonduplicates"
+        if db != "p":
+            return "notonduplicates" if db == "d" else "readonlyindex"
         refused = self.standing(cursor)
         if refused is None:
             self.write(db, (place[0], data))

@@ -1,9 +1,9 @@
 //! What a call on the records of one database comes to. `plan` asks a view of the database for the few
 //! records that the call is about, and gives the answer, the changes and where the cursor then stands;
-//! `needs` asks it for the occupied names that the call passes, and gives the locks that the call needs;
+//! `read_needs` and `push_write` ask it for the occupied names that the call passes, and give the locks that it needs;
 //! `refusal` says what a database of its kind refuses. It stands on `store_model` alone and knows no
 //! tree and no log: these are behind the traits `View` and `Names`, which the caller implements. Upward it
-//! promises that all three are the model's, by equation. Names, keys and data are borrowed on the way, and
+//! promises that all of these are the model's, by equation. Names, keys and data are borrowed on the way, and
 //! copied only into the answer, the changes, the place and the needs.
 #![tactic(auto)]
 
@@ -31,7 +31,6 @@ pub mod view;
 pub use name_edge::NameEdge;
 pub use name_ref::NameRef;
 pub use names::Names;
-pub use needing::needs;
 pub use planned::Planned;
 pub use planning::plan;
 pub use record_ref::RecordRef;

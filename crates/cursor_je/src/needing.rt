@@ -1,13 +1,12 @@
 // The locks that a call needs.
 ghost use Rattle.std.specs.Prelude.{◌≡◌, ◌++◌, ◌&&◌, map, filter, find, option_map, Some, IfOk, OnOk};
-ghost use Rattle.std.specs.List.{flat_map};
 ghost use Rattle.std.specs.Option.{option_copied};
 ghost use Rattle.je_order.specs.declared.bound.Bound.TheVariants.{At as On};
 ghost use Rattle.je_order.specs.declared.name.Name.{Name as OneName};
 ghost use Rattle.je_order.specs.Edges.Edge.{Behind};
 ghost use Rattle.store_model.specs.Reads.{at_name, range, is_within};
 ghost use Rattle.store_model.specs.Records.{evaluation};
-ghost use Rattle.store_model.specs.Needs.{need, place_of, first_from, needs_behind, part_needs, write_type, changed_name, insert_needs, write_needs, needs_of};
+ghost use Rattle.store_model.specs.Needs.{need, place_of, first_from, needs_behind, part_needs, write_type, changed_name, insert_needs, write_needs};
 ghost use Rattle.cursor_je.specs.Looks.{name_in, edge_in, planned_in};
 ghost use Rattle.cursor_je.specs.Reaches.{part_in, range_in, kept_below, read_needs as needs_of_read, read_unless};
 
@@ -221,22 +220,6 @@ pub fn push_write<V: View + Names>(
     push_insert(alloc, view, needs, db, n)
 }
 
-fn push_writes<V: View + Names>(
-    alloc: Global,
-    view: &V,
-    needs: &mut Vec<Need>,
-    level: Isolation,
-    db: u32,
-    changes: &[RecordChange],
-) -> Result<(), AllocError>
-    ensures { OnOk result (needs.new.items ≡ needs.old.items ++ flat_map (write_needs level db (V.kind_of view.now) (V.pairs_of view.now) (V.names_of view.now)) changes.now) }
-{
-    for change in changes {
-        push_write(alloc, view, needs, level, db, change)?;
-    }
-    Ok(())
-}
-
 /// The locks of what a call reads at a level, in the database of that number, with its cursor at that place, where it
 /// comes to what was planned: none where the cursor's place alone answers it. It looks at the occupied names that the
 /// read passes. The only error is out of memory.
@@ -265,33 +248,6 @@ pub fn read_needs<V: View + Names>(
         call,
         at,
         planned.answered,
-    )?;
-    Ok(needs)
-}
-
-/// The locks that a call needs at a level, in the database of that number, with its cursor at that place, where it comes
-/// to what was planned: what its read passes, and then what it changes, in order. It looks at the occupied names that the
-/// read passes, and at one or two for each change. The only error is out of memory.
-pub fn needs<V: View + Names>(
-    alloc: Global,
-    view: &V,
-    level: Isolation,
-    db: u32,
-    call: &Call,
-    at: Option<&Name>,
-    planned: &Planned,
-) -> Result<Vec<Need>, AllocError>
-    requires { planned_in planned.now ≡ evaluation (V.kind_of view.now) call.now (option_copied at) (V.pairs_of view.now) }
-    ensures { IfOk result (λ needs. needs.items ≡ needs_of level db (V.kind_of view.now) call.now (option_copied at.entry) (V.pairs_of view.now) (V.names_of view.now)) }
-{
-    let mut needs = read_needs(alloc, view, level, db, call, at, planned)?;
-    push_writes(
-        alloc,
-        view,
-        &mut needs,
-        level,
-        db,
-        planned.changes.as_slice(),
     )?;
     Ok(needs)
 }

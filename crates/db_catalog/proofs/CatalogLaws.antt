@@ -11,7 +11,8 @@ use Rattle.je_bytes.proofs.Fields.{Takes, four_bytes, number_in-takes, number_in
 use Rattle.db_catalog.specs.declared.db_record.DbRecord.{DbRecord}
 use Rattle.db_catalog.specs.declared.db_kind.DbKind.{DbKind}
 use Rattle.db_catalog.specs.declared.db_kind.DbKind.TheVariants.{Plain, Dup, SliceIndex, FieldIndex}
-use Rattle.db_catalog.specs.Catalog.{IsSlice, IsKind, IsRecord, kind_bytes, record_bytes, is_slice, ended, slice_in, field_in, kind_in, db_record_in}
+use Rattle.store_model.specs.Making.{IsSlice}
+use Rattle.db_catalog.specs.Catalog.{IsKind, IsRecord, kind_bytes, record_bytes, is_slice, ended, slice_in, field_in, kind_in, db_record_in}
 
 -- ---- steps of reading
 

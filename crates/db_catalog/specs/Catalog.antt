@@ -3,15 +3,12 @@ use Rattle.std.specs.Prelude.{ℕ, ◌≤◌, ◌<◌, ◌^◌, ◌++◌, ◌∷
 use Rattle.std.specs.Int.{w32, to_be_bytes}
 use Rattle.je_order.specs.Options.{◌>>=◌}
 use Rattle.je_bytes.specs.Reading.{byte_in, number_in}
+use Rattle.store_model.specs.Making.{IsSlice}
 use Rattle.db_catalog.specs.declared.db_record.DbRecord.{DbRecord}
 use Rattle.db_catalog.specs.declared.db_kind.DbKind.{DbKind}
 use Rattle.db_catalog.specs.declared.db_kind.DbKind.TheVariants.{Plain, Dup, SliceIndex, FieldIndex}
 
 -- ---- what a record may hold
-
--- the limits of a slice: its offset is at most 65,535, and it has 1 to 4,096 bytes
-abbrev pub IsSlice : ℕ → ℕ → Type 0
-IsSlice offset len = (offset ≤ 65535) × (1 ≤ len) × (len ≤ 4096)
 
 -- numbers within their widths, and a slice within its limits
 abbrev pub IsKind : DbKind → Type 0

@@ -1,5 +1,5 @@
 -- What a call on the catalog comes to, and the catalog's records that a change logs.
-use Rattle.std.specs.Prelude.{ℕ, ◌≡◌, ◌∷◌, [], List, Option, Some, None, Bool, true, false, length}
+use Rattle.std.specs.Prelude.{ℕ, ◌≡◌, ◌∷◌, [], List, Option, Some, None, Bool, true, false, length, take, if◌then◌else◌}
 use Rattle.std.specs.Option.{is_some}
 use Rattle.std.specs.List.{list_any}
 use Rattle.store_model.specs.declared.store.Store.{Store}
@@ -10,12 +10,14 @@ use Rattle.store_model.specs.declared.call.Call.{Call}
 use Rattle.store_model.specs.declared.call.Call.TheVariants.{Create, CreateIndex, List as Lists, Remove as Removes, Rename as Renames, Truncate}
 use Rattle.store_model.specs.declared.change.Change.{Change}
 use Rattle.store_model.specs.declared.change.Change.TheVariants.{Set, Unset, Make, MakeIndex, Remove, Rename, Empty}
+use Rattle.store_model.specs.declared.index.Index.{Index}
 use Rattle.store_model.specs.declared.extract.Extract.{Extract}
 use Rattle.store_model.specs.declared.extract.Extract.TheVariants.{ByteSlice, Field}
 use Rattle.store_model.specs.declared.answer.Answer.{Answer}
+use Rattle.store_model.specs.declared.answer.Answer.TheVariants.{NoDatabase, ReadOnlyIndex}
 use Rattle.store_model.specs.Store.{database_of}
 use Rattle.store_model.specs.Indexes.{is_index_of}
-use Rattle.store_model.specs.Evaluation.{Outcome, answers, evaluation}
+use Rattle.store_model.specs.Evaluation.{Outcome, answers, changes_by, evaluation}
 use Rattle.store_model.specs.Refusals.{or_refusal, creation_refusal, access_refusal, taken_refusal, indexed_refusal, is_primary}
 use Rattle.db_catalog.specs.declared.db_record.DbRecord.{DbRecord}
 use Rattle.db_catalog.specs.declared.db_kind.DbKind.{DbKind}
@@ -24,7 +26,7 @@ use Rattle.db_catalog.specs.declared.found_db.FoundDb.{FoundDb}
 use Rattle.db_catalog.specs.declared.catalog_change.CatalogChange.{CatalogChange}
 use Rattle.db_catalog.specs.declared.catalog_change.CatalogChange.TheVariants.{Put, Delete}
 
--- the calls that speak of databases alone, not of their records
+-- the calls that change the catalog's records alone, or none
 abbrev pub is_catalog_call : Call → Bool
 is_catalog_call (Create db kind) = true
 is_catalog_call Lists = true
@@ -59,22 +61,65 @@ name_refusal call store = None
 abbrev pub outcome_of : Call → Store → Outcome
 outcome_of call store = outcome_unless (or_refusal (there_refusal call store) (name_refusal call store)) (evaluation call store)
 
+-- what a call comes to in the catalog: an index is made there, and the pairs that fill it come behind that
+abbrev pub catalog_part : Outcome → Outcome
+catalog_part outcome = record { answer = outcome.answer; changes = take 1 outcome.changes }
+
+-- ---- databases as the catalog has them
+
 -- a kind as the catalog has it
 abbrev pub kind_in_catalog : Kind → DbKind
 kind_in_catalog Plain = PlainRecord
 kind_in_catalog Dup = DupRecord
 
--- the kind that the catalog has; an index has no records that a caller writes
-abbrev pub kind_of_catalog : DbKind → Option Kind
-kind_of_catalog PlainRecord = Some Plain
-kind_of_catalog DupRecord = Some Dup
-kind_of_catalog (SliceIndex primary offset len) = None
-kind_of_catalog (FieldIndex primary number separator) = None
+-- an index as the catalog has it, by the number of its primary
+abbrev pub index_in_catalog : ℕ → Extract → DbKind
+index_in_catalog primary (ByteSlice offset len) = SliceIndex primary offset len
+index_in_catalog primary (Field number separator) = FieldIndex primary number separator
+
+-- the number of a record, 0 where there is none
+abbrev pub number_in_record : Option DbRecord → ℕ
+number_in_record None = 0
+number_in_record (Some r) = r.number
+
+-- a database as the catalog has it: by its kind, and an index by the number that the catalog has for its primary
+abbrev pub database_in_catalog : (List ℕ → Option DbRecord) → Kind → Option Index → DbKind
+database_in_catalog record_of kind None = kind_in_catalog kind
+database_in_catalog record_of kind (Some index) = index_in_catalog (number_in_record (record_of index.primary)) index.extract
+
+-- the kind that the catalog has; an index keeps sorted duplicates
+abbrev pub kind_of_catalog : DbKind → Kind
+kind_of_catalog PlainRecord = Plain
+kind_of_catalog DupRecord = Dup
+kind_of_catalog (SliceIndex primary offset len) = Dup
+kind_of_catalog (FieldIndex primary number separator) = Dup
+
+-- what a record's database is an index of: the number of its primary, and the key that it has for each record
+abbrev pub index_of_catalog : DbKind → Option (ℕ × Extract)
+index_of_catalog PlainRecord = None
+index_of_catalog DupRecord = None
+index_of_catalog (SliceIndex primary offset len) = Some (primary, ByteSlice offset len)
+index_of_catalog (FieldIndex primary number separator) = Some (primary, Field number separator)
+
+-- whether an index may be of the database of a record
+abbrev pub is_plain_record : DbKind → Bool
+is_plain_record PlainRecord = true
+is_plain_record kind = false
+
+abbrev pub is_primary_record : Option DbRecord → Bool
+is_primary_record None = false
+is_primary_record (Some r) = is_plain_record r.kind
+
+-- an index has sorted duplicates
+abbrev pub HasIndexKind : Kind → Option Index → Type 0
+HasIndexKind kind None = Unit {0}
+HasIndexKind kind (Some index) = kind ≡ Dup
 
 -- the record that a catalog has for a database: of its kind, under some number; none where there is no database
-abbrev pub IsRecordOf : Option Database → Option DbRecord → Type 0
-IsRecordOf None found = found ≡ None
-IsRecordOf (Some d) found = (number : ℕ) × (found ≡ Some (record { number = number; kind = kind_in_catalog d.kind }))
+abbrev pub IsRecordOf : (List ℕ → Option DbRecord) → Option Database → Option DbRecord → Type 0
+IsRecordOf record_of None found = found ≡ None
+IsRecordOf record_of (Some d) found =
+    (number : ℕ) × HasIndexKind d.kind d.index × (found ≡ Some (record { number = number; kind = database_in_catalog record_of d.kind d.index }))
 
 -- what a planner of records asks first: whether a database is there, and its number and kind
 abbrev pub IsFoundAs : Option Database → Option FoundDb → Type 0
@@ -82,17 +127,27 @@ IsFoundAs None found = found ≡ None
 IsFoundAs (Some d) found = (number : ℕ) × (found ≡ Some (record { number = number; kind = d.kind }))
 
 -- the same from the catalog's record
-abbrev pub found_db : ℕ → Option Kind → Option FoundDb
-found_db number None = None
-found_db number (Some kind) = Some (record { number = number; kind = kind })
-
 abbrev pub found_in : Option DbRecord → Option FoundDb
 found_in None = None
-found_in (Some r) = found_db r.number (kind_of_catalog r.kind)
+found_in (Some r) = Some (record { number = r.number; kind = kind_of_catalog r.kind })
 
 -- a catalog has a record for each database of the store, of its kind, and no other
 abbrev pub IsCatalogOf : Store → (List ℕ → Option DbRecord) → Type 0
-IsCatalogOf store record_of = (name : List ℕ) → IsRecordOf (database_of name store) (record_of name)
+IsCatalogOf store record_of = (name : List ℕ) → IsRecordOf record_of (database_of name store) (record_of name)
+
+-- ---- plans
+
+-- what a truncation comes to, by the catalog's record of its database and whether that has indexes
+abbrev pub truncation : List ℕ → Option DbRecord → Bool → Outcome
+truncation db None indexed = answers NoDatabase
+truncation db (Some r) indexed = outcome_unless (indexed_refusal indexed) (if is_some (index_of_catalog r.kind) then answers ReadOnlyIndex else changes_by (Empty db))
+
+-- what the making of an index comes to in the catalog, by the record of its primary, whether its name is taken, and how many databases there are
+abbrev pub index_creation : List ℕ → Index → Option DbRecord → Bool → ℕ → Outcome
+index_creation db index primary taken count =
+    outcome_unless (or_refusal (access_refusal (is_primary_record primary)) (creation_refusal taken count)) (changes_by (MakeIndex db index))
+
+-- ---- what logs a change
 
 -- a record with another number
 abbrev pub renumbered : ℕ → DbRecord → DbRecord
@@ -107,11 +162,6 @@ moved db to (Some r) = Delete db ∷ Put to r ∷ []
 abbrev pub renewed : List ℕ → ℕ → Option DbRecord → List CatalogChange
 renewed db number None = []
 renewed db number (Some r) = Put db (renumbered number r) ∷ []
-
--- an index as the catalog has it, by the number of its primary
-abbrev pub index_in_catalog : ℕ → Extract → DbKind
-index_in_catalog primary (ByteSlice offset len) = SliceIndex primary offset len
-index_in_catalog primary (Field number separator) = FieldIndex primary number separator
 
 -- an index that is made names its primary by the number of that one's record
 abbrev pub indexed : List ℕ → ℕ → Extract → Option DbRecord → List CatalogChange
@@ -129,17 +179,17 @@ logged_as record_of number (Remove db) = Delete db ∷ []
 logged_as record_of number (Rename db to) = moved db to (record_of db)
 logged_as record_of number (Empty db) = renewed db number (record_of db)
 
--- the same for a change that a call makes on a store: an index's record has a number for its primary, which is there; a renamed database's
+-- the same for a change that a call makes on a store: an index's record has the number of its primary, which is there; a renamed database's
 -- record goes, and comes under the new name with the number that it had; an emptied one's comes with the number; both have the database's kind
-abbrev pub IsCatalogLog : Store → ℕ → Change → List CatalogChange → Type 0
-IsCatalogLog store number (Set db at value) logged = logged ≡ []
-IsCatalogLog store number (Unset db at) logged = logged ≡ []
-IsCatalogLog store number (Make db kind) logged = logged ≡ Put db (record { number = number; kind = kind_in_catalog kind }) ∷ []
-IsCatalogLog store number (MakeIndex db index) logged =
-    (d : Database) × (primary : ℕ) × (database_of index.primary store ≡ Some d)
-    × (logged ≡ Put db (record { number = number; kind = index_in_catalog primary index.extract }) ∷ [])
-IsCatalogLog store number (Remove db) logged = logged ≡ Delete db ∷ []
-IsCatalogLog store number (Rename db to) logged =
-    (d : Database) × (old : ℕ) × (database_of db store ≡ Some d) × (logged ≡ Delete db ∷ Put to (record { number = old; kind = kind_in_catalog d.kind }) ∷ [])
-IsCatalogLog store number (Empty db) logged =
-    (d : Database) × (database_of db store ≡ Some d) × (logged ≡ Put db (record { number = number; kind = kind_in_catalog d.kind }) ∷ [])
+abbrev pub IsCatalogLog : Store → (List ℕ → Option DbRecord) → ℕ → Change → List CatalogChange → Type 0
+IsCatalogLog store record_of number (Set db at value) logged = logged ≡ []
+IsCatalogLog store record_of number (Unset db at) logged = logged ≡ []
+IsCatalogLog store record_of number (Make db kind) logged = logged ≡ Put db (record { number = number; kind = kind_in_catalog kind }) ∷ []
+IsCatalogLog store record_of number (MakeIndex db index) logged =
+    (d : Database) × (database_of index.primary store ≡ Some d)
+    × (logged ≡ Put db (record { number = number; kind = database_in_catalog record_of Dup (Some index) }) ∷ [])
+IsCatalogLog store record_of number (Remove db) logged = logged ≡ Delete db ∷ []
+IsCatalogLog store record_of number (Rename db to) logged =
+    (d : Database) × (old : ℕ) × (database_of db store ≡ Some d) × (logged ≡ Delete db ∷ Put to (record { number = old; kind = database_in_catalog record_of d.kind d.index }) ∷ [])
+IsCatalogLog store record_of number (Empty db) logged =
+    (d : Database) × (database_of db store ≡ Some d) × (logged ≡ Put db (record { number = number; kind = database_in_catalog record_of d.kind d.index }) ∷ [])

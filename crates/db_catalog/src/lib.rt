@@ -17,5 +17,5 @@ pub use catalog_change::CatalogChange;
 pub use catalog_view::CatalogView;
 pub use db_kind::DbKind;
 pub use db_record::DbRecord;
-pub use found_db::{FoundDb, find_db};
-pub use planning::{CatalogPlan, catalog_changes, plan};
+pub use found_db::{FoundDb, find_db, index_of, kind_of};
+pub use planning::{CatalogPlan, catalog_changes, plan, plan_index};

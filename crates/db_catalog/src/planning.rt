@@ -1,15 +1,18 @@
 // What a call on the catalog comes to.
-ghost use Rattle.std.specs.Prelude.{◌≡◌, ◌∷◌, [], List as Items, true, IfOk};
+ghost use Rattle.std.specs.Prelude.{◌≡◌, ◌∷◌, [], List as Items, true, IfOk, is_some, length};
+ghost use Rattle.std.specs.List.{list_any};
+ghost use Rattle.store_model.specs.Store.{database_of};
+ghost use Rattle.store_model.specs.Indexes.{is_index_of};
 ghost use Rattle.store_model.specs.Evaluation.{answers, changes_by};
 ghost use Rattle.store_model.specs.declared.call.Call.{Call as Planned};
 ghost use Rattle.store_model.specs.declared.change.Change.{Change as Changes};
-ghost use Rattle.store_model.specs.declared.call.Call.TheVariants.{Create, List as Lists, Remove as Removes, Rename as Renames, Truncate};
-ghost use Rattle.db_catalog.specs.Planning.{is_catalog_call, outcome_of, logged_as, kind_in_catalog, index_in_catalog, indexed, moved, renewed, IsCatalogLog};
+ghost use Rattle.store_model.specs.declared.call.Call.TheVariants.{Create, CreateIndex, List as Lists, Remove as Removes, Rename as Renames, Truncate};
+ghost use Rattle.db_catalog.specs.Planning.{is_catalog_call, outcome_of, catalog_part, truncation, index_creation, is_primary_record, logged_as, kind_in_catalog, index_in_catalog, indexed, moved, renewed, IsCatalogLog};
 
-use crate::{CatalogChange, CatalogView, DbKind, DbRecord};
+use crate::{CatalogChange, CatalogView, DbKind, DbRecord, index_of};
 use je_order::{List, Word, copy_of};
 use std::alloc::{AllocError, Global};
-use store_model::{Answer, Call, Change, Extract, Kind, MOST_DATABASES};
+use store_model::{Answer, Call, Change, Extract, Index, Kind, MOST_DATABASES};
 
 /// What a call comes to: its answer, and the changes that it makes, in order.
 #[derive(Drop)]
@@ -79,6 +82,9 @@ fn plan_remove<V: CatalogView>(
     if !view.has(alloc, db)? {
         return Ok(answer_only(alloc, Answer::NoDatabase));
     }
+    if view.is_indexed(alloc, db)? {
+        return Ok(answer_only(alloc, Answer::HasIndex));
+    }
     let change = Change::Remove { db: copy_of(db)? };
     one_change(alloc, change)
 }
@@ -111,15 +117,83 @@ fn plan_truncate<V: CatalogView>(
 ) -> Result<CatalogPlan, AllocError>
     ensures { IfOk result (λ plan. record { answer = plan.answer; changes = plan.changes } ≡ outcome_of (Truncate db.now) (V.seen view.now)) }
 {
-    if !view.has(alloc, db)? {
+    truncate_by(alloc, view, db)
+}
+
+// What a truncation comes to, by the catalog's record.
+fn truncate_by<V: CatalogView>(
+    alloc: Global,
+    view: &V,
+    db: &Word,
+) -> Result<CatalogPlan, AllocError>
+    ensures { IfOk result (λ plan. record { answer = plan.answer; changes = plan.changes } ≡ truncation db.now (V.record_of view.now db.now) (list_any (is_index_of db.now) (V.seen view.now).databases)) }
+{
+    let Some(row) = view.row(alloc, db)? else {
         return Ok(answer_only(alloc, Answer::NoDatabase));
+    };
+    if view.is_indexed(alloc, db)? {
+        return Ok(answer_only(alloc, Answer::HasIndex));
+    }
+    if index_of(&row.kind).is_some() {
+        return Ok(answer_only(alloc, Answer::ReadOnlyIndex));
     }
     let change = Change::Empty { db: copy_of(db)? };
     one_change(alloc, change)
 }
 
-/// What a call on the catalog comes to: the model's answer and changes on the store that the view
-/// sees, refusals first. Room in the log and numbers are not asked here. The only error is out of
+// Whether an index may be of the database of a record.
+fn is_primary(row: Option<DbRecord>) -> bool
+    ensures { result ≡ is_primary_record row }
+{
+    match row {
+        Some(row) => matches!(row.kind, DbKind::Plain),
+        None => false,
+    }
+}
+
+// What the making of an index comes to, by the catalog's records.
+fn create_index_by<V: CatalogView>(
+    alloc: Global,
+    view: &V,
+    db: &Word,
+    index: &Index,
+) -> Result<CatalogPlan, AllocError>
+    ensures { IfOk result (λ plan. record { answer = plan.answer; changes = plan.changes } ≡ index_creation db.now index.now (V.record_of view.now index.now.primary) (is_some (database_of db.now (V.seen view.now))) (length (V.seen view.now).databases)) }
+{
+    if !is_primary(view.row(alloc, &index.primary)?) {
+        return Ok(answer_only(alloc, Answer::NoDatabase));
+    }
+    if view.has(alloc, db)? {
+        return Ok(answer_only(alloc, Answer::NameTaken));
+    }
+    if MOST_DATABASES as usize <= view.count() {
+        let count = MOST_DATABASES;
+        return Ok(answer_only(alloc, Answer::TooMany { count }));
+    }
+    let change = Change::MakeIndex {
+        db: copy_of(db)?,
+        index: copy_of(index)?,
+    };
+    one_change(alloc, change)
+}
+
+/// What the making of an index comes to in the catalog: the model's answer on the store that the view
+/// sees, refusals first, and the first of the model's changes, by which the index is made. Those that
+/// fill it come behind that: a pair for each record of its primary that has a key. The only error is
+/// out of memory.
+pub fn plan_index<V: CatalogView>(
+    alloc: Global,
+    view: &V,
+    db: &Word,
+    index: &Index,
+) -> Result<CatalogPlan, AllocError>
+    ensures { IfOk result (λ plan. record { answer = plan.answer; changes = plan.changes } ≡ catalog_part (outcome_of (CreateIndex db.now index.now) (V.seen view.now))) }
+{
+    create_index_by(alloc, view, db, index)
+}
+
+/// What a call on the catalog alone comes to: the model's answer and changes on the store that the view
+/// sees, refusals first. An index is made by `plan_index`. Room in the log and numbers are not asked here. The only error is out of
 /// memory.
 pub fn plan<V: CatalogView>(alloc: Global, view: &V, call: &Call) -> Result<CatalogPlan, AllocError>
     requires { is_catalog_call call.now ≡ true }
@@ -235,7 +309,7 @@ pub fn catalog_changes<V: CatalogView>(
     change: &Change,
 ) -> Result<List<CatalogChange>, AllocError>
     ensures exact { IfOk result (λ logged. logged ≡ logged_as (V.record_of view.now) number change.now) }
-    ensures planned { IfOk result (λ logged. (call : Planned) (rest : Items Changes) → (outcome_of call (V.seen view.now)).changes ≡ change.now ∷ rest → IsCatalogLog (V.seen view.now) number change.now logged) }
+    ensures planned { IfOk result (λ logged. (call : Planned) (rest : Items Changes) → (outcome_of call (V.seen view.now)).changes ≡ change.now ∷ rest → IsCatalogLog (V.seen view.now) (V.record_of view.now) number change.now logged) }
 {
     changes_of(alloc, view, number, change)
 }

@@ -68,3 +68,5 @@ pub mod WaitingNodes
 pub mod LoadingLaws
 -- Nodes that are noted.
 pub mod NotingLaws
+-- Nodes that are not noted, and have no mark before an LSN.
+pub mod SinceLaws

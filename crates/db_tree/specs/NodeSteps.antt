@@ -65,7 +65,7 @@ pub record AreSplitWaiting (first : ℕ) (splits : List NodeSplit) (old new : Li
 abbrev pub slot_splits : ℕ → Name → Shape → List NodeSplit
 slot_splits fanout x shape = if has_slot x shape then [] else splits_of fanout x shape
 
--- a tree of one node with a number, which has no image, and no mark
+-- a tree of one node with a number, which has no image, no mark and no note
 pub record IsOneNode (rows : List NodeRow) (number : ℕ) : Type 0 where
   pub height : length rows ≡ 1
   pub root : Node
@@ -73,6 +73,7 @@ pub record IsOneNode (rows : List NodeRow) (number : ℕ) : Type 0 where
   pub number_is : root.number ≡ number
   pub last : root.last ≡ None
   pub from : root.from ≡ None
+  pub unnoted : root.noted ≡ false
 
 -- where the change of a cell was logged, if it has one
 abbrev pub written_lsn : Option Cell → Option ℕ

@@ -1,5 +1,5 @@
 -- Which nodes of a tree are noted.
-use Rattle.std.specs.Prelude.{◌≡◌, ℕ, Bool, false, List, Option, None, Some, option_map}
+use Rattle.std.specs.Prelude.{◌≡◌, ◌≤◌, ℕ, Bool, false, List, Option, None, Some, IfSome, option_map}
 use Rattle.je_order.specs.declared.name.Name.{Name}
 use Rattle.record_map.specs.Cells.{value_at}
 use Rattle.tree_nodes.specs.declared.node.Node.{Node}
@@ -22,3 +22,10 @@ note_of n = (n.number, n.noted)
 -- the same nodes are noted
 abbrev pub AreNotesKept : List NodeRow → List NodeRow → Type 0
 AreNotesKept old new = (level : ℕ) (low : Name) → option_map note_of (value_at low (row_of new level)) ≡ option_map note_of (value_at low (row_of old level))
+
+-- no node is noted, and none has a mark before an LSN
+abbrev pub IsUnnotedSince : ℕ → Node → Type 0
+IsUnnotedSince from n = (n.noted ≡ false) × IfSome n.from (λ lsn. from ≤ lsn)
+
+abbrev pub AreUnnotedSince : ℕ → List NodeRow → Type 0
+AreUnnotedSince from rows = (level : ℕ) (low : Name) (n : Node) → value_at low (row_of rows level) ≡ Some n → IsUnnotedSince from n

@@ -9,7 +9,7 @@ ghost use Rattle.tree_nodes.specs.Levels.{row_of};
 ghost use Rattle.tree_nodes.specs.Lows.{lows_of, with_low, with_root};
 ghost use Rattle.db_tree.specs.Images.{Placed};
 ghost use Rattle.db_tree.specs.NodeImages.{number_of};
-ghost use Rattle.db_tree.specs.Notes.{is_noted_at};
+ghost use Rattle.db_tree.specs.Notes.{AreUnnotedSince, is_noted_at};
 ghost use Rattle.db_tree.specs.Numbers.{AreNumbered, AreNewNumbered};
 ghost use Rattle.db_tree.specs.Splitting.{IsSplitAt, AreSplit, IsRaisedFrom, AreGrown};
 ghost use Rattle.db_tree.specs.Splits.{lows_split, lows_behind, is_raised};
@@ -198,6 +198,7 @@ impl DbTree {
         ensures cells { self.new.cells ≡ self.old.cells }
         ensures raised { OnOk result (IsRaisedFrom true self.old.levels self.new.levels) }
         ensures number { OnOk result (number_of self.new.levels (length self.old.levels) least ≡ number) }
+        ensures since { OnOk result (AreUnnotedSince mark self.old.levels → AreUnnotedSince mark self.new.levels) }
         ensures below { OnOk result ((k : ℕ) → k < length self.old.levels → row_of self.new.levels k ≡ row_of self.old.levels k) }
         ensures err { OnErr result (self.new.levels ≡ self.old.levels) }
         ensures tree { OnOk result ((es : Placed) (base : ℕ) (newest : Name → ℕ) → ((x : Name) → (mark ≤ newest x) ⊎ (mark < base)) → IsTree es base newest self.old.levels self.old.cells → IsTree es base newest self.new.levels self.new.cells) }
@@ -222,6 +223,7 @@ impl DbTree {
         ensures cells { self.new.cells ≡ self.old.cells }
         ensures numbers { OnOk result (AreNewNumbered first splits.now (is_raised splits.now (lows_of self.old.levels)) self.new.levels) }
         ensures grown { OnOk result (AreGrown splits.now (is_raised splits.now (lows_of self.old.levels)) self.old.levels self.new.levels) }
+        ensures since { OnOk result (AreUnnotedSince mark self.old.levels → AreUnnotedSince mark self.new.levels) }
         ensures err { OnErr result (self.new.levels ≡ self.old.levels) }
         ensures tree { OnOk result ((es : Placed) (base : ℕ) (newest : Name → ℕ) → ((x : Name) → (mark ≤ newest x) ⊎ (mark < base)) → IsTree es base newest self.old.levels self.old.cells → IsTree es base newest self.new.levels self.new.cells) }
     {

@@ -7,6 +7,7 @@ ghost use Rattle.tree_nodes.specs.Nodes.{earlier};
 ghost use Rattle.db_tree.specs.Seen.{occupied};
 ghost use Rattle.db_tree.specs.Images.{Placed};
 ghost use Rattle.db_tree.specs.Trees.{IsTree, HasCell, cell_or_fresh};
+ghost use Rattle.db_tree.specs.Notes.{AreUnnotedSince};
 ghost use Rattle.db_tree.specs.NodeSteps.{AreWaiting, AreSplitWaiting, slot_splits};
 ghost use Rattle.db_tree.specs.Waiting.{waiting_of, count_lows, halves_of};
 ghost use Rattle.tree_nodes.specs.Lows.{lows_of};
@@ -28,6 +29,7 @@ fn waiting(node: &Node, mark: Lsn) -> Node
     ensures from { result.from ≡ Some (earlier node.now.from mark) }
     ensures number { result.number ≡ node.now.number }
     ensures forced { result.forced ≡ true }
+    ensures noted { result.noted ≡ node.now.noted }
 {
     let mut waits = node.marked(mark);
     waits.forced = true;
@@ -39,6 +41,7 @@ impl DbTree {
     fn wait(&mut self, level: usize, low: &SortKey, mark: Lsn)
         ensures few { count_lows (waiting_of self.new.levels) ≤ count_lows (waiting_of self.old.levels) + 1 }
         ensures waiting { AreWaiting (record { level = level; low = low.now } ∷ []) self.old.levels self.new.levels }
+        ensures since { AreUnnotedSince mark self.old.levels → AreUnnotedSince mark self.new.levels }
         ensures cells { self.new.cells ≡ self.old.cells }
         ensures tree { (es : Placed) (base : ℕ) (newest : Name → ℕ) → IsTree es base newest self.old.levels self.old.cells → IsTree es base newest self.new.levels self.new.cells }
     {
@@ -57,6 +60,7 @@ impl DbTree {
     fn wait_each(&mut self, splits: &[NodeSplit], mark: Lsn)
         ensures few { count_lows (waiting_of self.new.levels) ≤ count_lows (waiting_of self.old.levels) + 2 * length splits.now }
         ensures waiting { AreWaiting (halves_of 0 splits.now) self.old.levels self.new.levels }
+        ensures since { AreUnnotedSince mark self.old.levels → AreUnnotedSince mark self.new.levels }
         ensures cells { self.new.cells ≡ self.old.cells }
         ensures tree { (es : Placed) (base : ℕ) (newest : Name → ℕ) → IsTree es base newest self.old.levels self.old.cells → IsTree es base newest self.new.levels self.new.cells }
     {
@@ -77,6 +81,7 @@ impl DbTree {
     ) -> Result<(), AllocError>
         ensures few { OnOk result (count_in self.new ≤ count_in self.old + 2 * made_for splits.now (lows_of self.old.levels)) }
         ensures split { OnOk result (AreSplitWaiting first splits.now self.old.levels self.new.levels) }
+        ensures since { OnOk result (AreUnnotedSince mark self.old.levels → AreUnnotedSince mark self.new.levels) }
         ensures cell { OnOk result (HasCell self.old.cells self.new.cells name.now (cell_or_fresh (value_at name.now self.old.cells))) }
         ensures there { OnOk result (IsSome (value_at name.now self.new.cells)) }
         ensures same { occupied self.new.cells ≡ occupied self.old.cells }
@@ -117,6 +122,7 @@ impl DbTree {
     ) -> Result<usize, TreeErr>
         ensures waits { IfOk result (λ made. count_in self.new ≤ count_in self.old + 2 * made) }
         ensures split { OnOk result (AreSplitWaiting first (slot_splits fanout name.now (shape_in self.old)) self.old.levels self.new.levels) }
+        ensures since { OnOk result (AreUnnotedSince mark self.old.levels → AreUnnotedSince mark self.new.levels) }
         ensures few { IfOk result (λ made. made ≤ 64) }
         ensures cell { OnOk result (HasCell self.old.cells self.new.cells name.now (cell_or_fresh (value_at name.now self.old.cells))) }
         ensures was_rising { IsRising self.old.cells }

@@ -1,6 +1,6 @@
 //! A program that embeds the store. It opens the environment in the folder that its argument names, and makes a
-//! database there. It commits one transaction, with a sync, and aborts another one, and prints what each call
-//! answers. It stands on `environment`, `dir_disk` and `store_model`.
+//! database there and an index of it. It commits one transaction, with a sync, and aborts another one, and prints what
+//! each call answers. It stands on `environment`, `dir_disk` and `store_model`.
 #![tactic(auto)]
 
 ghost use Rattle.embed_example.specs.Usable.{IsUsable};
@@ -15,11 +15,15 @@ use session::Session;
 use std::alloc::{AllocError, Global};
 use std::rt::Runtime;
 use std::{env, io};
-use store_model::{Answer, Call, Durability, Isolation, Kind, PutMode};
+use store_model::{Answer, Call, Durability, Extract, Index, Isolation, Kind, PutMode};
 use trouble::Trouble;
 
 fn stock(alloc: Global) -> Result<Word, AllocError> {
     Word::from_slice(alloc, b"stock")
+}
+
+fn colours(alloc: Global) -> Result<Word, AllocError> {
+    Word::from_slice(alloc, b"colours")
 }
 
 fn octets(alloc: Global, text: &str) -> Result<Octets, AllocError> {
@@ -35,11 +39,26 @@ fn put(alloc: Global, key: &str, value: &str) -> Result<Call, AllocError> {
     })
 }
 
-fn get(alloc: Global, key: &str) -> Result<Call, AllocError> {
+fn get(alloc: Global, db: Word, key: &str) -> Result<Call, AllocError> {
     Ok(Call::Get {
-        db: stock(alloc)?,
+        db,
         key: octets(alloc, key)?,
         rmw: false,
+    })
+}
+
+// Makes the index: it finds what is in stock by the first of the data's words, which commas part.
+fn create_index(alloc: Global) -> Result<Call, AllocError> {
+    let index = Index {
+        primary: stock(alloc)?,
+        extract: Extract::Field {
+            number: 0,
+            separator: b',',
+        },
+    };
+    Ok(Call::CreateIndex {
+        db: colours(alloc)?,
+        index,
     })
 }
 
@@ -52,14 +71,22 @@ fn begin() -> Call {
     }
 }
 
+// Prints a record.
+fn print_record<R: Runtime + AllocGlobal>(rt: &R, key: &Octets, value: &Octets) -> io::Result<()> {
+    let key = String::from_utf8_lossy(rt.alloc(), key.as_slice())?;
+    let value = String::from_utf8_lossy(rt.alloc(), value.as_slice())?;
+    println!(rt; "{key} {value}")
+}
+
 // Prints an answer.
 fn print<R: Runtime + AllocGlobal>(rt: &R, answer: &Answer) -> io::Result<()> {
     match answer {
-        Answer::Rec { key, value } => {
-            let key = String::from_utf8_lossy(rt.alloc(), key.as_slice())?;
-            let value = String::from_utf8_lossy(rt.alloc(), value.as_slice())?;
-            println!(rt; "{key} {value}")
-        }
+        Answer::Rec { key, value }
+        | Answer::IndexRec {
+            key: _,
+            primary_key: key,
+            value,
+        } => print_record(rt, key, value),
         Answer::Txn { txn } => println!(rt; "transaction {}", txn.0),
         Answer::Durable { commit } => println!(rt; "commit {commit} is durable"),
         Answer::Done => println!(rt; "done"),
@@ -83,7 +110,7 @@ fn give<R: Runtime + AllocGlobal, D: Disk + Drop>(
     Ok(())
 }
 
-// Two transactions: the first is committed, and the second one aborted.
+// Two transactions: the first is committed, and the second one aborted. Behind them the index has the first one's record.
 fn give_calls<R: Runtime + AllocGlobal, D: Disk + Drop>(
     rt: &R,
     session: &mut Session<D>,
@@ -96,15 +123,16 @@ fn give_calls<R: Runtime + AllocGlobal, D: Disk + Drop>(
         kind: Kind::Plain,
     };
     give(rt, session, &create)?;
+    give(rt, session, &create_index(alloc)?)?;
     give(rt, session, &begin())?;
-    give(rt, session, &put(alloc, "apple", "12")?)?;
-    give(rt, session, &get(alloc, "apple")?)?;
+    give(rt, session, &put(alloc, "apple", "red,12")?)?;
+    give(rt, session, &get(alloc, stock(alloc)?, "apple")?)?;
     give(rt, session, &Call::Commit)?;
     give(rt, session, &begin())?;
-    give(rt, session, &put(alloc, "apple", "11")?)?;
-    give(rt, session, &get(alloc, "apple")?)?;
+    give(rt, session, &put(alloc, "apple", "green,11")?)?;
+    give(rt, session, &get(alloc, colours(alloc)?, "red")?)?;
     give(rt, session, &Call::Abort)?;
-    give(rt, session, &get(alloc, "apple")?)
+    give(rt, session, &get(alloc, colours(alloc)?, "red")?)
 }
 
 // Opens the environment, gives the calls, and closes it.

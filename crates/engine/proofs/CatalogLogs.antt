@@ -86,18 +86,6 @@ in_catalog last_db (Remove db) rows is = catalog_only (logged_as (record_named r
 in_catalog last_db (Rename db to) rows is = catalog_only (logged_as (record_named rows) (last_db + 1) (Rename db to))
 in_catalog last_db (Empty db) rows is = catalog_only (logged_as (record_named rows) (last_db + 1) (Empty db))
 
--- own changes are of no catalog's name
-none_in_catalog : (rows : Rows) (x : Name) (own : List OwnChange) → AllByRecursion (MayBeCommitted rows) own → has_own 0 x own ≡ false
-none_in_catalog rows x [] may = refl
-none_in_catalog rows x (c ∷ own) may =
-    ap₂ (λ (a b : Bool). a || b) (ap (λ (b : Bool). b && is_eq (name_cmp (changed_name c.1) x)) (ne_eqb c.0 0 (own_above rows c may.0))) (none_in_catalog rows x own may.1)
-
-pub catalog_free : (rows : Rows) (is_active : ℕ → Bool) (own : ℕ → List OwnChange) (t : ℕ) (planned : List TreeChange) → ((u : ℕ) → AllByRecursion (MayBeCommitted rows) (own u)) →
-    AllByRecursion (λ (c : TreeChange). c.db ≡ 0) planned → AreFreeNames is_active own t planned
-catalog_free rows is_active own t planned may of_catalog =
-    all_weaker (λ (c : TreeChange). c.db ≡ 0) (λ c. (u : ℕ) → is_active u ≡ true → u ≢ t → has_own c.db c.name (own u) ≡ false)
-    (λ c is u active other. ap (λ (d : ℕ). has_own d c.name (own u)) is ∙ none_in_catalog rows c.name (own u) (may u)) planned of_catalog
-
 -- what a change of the catalog logs is of the catalog's names
 pub planned_in_catalog : (rows : Rows) (last_db : ℕ) (change : Change) (planned : List TreeChange) (dropped : Option ℕ) → IsOfCatalog change → ArePlanned rows last_db change [] planned dropped →
     AllByRecursion (λ (c : TreeChange). c.db ≡ 0) planned
@@ -130,32 +118,56 @@ pub elsewhere_make : (rows : Rows) (db : List ℕ) (kind : Kind) (own : List Own
 elsewhere_make rows db kind [] = tt
 elsewhere_make rows db kind (c ∷ own) = (tt, elsewhere_make rows db kind own)
 
+-- ---- own changes that are of none of the databases that changes are of
+
+abbrev pub AreApart : (ℕ → List OwnChange) → List TreeChange → Type 0
+AreApart own planned = AllByRecursion (λ (p : TreeChange). (u : ℕ) → AllByRecursion (λ (c : OwnChange). c.0 ≢ p.db) (own u)) planned
+
+pub catalog_apart : (rows : Rows) (own : ℕ → List OwnChange) (planned : List TreeChange) → ((u : ℕ) → AllByRecursion (MayBeCommitted rows) (own u)) → AllByRecursion (λ (p : TreeChange). p.db ≡ 0) planned → AreApart own planned
+catalog_apart rows own planned may of_catalog =
+    all_weaker (λ (p : TreeChange). p.db ≡ 0) (λ p. (u : ℕ) → AllByRecursion (λ (c : OwnChange). c.0 ≢ p.db) (own u))
+    (λ p is u. all_weaker (MayBeCommitted rows) (λ c. c.0 ≢ p.db) (λ c can e. own_above rows c can (e ∙ is)) (own u) (may u)) planned of_catalog
+
+none_own : (d : ℕ) (x : Name) (own : List OwnChange) → AllByRecursion (λ (c : OwnChange). c.0 ≢ d) own → has_own d x own ≡ false
+none_own d x [] apart = refl
+none_own d x (c ∷ own) apart = ap₂ (λ (a b : Bool). a || b) (ap (λ (b : Bool). b && is_eq (name_cmp (changed_name c.1) x)) (ne_eqb c.0 d apart.0)) (none_own d x own apart.1)
+
+pub apart_free : (is_active : ℕ → Bool) (own : ℕ → List OwnChange) (t : ℕ) (planned : List TreeChange) → AreApart own planned → AreFreeNames is_active own t planned
+apart_free is_active own t planned apart =
+    all_weaker (λ (p : TreeChange). (u : ℕ) → AllByRecursion (λ (c : OwnChange). c.0 ≢ p.db) (own u)) (λ p. (u : ℕ) → is_active u ≡ true → u ≢ t → has_own p.db p.name (own u) ≡ false)
+    (λ p is u active other. none_own p.db p.name (own u) (is u)) planned apart
+
 module _ {D : Type 0} (observable : Bool) (history : D → History) (sync_out read_out : D → Option ℕ) (read_of : D → ℕ) where
-  -- a change of the catalog was logged with its Commit; nobody has own changes in the database that it is of
-  unfoldable pub catalog_leaves_log : (old new : LogBuffer D) (log : Log) (rows : Rows) (is_active still : ℕ → Bool) (st after : Standing) (t : TxnId) (change : Change) (planned : List TreeChange) (dropped : Option ℕ) →
-      IsLogAt observable history old log rows is_active st → IsOfCatalog change → ArePlanned rows st.last_db change [] planned dropped → HasOwn st.last_txn is_active st.own t.0 [] →
+  -- changes the first of which is of the catalog, which has no other one, were logged with their Commit; nobody has own changes in the databases that
+  -- they are of
+  unfoldable pub changes_leave_log : (old new : LogBuffer D) (log : Log) (rows : Rows) (is_active still : ℕ → Bool) (st after : Standing) (t : TxnId) (change : Change) (more : List Change) (planned : List TreeChange) (dropped : Option ℕ) →
+      IsLogAt observable history old log rows is_active st → ArePlanned rows st.last_db change more planned dropped → HasOwn st.last_txn is_active st.own t.0 [] →
+      rows_after planned dropped rows 0 ≡ rows_changed (row_changes 0 st.last_db change rows) rows 0 → AreApart st.own planned →
       ((u : ℕ) → AllByRecursion (λ (c : OwnChange). IsElsewhere rows change c.0) (after.own u)) → ((u : ℕ) → AllByRecursion (MayBeCommitted rows) (after.own u)) →
       (a : HasAdded observable history sync_out read_out read_of old new (LogsTransaction t planned)) →
-      HasCommitted st after (change ∷ []) → st.last_txn ≤ after.last_txn → AreStillActive st.last_txn is_active (with_at t.0 [] st.own) still after.own →
+      HasCommitted st after (change ∷ more) → st.last_txn ≤ after.last_txn → AreStillActive st.last_txn is_active (with_at t.0 [] st.own) still after.own →
       IsLogAt observable history new (longer old a.entries log) (rows_after planned dropped rows) still after
-  catalog_leaves_log old new log rows is_active still st after t change planned dropped at of_catalog are own elsewhere may_own a has le active =
-      let leaves : LeavesRows rows (rows_after planned dropped rows) st.last_db (change ∷ []) planned dropped = planned_rows rows st.last_db change [] planned dropped are in
-      let logs : map (row_by 0) planned ≡ row_changes 0 st.last_db change rows = are.logs ∙ append-nil (row_changes 0 st.last_db change rows) in
-      let catalog : rows_after planned dropped rows 0 ≡ rows_changed (row_changes 0 st.last_db change rows) rows 0 =
-      cond-false (is_gone 0 dropped) [] (rows_changed (map (row_by 0) planned) rows 0) leaves.zero_stays ∙ ap (λ (cs : List RowChange). rows_changed cs rows 0) logs in
-      let in_db : AllByRecursion (λ (c : TreeChange). c.db ≡ 0) planned = planned_in_catalog rows st.last_db change planned dropped of_catalog are in
+  changes_leave_log old new log rows is_active still st after t change more planned dropped at are own catalog apart elsewhere may_own a has le active =
+      let leaves : LeavesRows rows (rows_after planned dropped rows) st.last_db (change ∷ more) planned dropped = planned_rows rows st.last_db change more planned dropped are in
       let may : MayCommit st.last_txn is_active st.own rows (rows_after planned dropped rows) st.last_db after.last_db (λ d. is_gone d dropped) t [] planned = record {
         has = own;
-        free = catalog_free rows is_active st.own t.0 planned at.may in_db;
+        free = apart_free is_active st.own t.0 planned apart;
         leaves = subst (λ (n : ℕ). LeavesRecords rows (rows_after planned dropped rows) st.last_db n (λ d. is_gone d dropped) planned) (sym has.last_db)
-            (leaves_records rows (rows_after planned dropped rows) st.last_db (change ∷ []) planned dropped leaves);
+            (leaves_records rows (rows_after planned dropped rows) st.last_db (change ∷ more) planned dropped leaves);
       } in
-      transaction_leaves_log observable history sync_out read_out read_of old new log rows (rows_after planned dropped rows) is_active still st after (λ d. is_gone d dropped) t [] planned (change ∷ []) at may
+      transaction_leaves_log observable history sync_out read_out read_of old new log rows (rows_after planned dropped rows) is_active still st after (λ d. is_gone d dropped) t [] planned (change ∷ more) at may
       leaves.store
-      (λ name. ap (λ (f : List ℕ → ℕ). f name) (leaves.numbers ∙ numbers_alike (change ∷ []) st.last_db (number_named rows) st.numbers (fun_ext at.makes.named)))
-      (λ u. stay (after.own u) catalog (elsewhere u) (may_own u)) a has le active
+      (λ name. ap (λ (f : List ℕ → ℕ). f name) (leaves.numbers ∙ numbers_alike (change ∷ more) st.last_db (number_named rows) st.numbers (fun_ext at.makes.named)))
+      (λ u. stay (after.own u) (elsewhere u) (may_own u)) a has le active
     where
-      stay : (l : List OwnChange) → rows_after planned dropped rows 0 ≡ rows_changed (row_changes 0 st.last_db change rows) rows 0 → AllByRecursion (λ (c : OwnChange). IsElsewhere rows change c.0) l →
-          AllByRecursion (MayBeCommitted rows) l → AllByRecursion (MayBeCommitted (rows_after planned dropped rows)) l
-      stay [] catalog other may = tt
-      stay (c ∷ l) catalog other may = (may_stay_elsewhere rows (rows_after planned dropped rows) st.last_db change c are.may.0 catalog other.0 may.0, stay l catalog other.1 may.1)
+      stay : (l : List OwnChange) → AllByRecursion (λ (c : OwnChange). IsElsewhere rows change c.0) l → AllByRecursion (MayBeCommitted rows) l → AllByRecursion (MayBeCommitted (rows_after planned dropped rows)) l
+      stay [] other may = tt
+      stay (c ∷ l) other may = (may_stay_elsewhere rows (rows_after planned dropped rows) st.last_db change c are.may.0 catalog other.0 may.0, stay l other.1 may.1)
+
+-- what a change of the catalog leaves of it
+pub catalog_after : (rows : Rows) (last_db : ℕ) (change : Change) (planned : List TreeChange) (dropped : Option ℕ) → ArePlanned rows last_db change [] planned dropped →
+    rows_after planned dropped rows 0 ≡ rows_changed (row_changes 0 last_db change rows) rows 0
+catalog_after rows last_db change planned dropped are =
+    let leaves : LeavesRows rows (rows_after planned dropped rows) last_db (change ∷ []) planned dropped = planned_rows rows last_db change [] planned dropped are in
+    let logs : map (row_by 0) planned ≡ row_changes 0 last_db change rows = are.logs ∙ append-nil (row_changes 0 last_db change rows) in
+    cond-false (is_gone 0 dropped) [] (rows_changed (map (row_by 0) planned) rows 0) leaves.zero_stays ∙ ap (λ (cs : List RowChange). rows_changed cs rows 0) logs

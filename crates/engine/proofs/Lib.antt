@@ -40,12 +40,12 @@ pub mod GuardedCalls
 pub mod TxnGives
 -- The log of an environment beside the model goes on by a change of the catalog.
 pub mod CatalogLogs
+-- An index is made and filled: of which databases its changes are.
+pub mod IndexLogs
 -- A guarded run goes on by an event, whatever transactions are under way.
 pub mod GuardedEvents
 -- A guarded run goes on by a write of all that was appended.
 pub mod WriteOutLaws
--- A guarded run of an engine as one value.
-pub mod GuardedEngine
 -- What logging planned changes needs, and what it comes to.
 pub mod LogLaws
 -- A call goes on as the model does.

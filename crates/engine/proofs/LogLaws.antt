@@ -27,7 +27,7 @@ use Rattle.log_buffer.specs.Buffer.{end_of, file_max_of, has_failed}
 use Rattle.log_entry.specs.Encoding.{size_of}
 use Rattle.txn_core.specs.declared.planned_changes.PlannedChanges.{PlannedChanges}
 use Rattle.txn_core.specs.Known.{committed, has_number}
-use Rattle.txn_core.specs.Planning.{IsPlannedLog}
+use Rattle.txn_core.specs.Planning.{IsPlannedLog, is_index}
 use Rattle.txn_core.specs.Transactions.{HasCommitted, is_gone}
 use Rattle.engine.specs.declared.kept.Kept.{Kept}
 use Rattle.tree_images.specs.Forest.{ForestFits}
@@ -100,14 +100,14 @@ none_left false false w is = is
 module _ {D : Type 0} where
   -- each change is of a database that has a tree
   pub made_there : (trees : LogTrees D) (kept : Kept) (p : Alone) (session : ℕ) (call : Call) (planned : PlannedChanges) →
-      ((d : ℕ) → has_tree_of trees d ≡ has_number (numbers_of (committed (cells_of trees))) d) → IsPlannedLog (known (contents trees kept)) p session call planned →
+      ((d : ℕ) → has_tree_of trees d ≡ has_number (numbers_of (committed (cells_of trees))) d) → (log : IsPlannedLog (known (contents trees kept)) p session call planned) → is_index log.change ≡ false →
       AllByRecursion (λ c. has_tree_of trees c.db ≡ true) planned.changes.items
-  made_there trees kept p session call planned made log =
-      all_weaker (λ (c : TreeChange). has_number (numbers_of (committed (cells_of trees))) c.db ≡ true) (λ c. has_tree_of trees c.db ≡ true) (λ c there. made c.db ∙ there) planned.changes.items log.there
+  made_there trees kept p session call planned made log other =
+      all_weaker (λ (c : TreeChange). has_number (numbers_of (committed (cells_of trees))) c.db ≡ true) (λ c. has_tree_of trees c.db ≡ true) (λ c there. made c.db ∙ there) planned.changes.items (log.there other)
 
-  pub trees_there : (trees : LogTrees D) (kept : Kept) (p : Alone) (session : ℕ) (call : Call) (planned : PlannedChanges) → AreTrees trees → IsPlannedLog (known (contents trees kept)) p session call planned →
+  pub trees_there : (trees : LogTrees D) (kept : Kept) (p : Alone) (session : ℕ) (call : Call) (planned : PlannedChanges) → AreTrees trees → (log : IsPlannedLog (known (contents trees kept)) p session call planned) → is_index log.change ≡ false →
       AllByRecursion (λ c. has_tree_of trees c.db ≡ true) planned.changes.items
-  trees_there trees kept p session call planned are log = made_there trees kept p session call planned are.made log
+  trees_there trees kept p session call planned are log other = made_there trees kept p session call planned are.made log other
 
   -- a database that changes make has none yet
   pub made_new : (trees : LogTrees D) (kept : Kept) (p : Alone) (session : ℕ) (call : Call) (planned : PlannedChanges) →
@@ -210,10 +210,10 @@ module _ {D : Type 0} where
 
   module _ (observable : Bool) (history : D → History) (sync_out read_out : D → Option ℕ) (read_of : D → ℕ) where
     -- the answer where numbers may be lacking
-    pub refused_logs : (old new : LogTrees D) (kept other : Kept) (planned : PlannedChanges) (owed : ℕ) (answer : Answer) → answer ≡ refusal_by (limit_in old planned.changes.items owed) →
+    pub refused_logs : (old new : LogTrees D) (kept other : Kept) (planned : PlannedChanges) (found : Option TreeErr) (answer : Answer) → answer ≡ refusal_by found →
         (nat_lt LAST_DATABASE planned.last_db || nat_lt last_number (kept.last_node + numbers_for (length planned.changes.items))) ≡ true → AreLeft old new → other ≡ kept →
-        LogsChanges observable history sync_out read_out read_of old.log new.log (contents old kept) (contents new (record other { last_txn = kept.last_txn + 1 })) planned (limit_in old planned.changes.items owed) (Ok answer)
-    refused_logs old new kept other planned owed answer is lacks left same = subst (Logs (limit_in old planned.changes.items owed)) (sym is) (by_found (limit_in old planned.changes.items owed))
+        LogsChanges observable history sync_out read_out read_of old.log new.log (contents old kept) (contents new (record other { last_txn = kept.last_txn + 1 })) planned found (Ok answer)
+    refused_logs old new kept other planned found answer is lacks left same = subst (Logs found) (sym is) (by_found found)
       where
         Logs : Option TreeErr → Answer → Type 0
         Logs found a =

@@ -1,5 +1,5 @@
 -- An environment that was opened: where the model starts, and a guarded run that begins.
-use Rattle.std.proofs.Common.{◌≡◌, ℕ, ◌+◌, ◌-◌, ◌<◌, ◌≤◌, ◌==◌, nat_lt, cond, Bool, true, false, List, [], ◌∷◌, Option, Some, None, IfSome, Result, Ok, Err, IfOk, IfErr, OnOk, is_err, length, refl, ap, sym, ◌∙◌, subst, arith}
+use Rattle.std.proofs.Common.{◌≡◌, ℕ, ◌+◌, ◌-◌, ◌<◌, ◌≤◌, ◌==◌, nat_lt, cond, Bool, true, false, List, [], ◌∷◌, Option, Some, None, IfSome, Result, Ok, Err, IfOk, IfErr, OnOk, is_err, length, refl, ap, sym, ◌∙◌, subst, arith, map}
 use Rattle.std.specs.Prelude.{◌||◌, ◌++◌, ◌/◌, ◌^◌, is_some}
 use Rattle.std.specs.List.{AllByRecursion, list_any}
 use Rattle.std.proofs.lemmas.Bool.{eqb-true}
@@ -25,7 +25,12 @@ use Rattle.txn_log.specs.Checkpoints.{BeginsUpTo, EndsFrom}
 use Rattle.log_replay.proofs.FilesLaws.{entries_of-append}
 use Rattle.log_replay.proofs.ListLaws.{all_to_map}
 use Rattle.log_replay.specs.Logging.{number_named}
-use Rattle.log_replay.specs.Rows.{Row, Rows, catalog_number, data_at, numbers_of, store_of}
+use Rattle.log_replay.specs.Rows.{Row, Rows, are_distinct, catalog_number, data_at, numbers_of, store_of}
+use Rattle.log_replay.proofs.StoreLaws.{environment_parts}
+use Rattle.record_tree.specs.Stored.{values_of}
+use Rattle.index_map.specs.Made.{made_in}
+use Rattle.index_map.specs.Map.{HasIndexes}
+use Rattle.db_names.specs.Names.{HasNames, names_in}
 use Rattle.log_trees.specs.Placed.{Placed, placed}
 use Rattle.log_meaning.specs.Checkpoint.{last_checkpoint, restarted}
 use Rattle.log_meaning.specs.Found.{IsBegun}
@@ -46,8 +51,8 @@ use Rattle.in_tree.specs.Growing.{none_due, trees_at}
 use Rattle.in_tree.specs.Observed.{cells_of, last_node_of, trees_of}
 use Rattle.in_tree.proofs.LoadedLaws.{read_fits}
 use Rattle.in_tree.specs.Whole.{has_tree_in, last_number_of, stored_within, waits_within}
-use Rattle.txn_core.specs.Known.{committed}
-use Rattle.txn_core.proofs.RecordPlanLaws.{all_found}
+use Rattle.txn_core.specs.Known.{committed, committed_rows}
+use Rattle.txn_core.proofs.RecordLaws.{all_found}
 use Rattle.engine.specs.declared.engine.Engine.{Engine}
 use Rattle.engine.specs.declared.kept.Kept.{Kept}
 use Rattle.engine.specs.Contents.{Contents}
@@ -55,13 +60,13 @@ use Rattle.engine.specs.Files.{end_file_in}
 use Rattle.engine.specs.Environment.{AreAlone, GivesRecords}
 use Rattle.engine.specs.Limits.{IsWithin, last_number, numbers_for, waiting_for}
 use Rattle.engine.specs.Opening.{AreNumbers, FitWhatWasRead, HasBegun, HasNoNumbers, StartsAt, WasRead, log_start_of, kept_at_start, meaning_read, node_bound, reach_in, since_at}
-use Rattle.engine.specs.Whole.{AreTrees, IsAt, IsOpened, IsOpenedAt, IsOpenedSafely, contents_of, reach_of}
+use Rattle.engine.specs.Whole.{AreTrees, IsAt, IsOpened, IsOpenedAt, IsOpenedSafely, KeepsIndexes, KeepsNames, contents_of, reach_of}
 use Rattle.engine.proofs.TransactionGrowth.{gives_moved}
 use Rattle.engine.proofs.WholeLaws.{file_is}
 use Rattle.engine.proofs.ClosedLaws.{guarded_none}
 use Rattle.engine.proofs.NumberLaws.{kept_numbers}
 use Rattle.engine.proofs.OpeningLaws.{AreLogFiles, File, found_ends, found_named, no_corruption, starts_in}
-use Rattle.engine.proofs.RecoveredLaws.{AreRecovered, among_within, are_quiet, are_recovered, each_among, or_true, recovered_environment, recovered_rising, recovered_store, same_numbers, trees_made}
+use Rattle.engine.proofs.RecoveredLaws.{AreRecovered, among_within, are_quiet, are_recovered, each_among, or_true, recovered_environment, recovered_rising, recovered_store, rows_of_cells, same_numbers, trees_made}
 
 -- a file that is begun adds no entry
 pub entries_begun : (before : Log) (f : ℕ) → entries_of (before ++ (f, []) ∷ []) ≡ entries_of before
@@ -220,6 +225,7 @@ no_numbers reads r w h = record {
   are = w.are refl;
   meaning = meaning_read r;
   reads = w.is.meaning_is;
+  indexed = w.is.indexed;
   past = subst (λ (n : ℕ). last_number < r.last_node + numbers_for (n + 1)) w.is.entries_are (by_test (nat_lt last_number (r.last_node + numbers_for (r.entries + 1))) refl h);
 } where
   by_test : (b : Bool) → nat_lt last_number (r.last_node + numbers_for (r.entries + 1)) ≡ b → None ≡ cond b None (Some (r.last_node + numbers_for (r.entries + 1))) → last_number < r.last_node + numbers_for (r.entries + 1)
@@ -376,6 +382,7 @@ module _ {D : Type 0} where
         meaning = meaning_read r;
         means = w.is.meaning_is;
         means_store = refl;
+        indexed = w.is.indexed;
         means_txn = refl;
         means_db = refl;
         nodes = subst (λ (n : ℕ). n ≤ last_number) (bound_held observable reads r w bound is.bound_is) is.bound_is.within;
@@ -438,8 +445,8 @@ module _ {D : Type 0} where
         guarded = (found_log 0 w.held, guarded_none (first_of_found 0 w.held) p (found_log 0 w.held) history engine.trees.log refl refl is.ready.has holds (opened_log true reads r w).recovers);
       }
 
-  kept_under : (r : Recovered Trees) (bound : ℕ) (buffer : LogBuffer D) (engine : Engine D) → HasBegun buffer r bound engine → engine.kept ≡ kept_at_start r bound (end_of engine.trees.log) engine.kept.checkpoints
-  kept_under r bound buffer engine begun = subst (λ (b : LogBuffer D). engine.kept ≡ kept_at_start r bound (end_of b) engine.kept.checkpoints) (sym begun.log_is) begun.kept
+  kept_under : (r : Recovered Trees) (bound : ℕ) (buffer : LogBuffer D) (engine : Engine D) → HasBegun buffer r bound engine → engine.kept ≡ kept_at_start r bound (end_of engine.trees.log) engine.kept.checkpoints engine.kept.indexes engine.kept.names
+  kept_under r bound buffer engine begun = subst (λ (b : LogBuffer D). engine.kept ≡ kept_at_start r bound (end_of b) engine.kept.checkpoints engine.kept.indexes engine.kept.names) (sym begun.log_is) begun.kept
 
   -- what begins over a buffer that has the log
   begins : (most : ℕ) (observable : Bool) (reads : Files) (state : State) (r : Recovered Trees) (w : WasRead observable reads r) (bound : ℕ) (buffer : LogBuffer D) (engine : Engine D) →
@@ -467,3 +474,19 @@ module _ {D : Type 0} where
       (subst (λ (o : Store). IsOpenedSafely most reads o history engine) (sym store)
       (opened_safely most reads history r w bound engine (begins most true reads (now history) r w bound buffer engine ready begun bound_is) stable
       (subst (λ (b : LogBuffer D). Holds (found_log 0 w.held) [] (length (entries_of (found_log 0 w.held))) None (first_of b) (now history)) (sym begun.log_is) holds)))
+
+  -- and it keeps the indexes that its catalog makes
+  pub engine_keeps : (most : ℕ) (observable : Bool) (reads : Files) (state : State) (r : Recovered Trees) (w : WasRead observable reads r) (bound : ℕ) (buffer : LogBuffer D) (engine : Engine D) →
+      IsReady most observable reads state r w buffer → HasBegun buffer r bound engine → IsNodeBound r bound →
+      (are_distinct (map (λ (x : Row). catalog_number x.1) (values_of (stored_within r.trees 0))) ≡ true → HasIndexes (made_in (values_of (stored_within r.trees 0))) engine.kept.indexes) → KeepsIndexes engine
+  engine_keeps most observable reads state r w bound buffer engine ready begun bound_is has =
+      let gives = gives_opened most observable reads state r w bound engine (begins most observable reads state r w bound buffer engine ready begun bound_is) in
+      let rows : Rows = committed (cells_of engine.trees) in
+      let same : rows 0 ≡ values_of (stored_within r.trees 0) = ap committed_rows (begun.cells 0) ∙ rows_of_cells (stored_within r.trees 0) in
+      subst (λ (l : List Row). HasIndexes (made_in l) engine.kept.indexes) (sym same)
+      (has (subst (λ (l : List Row). are_distinct (map (λ (x : Row). catalog_number x.1) l) ≡ true) same (environment_parts rows gives.listed.environment).distinct))
+
+  -- and the names that it has
+  pub engine_names : (r : Recovered Trees) (bound : ℕ) (buffer : LogBuffer D) (engine : Engine D) → HasBegun buffer r bound engine → HasNames (names_in (values_of (stored_within r.trees 0))) engine.kept.names → KeepsNames engine
+  engine_names r bound buffer engine begun has =
+      subst (λ (l : List Row). HasNames (names_in l) engine.kept.names) (sym (ap committed_rows (begun.cells 0) ∙ rows_of_cells (stored_within r.trees 0))) has

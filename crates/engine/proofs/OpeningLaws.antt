@@ -36,7 +36,7 @@ use Rattle.log_meaning.specs.Reading.{reading_of, unless}
 use Rattle.crash_recovery.specs.Opening.{found_log}
 use Rattle.crash_recovery.specs.Reading.{IsNamedLog}
 use Rattle.engine.specs.declared.open_err.OpenErr.{OpenErr}
-use Rattle.engine.specs.declared.open_err.OpenErr.TheVariants.{Disk, Unreadable, Memory, IdsEnded}
+use Rattle.engine.specs.declared.open_err.OpenErr.TheVariants.{Disk, Unreadable, WrongIndex, Memory, IdsEnded}
 use Rattle.engine.specs.Files.{end_file_in}
 use Rattle.engine.specs.Opening.{HasTornTailCut, StartsLog, StopsBy, log_start_of}
 use Rattle.engine.proofs.Counts.{rose_earlier}
@@ -365,6 +365,7 @@ if_err_both (Err e) P Q R both p q = both e p q
 pub stops_earlier : (observable : Bool) (files : Files) (before mid after : ℕ) (error : OpenErr) → before ≤ mid → mid ≤ after → StopsBy observable files mid after error → StopsBy observable files before after error
 stops_earlier observable files before mid after Disk earlier later stops = rose_earlier before mid after earlier stops later
 stops_earlier observable files before mid after (Unreadable corruption) earlier later stops = stops
+stops_earlier observable files before mid after (WrongIndex name) earlier later stops = stops
 stops_earlier observable files before mid after IdsEnded earlier later stops = stops
 stops_earlier observable files before mid after Memory earlier later stops = tt
 

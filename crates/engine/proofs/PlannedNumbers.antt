@@ -163,8 +163,8 @@ numbers_change : (change : Change) (rows : Rows) (last_db : ℕ) → IsSound row
 numbers_change (Set db at value) rows last_db sound may = numbers_stay last_db (last_db + 0) (number_named rows) (omega arith)
 numbers_change (Unset db at) rows last_db sound may = numbers_stay last_db (last_db + 0) (number_named rows) (omega arith)
 numbers_change (Make db kind) rows last_db sound may = number_made last_db db (number_named rows) may.0
-numbers_change (MakeIndex db index) rows last_db sound may = absurd may
-numbers_change (Remove db) rows last_db sound may = number_replaced rows last_db (last_db + 0) 0 db sound may (inl (refl, omega arith))
+numbers_change (MakeIndex db index) rows last_db sound may = number_made last_db db (number_named rows) may.0
+numbers_change (Remove db) rows last_db sound may = number_replaced rows last_db (last_db + 0) 0 db sound may.0 (inl (refl, omega arith))
 numbers_change (Rename db to) rows last_db sound may = number_moved last_db (last_db + 0) db to (number_named rows) (omega arith) may.1
 numbers_change (Empty db) rows last_db sound may = number_replaced rows last_db (last_db + 1) (last_db + 1) db sound may.0 (inr (refl, refl))
 

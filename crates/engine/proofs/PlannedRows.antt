@@ -18,7 +18,7 @@ use Rattle.store_model.specs.declared.store.TheConstants.{MOST_DATABASES}
 use Rattle.store_model.specs.Store.{all_changed}
 use Rattle.store_model.specs.Evaluation.{plain_name}
 use Rattle.store_model.specs.Refusals.{made_by}
-use Rattle.log_replay.specs.Rows.{Row, Rows, RowChange, rows_with, row_changed, rows_changed, row_at, data_at, number_or_0, catalog_number, catalog_kind, is_catalog_row, are_distinct, are_right, numbers_of, database_in, store_of, IsRising}
+use Rattle.log_replay.specs.Rows.{Row, Rows, RowChange, rows_with, row_changed, rows_changed, row_at, data_at, number_or_0, catalog_number, catalog_kind, is_catalog_row, are_distinct, are_right, numbers_of, database_by, database_in, store_of, IsRising}
 use Rattle.log_replay.specs.Logging.{record_in, number_named, all_row_changes}
 use Rattle.log_replay.specs.Kept.{MayBeLogged, AllMayBeLogged, with_number, numbered, all_numbered}
 use Rattle.log_replay.proofs.ListLaws.{all_both, all_of_map, all_to_map, found, map_same}
@@ -26,7 +26,7 @@ use Rattle.log_replay.proofs.LoadedRows.{found as sought, same_rows}
 use Rattle.log_replay.proofs.MapRows.{lookup_is_data}
 use Rattle.log_replay.proofs.NameLaws.{found-with}
 use Rattle.log_replay.proofs.RowLaws.{plain_name-key, rising-nil, rising_head, rising_tail}
-use Rattle.log_replay.proofs.StoreLaws.{IsEnvironment, IsCase, number_of_row, is_right_under, catalog_plain, catalog_numbers, catalog_cases, key_of_row, row_named, same_database, rising-row_changed}
+use Rattle.log_replay.proofs.StoreLaws.{IsEnvironment, HasPrimary, IsCase, number_of_row, is_right_under, catalog_plain, catalog_numbers, catalog_cases, key_of_row, row_named, same_database, rising-row_changed}
 use Rattle.log_replay.proofs.LoggedLaws.{IsSound, number-within}
 use Rattle.log_replay.proofs.TransactionLaws.{IsLeft, left}
 use Rattle.log_trees.proofs.Bounds.{eq_turned}
@@ -156,10 +156,10 @@ gone-first (Unset db at) rows last_db sound may = tt
 gone-first (Make db kind) rows last_db sound may = tt
 gone-first (MakeIndex db index) rows last_db sound may = tt
 gone-first (Remove db) rows last_db sound may = record {
-  above = may;
-  within = number-within rows last_db db sound may;
-  none = λ other. cond_both (is_same_bytes other db) 0 (number_named rows other) (λ m. m ≢ number_named rows db) (λ _ e. may (sym e))
-      (λ differ same. true≢false (sym (apart_named rows last_db db other sound may same) ∙ differ));
+  above = may.0;
+  within = number-within rows last_db db sound may.0;
+  none = λ other. cond_both (is_same_bytes other db) 0 (number_named rows other) (λ m. m ≢ number_named rows db) (λ _ e. may.0 (sym e))
+      (λ differ same. true≢false (sym (apart_named rows last_db db other sound may.0 same) ∙ differ));
 }
 gone-first (Rename db to) rows last_db sound may = tt
 gone-first (Empty db) rows last_db sound may = record {
@@ -204,6 +204,7 @@ drops-environment goes all after drops env =
 drops-sound : (goes : ℕ → Bool) (all after : Rows) (last_db : ℕ) → Drops goes all after → IsSound all last_db → IsSound after last_db
 drops-sound goes all after last_db drops sound = record {
   environment = drops-environment goes all after drops sound.environment;
+  primaries = subst (λ (l : List Row). AllByRecursion (HasPrimary l) l) (sym (drops.same 0 drops.zero_stays)) sound.primaries;
   rising = λ d. ⊎_elim (λ (e : goes d ≡ true). subst IsRising (sym (drops.none d e)) rising-nil) (λ (e : goes d ≡ false). subst IsRising (sym (drops.same d e)) (sound.rising d)) (cases_Bool (goes d));
   unused = λ d above. ⊎_elim (λ (e : goes d ≡ true). drops.none d e) (λ (e : goes d ≡ false). drops.same d e ∙ sound.unused d above) (cases_Bool (goes d));
   numbers = subst (λ l. AllByRecursion (λ (r : Row). catalog_number r.1 ≤ last_db) l) (sym (drops.same 0 drops.zero_stays)) sound.numbers;
@@ -212,10 +213,10 @@ drops-sound goes all after last_db drops sound = record {
 drops-store : (goes : ℕ → Bool) (all after : Rows) → Drops goes all after → store_of after ≡ store_of all
 drops-store goes all after drops =
     let make : List Database → Store = λ l. record { databases = l } in
-    ap (λ (l : List Row). make (map (database_in after) l)) (drops.same 0 drops.zero_stays)
-    ∙ ap make (map_same (database_in after) (database_in all) (all 0)
-    (all_weaker (λ (r : Row). goes (catalog_number r.1) ≡ false) (λ r. database_in after r ≡ database_in all r)
-    (λ r stays. same_database after all r (drops.same (catalog_number r.1) stays)) (all 0) drops.named))
+    ap (λ (l : List Row). make (map (database_by l after) l)) (drops.same 0 drops.zero_stays)
+    ∙ ap make (map_same (database_by (all 0) after) (database_in all) (all 0)
+    (all_weaker (λ (r : Row). goes (catalog_number r.1) ≡ false) (λ r. database_by (all 0) after r ≡ database_in all r)
+    (λ r stays. same_database (all 0) after all r (drops.same (catalog_number r.1) stays)) (all 0) drops.named))
 
 -- ---- planned changes
 

@@ -47,7 +47,7 @@ among_within bound (n ∷ ns) d all h = by_test (n == d) refl (λ rest. among_wi
 -- ---- the records that trees have
 
 -- committed cells have the records' values
-rows_of_cells : (records : List (Name × Stored)) → committed_rows (map committed_cell records) ≡ values_of records
+pub rows_of_cells : (records : List (Name × Stored)) → committed_rows (map committed_cell records) ≡ values_of records
 rows_of_cells [] = refl
 rows_of_cells (r ∷ records) = ap (λ (l : List Row). (r.0, r.1.value) ∷ l) (rows_of_cells records)
 

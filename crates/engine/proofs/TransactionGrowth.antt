@@ -26,7 +26,7 @@ use Rattle.log_buffer.specs.Log.{HasLog}
 use Rattle.log_buffer.proofs.GrowthLaws.{appended_are_placed, grew_unchanged}
 use Rattle.log_replay.specs.Rows.{Row, Rows, data_at, catalog_number, numbers_of, store_of}
 use Rattle.log_replay.proofs.ListLaws.{all_both, all_of_map, all_to_map}
-use Rattle.log_replay.proofs.StoreLaws.{environment_parts, environment_from, number_of_row}
+use Rattle.log_replay.proofs.StoreLaws.{environment_parts, environment_from, primaries_in, number_of_row}
 use Rattle.log_replay.proofs.LoggedLaws.{IsSound}
 use Rattle.log_trees.specs.Placed.{Placed, placed}
 use Rattle.record_tree.specs.declared.tree_change.TreeChange.{TreeChange}
@@ -65,6 +65,7 @@ Flags = ℕ → Bool
 pub sound_of : (log : Log) (end : LogPos) (c : Contents) → GivesRecords log end c → IsSound c.rows c.last_db
 sound_of log end c gives = record {
   environment = environment_parts c.rows gives.listed.environment;
+  primaries = primaries_in c.rows gives.listed.environment;
   rising = gives.listed.rising;
   unused = gives.unused;
   numbers = all_of_map number_of_row (λ n. n ≤ c.last_db) (c.rows 0) gives.numbers;
@@ -166,7 +167,7 @@ listed-after rows after last_db changes planned gone is_open leaves later listed
   catalog = open_from gone is_open 0 leaves.zero_stays listed.catalog;
   named = all_both (λ n. is_gone n gone ≡ false) (λ n. is_open n ≡ true) (λ n. open_after gone is_open n ≡ true) (λ n stays open_. open_from gone is_open n stays open_) (numbers_of after)
       leaves.unnamed (leaves.named is_open later listed.named);
-  environment = environment_from after leaves.sound.environment;
+  environment = environment_from after leaves.sound.environment leaves.sound.primaries;
 }
 
 -- ---- entries behind a log

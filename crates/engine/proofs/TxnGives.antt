@@ -120,7 +120,7 @@ pub leaves_records : (rows after : Rows) (last_db : ℕ) (changes : List Change)
     LeavesRecords rows after last_db (last_db + made_by changes) (λ d. is_gone d dropped) planned
 leaves_records rows after last_db changes planned dropped leaves = record {
   rising = leaves.sound.rising;
-  environment = environment_from after leaves.sound.environment;
+  environment = environment_from after leaves.sound.environment leaves.sound.primaries;
   unused = leaves.sound.unused;
   numbers = all_to_map number_of_row (λ n. n ≤ last_db + made_by changes) (after 0) leaves.sound.numbers;
   grows = omega arith;

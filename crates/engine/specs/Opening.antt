@@ -2,7 +2,7 @@
 use Rattle.std.specs.List.{AllByRecursion}
 use Rattle.std.specs.Prelude.{ℕ, ◌≡◌, ◌≤◌, ◌<◌, ◌⊎◌, ◌==◌, ◌+◌, nat_lt, ◌∷◌, [], ◌++◌, take, length, map, max, Bool, true, false, Option, IsSome, None, Some, Ok, option_map, List, if◌then◌else◌}
 use Rattle.recovery_je.specs.declared.recover_err.RecoverErr.{RecoverErr}
-use Rattle.recovery_je.specs.declared.recover_err.RecoverErr.TheVariants.{Disk as NoDisk, Memory as NoMemory, Corrupt}
+use Rattle.recovery_je.specs.declared.recover_err.RecoverErr.TheVariants.{Disk as NoDisk, Memory as NoMemory, Corrupt, WrongIndex as WrongIndexRead}
 use Rattle.je_order.specs.Counts.{HasRisen}
 use Rattle.je_disk.specs.States.{State, Files, IsEither, cut, put_at, synced}
 use Rattle.store_model.specs.declared.store.Store.{Store}
@@ -20,7 +20,10 @@ use Rattle.log_replay.specs.declared.last_file.LastFile.{LastFile}
 use Rattle.log_trees.specs.Placed.{placed}
 use Rattle.log_meaning.specs.Meaning.{Meaning}
 use Rattle.log_meaning.specs.Reading.{reading_of}
+use Rattle.db_names.specs.declared.db_names.DbNames.{DbNames}
+use Rattle.index_map.specs.declared.index_map.IndexMap.{IndexMap}
 use Rattle.recovery_je.specs.Answer.{HasFiles, IsRecoveredFrom}
+use Rattle.recovery_je.specs.Indexing.{IsIndexCheck}
 use Rattle.recovery_je.specs.Putting.{HasReadAgain}
 use Rattle.recovery_je.specs.declared.recovered.Recovered.{Recovered}
 use Rattle.in_tree.specs.declared.trees.Trees.{Trees}
@@ -31,8 +34,8 @@ use Rattle.in_tree.specs.Observed.{cells_of, has_tree_of, last_node_of, trees_of
 use Rattle.in_tree.specs.Stored.{committed_cell}
 use Rattle.in_tree.specs.Whole.{has_tree_in, last_number_of, stored_within, waits_within}
 use Rattle.engine.specs.declared.open_err.OpenErr.{OpenErr}
-use Rattle.engine.specs.declared.open_err.OpenErr.TheVariants.{Disk, Unreadable, Memory, IdsEnded}
-use Rattle.engine.specs.Files.{HasCorruption, end_file_in}
+use Rattle.engine.specs.declared.open_err.OpenErr.TheVariants.{Disk, Unreadable, WrongIndex, Memory, IdsEnded}
+use Rattle.engine.specs.Files.{HasCorruption, HasWrongIndex, end_file_in}
 use Rattle.engine.specs.Limits.{Reach, last_number, numbers_for, waiting_for}
 use Rattle.engine.specs.declared.engine.Engine.{Engine}
 use Rattle.engine.specs.declared.kept.Kept.{Kept}
@@ -42,6 +45,7 @@ abbrev pub error_of_recovery : RecoverErr → OpenErr
 error_of_recovery NoDisk = Disk
 error_of_recovery NoMemory = Memory
 error_of_recovery (Corrupt corruption) = Unreadable corruption
+error_of_recovery (WrongIndexRead name) = WrongIndex name
 
 -- no node's number is above this one once the files are opened: each of their entries may have allocated some, and so may the catalog
 abbrev pub node_bound : List (ℕ × List ℕ) → Meaning → ℕ
@@ -51,18 +55,20 @@ node_bound held meaning = meaning.last_node + numbers_for (length (placed (log_i
 abbrev pub reach_in : List (ℕ × List ℕ) → Meaning → Reach
 reach_in held meaning = record { file = end_file_in held + waiting_for (length (placed (log_in held))); node = node_bound held meaning }
 
--- the files mean something, but their nodes' numbers may pass the last one
+-- the files can be opened, but their nodes' numbers may pass the last one
 pub record HasNoNumbers (files : Files) : Type 0 where
   pub held : List (ℕ × List ℕ)
   pub are : AreFiles files held
   pub meaning : Meaning
   pub reads : reading_of held ≡ Ok meaning
+  pub indexed : IsIndexCheck meaning.store None
   pub past : last_number < node_bound held meaning
 
--- why opening stopped: the disk failed, the files at entry cannot be opened, no number of a node is left, or there was no memory
+-- why opening stopped: the disk failed, the files at entry cannot be opened, an index of theirs is wrong, no number of a node is left, or there was no memory
 abbrev pub StopsBy : Bool → Files → ℕ → ℕ → OpenErr → Type 0
 StopsBy observable files before after Disk = HasRisen before after
 StopsBy observable files before after (Unreadable corruption) = observable ≡ true → HasCorruption files corruption
+StopsBy observable files before after (WrongIndex name) = observable ≡ true → HasWrongIndex files name
 StopsBy observable files before after IdsEnded = observable ≡ true → HasNoNumbers files
 StopsBy observable files before after Memory = Unit {0}
 
@@ -134,6 +140,7 @@ pub record StartsAt (observable : Bool) (files : Files) (opening : Store) (st : 
   pub meaning : Meaning
   pub means : reading_of held ≡ Ok meaning
   pub means_store : meaning.store ≡ opening
+  pub indexed : IsIndexCheck opening None
   pub means_txn : meaning.last_txn ≡ alone_at.last_txn
   pub means_db : meaning.last_db ≡ alone_at.last_db
   pub nodes : node_bound held meaning ≤ last_number
@@ -142,9 +149,9 @@ pub record StartsAt (observable : Bool) (files : Files) (opening : Store) (st : 
 abbrev pub since_at : LogPos → Recovered Trees → ℕ
 since_at end r = max (pos_lsn end) r.redo
 
--- what an environment keeps beside its trees as it begins, with these checkpoints, where no node's number is above this one and the log ends here
-abbrev pub kept_at_start : Recovered Trees → ℕ → LogPos → Checkpointer → Kept
-kept_at_start r last_node end checkpoints = record {
+-- what an environment keeps beside its trees as it begins, with these checkpoints, indexes and names, where no node's number is above this one and the log ends here
+abbrev pub kept_at_start : Recovered Trees → ℕ → LogPos → Checkpointer → IndexMap → DbNames → Kept
+kept_at_start r last_node end checkpoints indexes names = record {
   totals = record { databases = r.databases; records = r.records };
   last_txn = r.last_txn;
   last_db = r.last_db;
@@ -153,6 +160,8 @@ kept_at_start r last_node end checkpoints = record {
   fault = None;
   since = since_at end r;
   checkpoints = checkpoints;
+  indexes = indexes;
+  names = names;
 }
 
 -- an environment begins over its log, with what was read
@@ -161,7 +170,7 @@ pub record HasBegun {D : Type 0} (log : LogBuffer D) (r : Recovered Trees) (last
   pub cells : (db : ℕ) → cells_of engine.trees db ≡ map committed_cell (stored_within r.trees db)
   pub trees : (db : ℕ) → has_tree_of engine.trees db ≡ has_tree_in r.trees db
   pub waits : waits_of engine.trees ≤ waits_within r.trees
-  pub kept : engine.kept ≡ kept_at_start r last_node (end_of log) engine.kept.checkpoints
+  pub kept : engine.kept ≡ kept_at_start r last_node (end_of log) engine.kept.checkpoints engine.kept.indexes engine.kept.names
   pub last_checkpoint : engine.kept.checkpoints.last ≡ r.checkpoint
   pub none_begun : engine.kept.checkpoints.under_way ≡ None
   pub forest : (db : ℕ) → trees_of engine.trees db ≡ trees_at r.trees.forest db

@@ -17,6 +17,9 @@ use Rattle.log_file.specs.Log.{Log, entries_of}
 use Rattle.log_replay.specs.Logging.{all_row_changes}
 use Rattle.log_replay.specs.Rows.{numbers_of}
 use Rattle.record_tree.specs.declared.tree_change.TreeChange.{TreeChange}
+use Rattle.index_map.specs.Made.{made_in}
+use Rattle.index_map.specs.Map.{HasIndexes}
+use Rattle.db_names.specs.Names.{HasNames, names_in}
 use Rattle.in_tree.specs.declared.logged_trees.LogTrees.{LogTrees}
 use Rattle.log_trees.specs.Placed.{Placed}
 use Rattle.tree_images.specs.Forest.{ForestFits}
@@ -103,6 +106,14 @@ module _ {D : Type 0} where
   pub record IsAt (most : ℕ) (observable : Bool) (state : State) (engine : Engine D) (st : Standing) : Type 0 where
     pub at : AreAt most observable state engine.trees.log (contents_of engine) st
     pub trees : st.fault ≡ None → AreTrees engine.trees
+
+  -- what it keeps of indexes is what the committed catalog makes
+  abbrev pub KeepsIndexes : Engine D → Type 0
+  KeepsIndexes engine = HasIndexes (made_in (committed (cells_of engine.trees) 0)) engine.kept.indexes
+
+  -- and of names
+  abbrev pub KeepsNames : Engine D → Type 0
+  KeepsNames engine = HasNames (names_in (committed (cells_of engine.trees) 0)) engine.kept.names
 
   -- the numbers leave room for another step
   abbrev pub CanGoOn : Engine D → Type 0

@@ -9,7 +9,6 @@ ghost use Rattle.store_model.specs.declared.event.Event.{Event};
 ghost use Rattle.store_model.specs.declared.event.Event.TheVariants.{Call as Called, SyncEnd};
 ghost use Rattle.je_answers.specs.Standing.{Standing};
 ghost use Rattle.je_answers.specs.After.{after_event, after_events};
-ghost use Rattle.je_answers.specs.Alone.{IsAutoCommitted};
 ghost use Rattle.je_answers.specs.Events.{IsAnswered};
 ghost use Rattle.je_answers.specs.Journal.{changes_of};
 ghost use Rattle.je_answers.specs.Refusals.{early_refusal};
@@ -30,8 +29,8 @@ use je_disk::{Disk, SyncJob};
 use je_order::TxnId;
 use record_tree::TreeErr;
 use std::alloc::{AllocError, Global};
-use store_model::{Answer, Call, Fault, LAST_DATABASE, LAST_TXN, Totals};
-use txn_core::{Planned, PlannedChanges, commit_changes, plan};
+use store_model::{Answer, Fault, LAST_DATABASE, LAST_TXN, Totals};
+use txn_core::{PlannedChanges, commit_changes};
 
 /// The greatest number of a node.
 pub const LAST_NODE: u64 = 0x7fff_ffff_ffff_ffff;
@@ -41,7 +40,7 @@ pub const LAST_NODE: u64 = 0x7fff_ffff_ffff_ffff;
 pub const NUMBERS_FOR_CHANGE: u64 = 66;
 
 /// An open environment: its log over its disk with the trees of its databases, and what is kept in memory
-/// beside them. It is made by `open`, answers calls by `step`, makes commits durable by `sync_begin` and
+/// beside them. It is made by `open`, logs what calls change by `log_among`, makes commits durable by `sync_begin` and
 /// `sync_end`, and ends by `close`.
 pub struct Engine<D> {
     /// The trees, over the log, over its disk.
@@ -50,58 +49,19 @@ pub struct Engine<D> {
     pub kept: Kept,
 }
 
-impl<D: Disk> Engine<D> {
-    /// Answers a session's call that is a transaction of its own, and logs what it changes. Running out of
-    /// memory leaves the environment as it was.
-    pub fn step(
-        &mut self,
-        alloc: Global,
-        session: u8,
-        line: u32,
-        call: &Call,
-    ) -> Result<Answer, AllocError>
-        requires here { (most : ℕ) × (st : Standing) × IsAt most D.observable (now (D.history (disk_of self.old))) self.old st }
-        requires bounds { CanGoOn self.old }
-        requires call { IsAutoCommitted call.now }
-        ensures goes_on { (most : ℕ) (st : Standing) → IsAt most D.observable (now (D.history (disk_of self.old))) self.old st → GoesOn most D.observable (now (D.history (disk_of self.new))) self.old self.new st session line call.now result }
-        ensures exact { (most : ℕ) (st : Standing) → IsAt most D.observable (now (D.history (disk_of self.old))) self.old st
-            → IfOk result (λ answer. (limit : Option Answered) × HasLimit self.old (changes_of (early_refusal st session call.now) st session call.now) limit × IsAnswered limit st (Called session line call.now answer [])) }
-        ensures numbered { (most : ℕ) (st : Standing) → IsAt most D.observable (now (D.history (disk_of self.old))) self.old st
-            → IfOk result (λ answer. IsNumbered answer (after_event st (Called session line call.now answer [])).commits) }
-        ensures grows { (most : ℕ) (st : Standing) → IsAt most D.observable (now (D.history (disk_of self.old))) self.old st
-            → IsWithin (reach_of self.new) (reach_after (reach_of self.old) (changes_of (early_refusal st session call.now) st session call.now)) }
-        ensures bounds { CanGoOn self.new }
-        ensures crash { D.observable ≡ true → (most : ℕ) (st : Standing) (start : History) (journal : List Event)
-            → IsAt most D.observable (now (D.history (disk_of self.old))) self.old (after_events st journal)
-            → IsGuarded most st start (D.history (disk_of self.old)) self.old journal
-            → GoesOnSafely most st start (D.history (disk_of self.new)) self.new journal session line call.now result }
-        ensures same_reach { OnErr result (reach_of self.new ≡ reach_of self.old) }
-        ensures cause { HasStepCause (D.faults (disk_of self.old)) (D.faults (disk_of self.new)) result }
-    {
-        if let Some(first) = self.kept.fault {
-            return Ok(Answer::Invalid { first });
-        }
-        if LAST_TXN <= self.kept.last_txn {
-            return Ok(Answer::IdsEnded);
-        }
-        self.trees.are_ordered();
-        match plan(
-            &self.trees,
-            alloc,
-            self.kept.totals,
-            self.kept.last_db,
-            call,
-        )? {
-            Planned::Answered(answer) => {
-                self.kept.last_txn += 1;
-                Ok(answer)
-            }
-            Planned::Logs(planned) => self.log(alloc, planned),
-        }
+// What changes are answered that may lack numbers, where the trees find this limit: no room in the log is told first.
+pub(crate) fn refusal(found: Option<TreeErr>) -> Answer
+    ensures { result ≡ refusal_by found }
+{
+    match found {
+        Some(TreeErr::Full) => Answer::LogFull,
+        _ => Answer::IdsEnded,
     }
+}
 
+impl<D: Disk> Engine<D> {
     // Whether the changes may lack a number of a database or of a node.
-    fn lacks_numbers(&self, planned: &PlannedChanges) -> bool
+    pub(crate) fn lacks_numbers(&self, planned: &PlannedChanges) -> bool
         ensures { result ≡ (nat_lt LAST_DATABASE planned.now.last_db || nat_lt last_number (self.now.kept.last_node + numbers_for (length planned.now.changes.items))) }
     {
         if u64::from(LAST_DATABASE) < planned.last_db {
@@ -116,7 +76,7 @@ impl<D: Disk> Engine<D> {
         }
     }
 
-    // What changes are answered that may lack numbers: no room in the log is told first.
+    // What changes are answered that may lack numbers.
     fn refuse(
         &mut self,
         alloc: Global,
@@ -132,32 +92,9 @@ impl<D: Disk> Engine<D> {
         ensures kept { self.new.kept ≡ self.old.kept }
     {
         let txn = TxnId(self.kept.last_txn + 1);
-        match self
-            .trees
-            .find_limit(alloc, txn, planned.changes.as_slice(), owed)?
-        {
-            Some(TreeErr::Full) => Ok(Answer::LogFull),
-            _ => Ok(Answer::IdsEnded),
-        }
-    }
-
-    // Logs planned changes of a valid environment. Running out of memory leaves the environment as it was.
-    fn log(&mut self, alloc: Global, planned: PlannedChanges) -> Result<Answer, AllocError>
-        requires bounds { CanGoOn self.old }
-        requires works { has_failed self.old.trees.log ≡ false }
-        requires trees { AreTrees self.old.trees }
-        requires numbers { self.old.kept.last_txn < LAST_TXN }
-        requires few { AreFewNew (cells_of self.old.trees) planned.changes.items }
-        requires there { AllByRecursion (λ c. has_tree_of self.old.trees c.db ≡ true) planned.changes.items }
-        requires new { planned.last_db ≤ LAST_DATABASE → AllByRecursion (λ c. IfSome c.makes (λ d. has_tree_of self.old.trees d ≡ false)) planned.changes.items }
-        requires entries { AllByRecursion (λ c. IsEntry (entry_for (txn_of (self.old.kept.last_txn + 1)) c.db c.name c.value)) planned.changes.items }
-        ensures trees { LeavesTrees self.old.trees self.new.trees planned result }
-        ensures near { EndsNear self.old.trees self.new.trees (length planned.changes.items) result }
-        ensures logs { LogsChanges D.observable D.history D.sync_out D.read_out D.read_of self.old.trees.log self.new.trees.log (contents self.old.trees self.old.kept) (contents self.new.trees self.new.kept) planned (limit_in self.old.trees planned.changes.items 1) result }
-        ensures bounds { CanGoOn self.new }
-        ensures cause { HasStepCause (D.faults (disk_of self.old)) (D.faults (disk_of self.new)) result }
-    {
-        self.log_among(alloc, planned, 1)
+        let changes = planned.changes.as_slice();
+        let found = self.trees.find_limit(alloc, txn, changes, owed)?;
+        Ok(refusal(found))
     }
 
     /// Logs planned changes of a valid environment as one transaction, with room for as many Commits, that of these changes among
@@ -181,6 +118,8 @@ impl<D: Disk> Engine<D> {
         ensures trees { LeavesCells self.old.trees self.new.trees planned owed result }
         ensures near { EndsNear self.old.trees self.new.trees (length planned.changes.items) result }
         ensures logs { LogsChanges D.observable D.history D.sync_out D.read_out D.read_of self.old.trees.log self.new.trees.log (contents self.old.trees self.old.kept) (contents self.new.trees self.new.kept) planned (limit_in self.old.trees planned.changes.items owed) result }
+        ensures indexes { self.new.kept.indexes ≡ self.old.kept.indexes }
+        ensures names { self.new.kept.names ≡ self.old.kept.names }
         ensures bounds { CanGoOn self.new }
         ensures cause { HasStepCause (D.faults (disk_of self.old)) (D.faults (disk_of self.new)) result }
     {
@@ -239,6 +178,8 @@ impl<D: Disk> Engine<D> {
             → BeginsSafely most st start (D.history (disk_of self.new)) self.new journal (is_some result) }
         ensures within { IsWithin (reach_of self.new) (reach_of self.old) }
         ensures out { IfSome result (λ job. D.sync_out (disk_of self.new) ≡ Some (D.Job.job_number job)) }
+        ensures indexes { self.new.kept.indexes ≡ self.old.kept.indexes }
+        ensures names { self.new.kept.names ≡ self.old.kept.names }
         ensures bounds { CanGoOn self.old → CanGoOn self.new }
         ensures never_falls { D.faults (disk_of self.old) ≤ D.faults (disk_of self.new) }
         ensures cause { (most : ℕ) (st : Standing) → IsAt most D.observable (now (D.history (disk_of self.old))) self.old st → st.fault ≡ None → IsNone result → HasRisen (D.faults (disk_of self.old)) (D.faults (disk_of self.new)) }
@@ -263,6 +204,8 @@ impl<D: Disk> Engine<D> {
             → IsGuardedInSync most st start (D.history (disk_of self.old)) self.old journal
             → IsGuarded most st start (D.history (disk_of self.new)) self.new (journal ++ SyncEnd result ∷ []) }
         ensures within { IsWithin (reach_of self.new) (reach_of self.old) }
+        ensures indexes { self.new.kept.indexes ≡ self.old.kept.indexes }
+        ensures names { self.new.kept.names ≡ self.old.kept.names }
         ensures bounds { CanGoOn self.old → CanGoOn self.new }
         ensures never_falls { D.faults (disk_of self.old) ≤ D.faults (disk_of self.new) }
         ensures cause { (most : ℕ) (st : Standing) → IsAt most D.observable (now (D.history (disk_of self.old))) self.old st → st.fault ≡ None → result ≡ Answer.DiskFault → HasRisen (D.faults (disk_of self.old)) (D.faults (disk_of self.new)) }

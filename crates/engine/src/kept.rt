@@ -1,5 +1,7 @@
 // What an open environment keeps in memory beside its trees.
 use checkpointer::Checkpointer;
+use db_names::DbNames;
+use index_map::IndexMap;
 use je_lsn::Lsn;
 use store_model::{Fault, Totals};
 
@@ -23,4 +25,8 @@ pub struct Kept {
     pub since: Lsn,
     /// The checkpoints.
     pub checkpoints: Checkpointer,
+    /// The indexes, by the numbers of their databases.
+    pub indexes: IndexMap,
+    /// The names of the databases, by their numbers.
+    pub names: DbNames,
 }

@@ -1,7 +1,8 @@
-//! The engine: an open environment over a disk, call by call. It opens the environment that a disk has, answers
-//! calls and logs what they change, makes commits durable by sync jobs that run outside it, and closes. It
-//! stands on `in_tree` for the records and the log, on `txn_core` for what a call comes to, on `recovery_je` for
-//! opening, and on `crash_recovery` for what a crash leaves. Upward it promises that each step is the model's, that what the disk's images mean at each
+//! The engine: an open environment over a disk, change by change. It opens the environment that a disk has, logs what
+//! calls change, makes commits durable by sync jobs that run outside it, and closes. It stands on `in_tree` for the
+//! records and the log, on `txn_core` for what changes are planned, on `recovery_je` for opening, on `index_map` and
+//! `db_names` for what is kept beside the catalog, and on `crash_recovery` for what a crash leaves. Upward it promises that an
+//! environment that is opened is where the model starts, that what is logged is what was planned, that what the disk's images mean at each
 //! moment is the store changed by the first of the attempted commits, at least the synced ones, and that
 //! a fault of the disk is its only cause of failing beside memory. Users speak of an engine by the
 //! definitions of specs/Whole alone.
@@ -10,6 +11,7 @@
 mod closing;
 mod config;
 mod engine;
+mod filling;
 mod kept;
 mod open_err;
 mod opening;

@@ -1,10 +1,11 @@
 // Why an environment was not opened.
+use je_order::Word;
 use log_replay::Corruption;
 use recovery_je::RecoverErr;
 
 /// Why an environment was not opened. Its files are as they were, but for a torn tail that may have been
 /// cut off where the disk failed or there was no memory.
-#[derive(Clone, Copy)]
+#[derive(Drop)]
 pub enum OpenErr {
     /// The disk failed.
     Disk,
@@ -15,6 +16,9 @@ pub enum OpenErr {
     IdsEnded,
     /// The files cannot be opened; this is the first corruption in the order of reading.
     Unreadable(Corruption),
+    /// The files can be read, but the pairs of the index of that name, the first one in name order, are not those of its
+    /// primary's records.
+    WrongIndex(Word),
 }
 
 impl From<RecoverErr> for OpenErr {
@@ -28,6 +32,7 @@ impl From<RecoverErr> for OpenErr {
             RecoverErr::Disk => OpenErr::Disk,
             RecoverErr::Memory => OpenErr::Memory,
             RecoverErr::Corrupt(corruption) => OpenErr::Unreadable(corruption),
+            RecoverErr::WrongIndex(name) => OpenErr::WrongIndex(name),
         }
     }
 }

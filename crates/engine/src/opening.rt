@@ -13,7 +13,7 @@ ghost use Rattle.store_model.specs.Store.{no_databases};
 ghost use Rattle.in_tree.specs.Whole.{waits_within};
 ghost use Rattle.engine.specs.Limits.{last_number, numbers_for, waiting_for};
 ghost use Rattle.engine.specs.Opening.{HasBegun, HasTornTailCut, IsSettling, StartsLog, StopsBy, WasRead, cut_off, log_start_of};
-ghost use Rattle.engine.specs.Whole.{CanGoOn, IsOpened, IsOpenedSafely, disk_of};
+ghost use Rattle.engine.specs.Whole.{CanGoOn, KeepsIndexes, KeepsNames, IsOpened, IsOpenedSafely, disk_of};
 ghost use Rattle.je_lsn.specs.declared.file_no.TheConstants.{LAST_FILE};
 
 use crate::config::Config;
@@ -21,7 +21,9 @@ use crate::engine::{Engine, LAST_NODE, NUMBERS_FOR_CHANGE};
 use crate::kept::Kept;
 use crate::open_err::OpenErr;
 use checkpointer::Checkpointer;
+use db_names::DbNames;
 use in_tree::{LoadedTrees, LogTrees};
+use index_map::IndexMap;
 use je_disk::{Disk, DiskErr};
 use je_lsn::{FileNo, Lsn};
 use log_buffer::LogBuffer;
@@ -169,8 +171,16 @@ fn later(a: Lsn, b: Lsn) -> Lsn
 }
 
 // An environment that was just opened, over its log.
-fn begin<D: Disk>(log: LogBuffer<D>, read: Recovered<LoadedTrees>, last_node: u64) -> Opened<D>
+fn begin<D: Disk>(
+    log: LogBuffer<D>,
+    read: Recovered<LoadedTrees>,
+    last_node: u64,
+    indexes: IndexMap,
+    names: DbNames,
+) -> Opened<D>
     ensures begun { HasBegun log read last_node result.engine }
+    ensures indexes { result.engine.kept.indexes ≡ indexes }
+    ensures names { result.engine.kept.names ≡ names }
     ensures opening { result.opening ≡ read.opening }
 {
     let Recovered {
@@ -195,6 +205,8 @@ fn begin<D: Disk>(log: LogBuffer<D>, read: Recovered<LoadedTrees>, last_node: u6
         fault: None,
         since: later(log.end(), redo),
         checkpoints: Checkpointer::new(checkpoint),
+        indexes,
+        names,
     };
     Opened {
         engine: Engine {
@@ -223,6 +235,9 @@ fn go_on<D: Disk>(
         → IfOk result (λ opened. IsOpenedSafely file_max reads opened.opening (D.history (disk_of opened.engine)) opened.engine) }
     ensures entry { D.observable ≡ true → (reads : Reads) → WasRead D.observable reads read → (now (D.history disk)).reads ≡ reads
         → IfOk result (λ opened. KeepsEntry (D.history disk) (D.history (disk_of opened.engine))) }
+    ensures indexes { (reads : Reads) → WasRead D.observable reads read → (D.observable ≡ true → (now (D.history disk)).reads ≡ reads)
+        → IfOk result (λ opened. KeepsIndexes opened.engine) }
+    ensures names { IfOk result (λ opened. KeepsNames opened.engine) }
     ensures bounds { IfOk result (λ opened. CanGoOn opened.engine) }
     ensures faults { IfOk result (λ opened. D.faults disk ≤ D.faults (disk_of opened.engine)) }
     ensures stopped_entry { D.observable ≡ true → (reads : Reads) → WasRead D.observable reads read → (now (D.history disk)).reads ≡ reads
@@ -241,6 +256,14 @@ fn go_on<D: Disk>(
         let error = OpenErr::Memory;
         return Err(Stopped { error, disk });
     }
+    let Ok(indexes) = IndexMap::read(alloc, &read.trees) else {
+        let error = OpenErr::Memory;
+        return Err(Stopped { error, disk });
+    };
+    let Ok(names) = DbNames::read(alloc, &read.trees) else {
+        let error = OpenErr::Memory;
+        return Err(Stopped { error, disk });
+    };
     let mut disk = disk;
     if settle(&mut disk, read.tail).is_err() {
         return Err(Stopped {
@@ -249,7 +272,7 @@ fn go_on<D: Disk>(
         });
     }
     match begin_log(alloc, disk, read.tail, file_max) {
-        Ok(log) => Ok(begin(log, read, last_node)),
+        Ok(log) => Ok(begin(log, read, last_node, indexes, names)),
         Err(disk) => Err(Stopped {
             error: OpenErr::Memory,
             disk,
@@ -268,6 +291,8 @@ impl<D: Disk> Engine<D> {
         ensures opened { IfOk result (λ opened. IsOpened config.now.file_max D.observable (now (D.history disk)).reads (now (D.history (disk_of opened.engine))) opened.engine opened.opening) }
         ensures crash { D.observable ≡ true → IfOk result (λ opened. IsOpenedSafely config.now.file_max (now (D.history disk)).reads opened.opening (D.history (disk_of opened.engine)) opened.engine) }
         ensures entry { D.observable ≡ true → IfOk result (λ opened. KeepsEntry (D.history disk) (D.history (disk_of opened.engine))) }
+        ensures indexes { IfOk result (λ opened. KeepsIndexes opened.engine) }
+        ensures names { IfOk result (λ opened. KeepsNames opened.engine) }
         ensures bounds { IfOk result (λ opened. CanGoOn opened.engine) }
         ensures faults { IfOk result (λ opened. D.faults disk ≤ D.faults (disk_of opened.engine)) }
         ensures stopped_entry { D.observable ≡ true → IfErr result (λ stopped. KeepsEntry (D.history disk) (D.history stopped.disk)) }

@@ -35,8 +35,9 @@ use Rattle.engine.specs.declared.kept.Kept.{Kept}
 use Rattle.engine.specs.Environment.{IsValid}
 use Rattle.engine.specs.Limits.{IsWithin, Reach}
 use Rattle.engine.specs.Opening.{reach_in}
-use Rattle.engine.specs.Whole.{AreTrees, IsAt as EngineIsAt, IsOpened as EngineIsOpened, IsOpenedSafely as EngineIsOpenedSafely, contents, reach_of as engine_reach}
+use Rattle.engine.specs.Whole.{AreTrees, IsAt as EngineIsAt, IsOpened as EngineIsOpened, IsOpenedSafely as EngineIsOpenedSafely, contents, reach_of as engine_reach, KeepsIndexes, KeepsNames}
 use Rattle.engine.proofs.TxnGives.{gives_alone, gives_with_none}
+use Rattle.environment.proofs.Databases.{known_from}
 use Rattle.environment.specs.Valid.{AreBare, AreAt, IsValidWith, Lives, active_number, owed_by, fitting, waiting_in}
 use Rattle.environment.specs.Whole.{IsAt, IsOpened, IsOpenedSafely, reach_of}
 use Rattle.environment.specs.Written.{AreNamesOf}
@@ -105,9 +106,9 @@ module _ {D : Type 0} where
 
   -- an environment in which nobody is under way is where its engine is
   pub wide_at : (most : ℕ) (observable : Bool) (state : State) (engine : Engine D) (sessions : Sessions) (entries : List (TxnId × OwnNames)) (st : Standing) → EngineIsAt most observable state engine st →
-      ((p : Alone) → AreSessionsAt sessions (alone p)) → AreNamesOf entries (λ t. []) (committed (cells_of engine.trees)) →
+      ((p : Alone) → AreSessionsAt sessions (alone p)) → AreNamesOf entries (λ t. []) (committed (cells_of engine.trees)) → KeepsIndexes engine → KeepsNames engine →
       AreAt most observable state engine.trees.log (cells_of engine.trees) (has_tree_of engine.trees) (fitting engine.trees) engine.kept sessions entries st
-  wide_at most observable state engine sessions entries st here at names =
+  wide_at most observable state engine sessions entries st here at names has_indexes has_names =
       let p : Alone = here.at.alone_at in
       let is = here.at.here in
       let same : st ≡ alone p = here.at.st_is in
@@ -121,14 +122,19 @@ module _ {D : Type 0} where
         sessions_at = at p;
         apart = tt;
         checkpoint = is.checkpoint;
-        valid = λ none.
-            wide_valid observable state engine.trees engine.kept entries p (is.valid none) (here.trees (ap (λ (s : Standing). s.fault) same ∙ none)) is.last_txn is.last_db (is.numbers none) names;
+        databases = λ none. known_from (committed (cells_of engine.trees)) p.last_db (alone p) engine.kept (its none).makes has_indexes has_names;
+        valid = its;
       })
+    where
+      its : here.at.alone_at.fault ≡ None → IsValidWith observable state engine.trees.log (cells_of engine.trees) (has_tree_of engine.trees) (fitting engine.trees) engine.kept.since entries (alone here.at.alone_at)
+      its none =
+          wide_valid observable state engine.trees engine.kept entries here.at.alone_at (here.at.here.valid none) (here.trees (ap (λ (s : Standing). s.fault) here.at.st_is ∙ none)) here.at.here.last_txn here.at.here.last_db (here.at.here.numbers none) names
 
   pub wide : (most : ℕ) (observable : Bool) (state : State) (e : Environment D) (st : Standing) → EngineIsAt most observable state e.engine st →
-      ((p : Alone) → AreSessionsAt e.sessions (alone p)) → AreNamesOf e.written.by_txn.entries (λ t. []) (committed (cells_of e.engine.trees)) → IsAt most observable state e st
-  wide most observable state e st here at names = record {
-    at = wide_at most observable state e.engine e.sessions e.written.by_txn.entries st here at names;
+      ((p : Alone) → AreSessionsAt e.sessions (alone p)) → AreNamesOf e.written.by_txn.entries (λ t. []) (committed (cells_of e.engine.trees)) → KeepsIndexes e.engine → KeepsNames e.engine →
+      IsAt most observable state e st
+  wide most observable state e st here at names has_indexes has_names = record {
+    at = wide_at most observable state e.engine e.sessions e.written.by_txn.entries st here at names has_indexes has_names;
     right = λ none. subst AreRight (sym here.at.st_is) (alone-is_right here.at.alone_at);
     bare = λ none. subst AreBare (sym here.at.st_is) tt;
   }
@@ -149,22 +155,22 @@ module _ {D : Type 0} where
   -- ---- an environment that was opened
 
   pub opened_wide : (most : ℕ) (observable : Bool) (files : Files) (state : State) (e : Environment D) (opening : Store) → EngineIsOpened most observable files state e.engine opening →
-      ((p : Alone) → AreSessionsAt e.sessions (alone p)) → e.written.by_txn.entries ≡ [] → IsOpened most observable files state e opening
-  opened_wide most observable files state e opening opened at none = (
+      ((p : Alone) → AreSessionsAt e.sessions (alone p)) → e.written.by_txn.entries ≡ [] → KeepsIndexes e.engine → KeepsNames e.engine → IsOpened most observable files state e opening
+  opened_wide most observable files state e opening opened at none has_indexes has_names = (
     opened.0,
     record {
       starts = opened.1.starts;
-      here = wide most observable state e opened.0 opened.1.here at (names_none e.written.by_txn.entries (committed (cells_of e.engine.trees)) none);
+      here = wide most observable state e opened.0 opened.1.here at (names_none e.written.by_txn.entries (committed (cells_of e.engine.trees)) none) has_indexes has_names;
       reach = subst (λ (r : Reach). IsWithin r (reach_in opened.1.starts.held opened.1.starts.meaning)) (sym (reach_alone e opened.1.here.at.alone_at (at opened.1.here.at.alone_at))) opened.1.reach;
     },
   )
 
   pub opened_wide_safely : (most : ℕ) (files : Files) (opening : Store) (history : History) (e : Environment D) → EngineIsOpenedSafely most files opening history e.engine →
-      ((p : Alone) → AreSessionsAt e.sessions (alone p)) → e.written.by_txn.entries ≡ [] → IsOpenedSafely most files opening history e
-  opened_wide_safely most files opening history e opened at none = record {
+      ((p : Alone) → AreSessionsAt e.sessions (alone p)) → e.written.by_txn.entries ≡ [] → KeepsIndexes e.engine → KeepsNames e.engine → IsOpenedSafely most files opening history e
+  opened_wide_safely most files opening history e opened at none has_indexes has_names = record {
     st = opened.st;
     starts = opened.starts;
-    here = wide most true (now history) e opened.st opened.here at (names_none e.written.by_txn.entries (committed (cells_of e.engine.trees)) none);
+    here = wide most true (now history) e opened.st opened.here at (names_none e.written.by_txn.entries (committed (cells_of e.engine.trees)) none) has_indexes has_names;
     reach = subst (λ (r : Reach). IsWithin r (reach_in opened.starts.held opened.starts.meaning)) (sym (reach_alone e opened.here.at.alone_at (at opened.here.at.alone_at))) opened.reach;
     stable = opened.stable;
     guarded = opened.guarded;

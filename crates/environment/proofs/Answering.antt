@@ -1,5 +1,5 @@
 -- An environment goes on by a step.
-use Rattle.std.proofs.Common.{◌≡◌, ℕ, ◌≤◌, ◌+◌, ◌⊎◌, inl, inr, Bool, true, false, cond, nat_lt, List, [], ◌∷◌, ◌++◌, Option, None, Some, Result, Ok, Err, OnErr, length, filter, refl, ap, sym, ◌∙◌, subst, arith}
+use Rattle.std.proofs.Common.{◌≡◌, ◌*◌, ℕ, ◌≤◌, ◌<◌, ◌+◌, ◌⊎◌, inl, inr, Bool, true, false, cond, nat_lt, List, [], ◌∷◌, ◌++◌, Option, None, Some, Result, Ok, Err, OnErr, length, filter, refl, ap, sym, ◌∙◌, subst, arith}
 use Rattle.std.specs.declared.alloc.AllocError.{AllocError}
 use Rattle.std.proofs.lemmas.Bool.{ltb-true}
 use Rattle.std.proofs.lemmas.List.{append-nil}
@@ -19,14 +19,14 @@ use Rattle.je_answers.specs.Journal.{answers_some, attempt_of, is_disk_fault}
 use Rattle.je_answers.specs.Written.{written_by as written_out}
 use Rattle.log_file.specs.Log.{Log}
 use Rattle.log_buffer.specs.declared.buffer.LogBuffer.{LogBuffer}
-use Rattle.log_buffer.specs.Buffer.{disk_of as disk_below, end_of}
+use Rattle.log_buffer.specs.Buffer.{disk_of as disk_below, end_of, has_failed}
 use Rattle.record_tree.specs.declared.tree_change.TreeChange.{TreeChange}
 use Rattle.record_tree.specs.declared.tree_err.TreeErr.{TreeErr}
 use Rattle.record_tree.specs.declared.tree_err.TreeErr.TheVariants.{Fault as NoDisk, Full, IdsEnded as NoNumber, Memory}
 use Rattle.record_tree.specs.Logged.{most_entries}
 use Rattle.in_tree.specs.declared.logged_trees.LogTrees.{LogTrees}
-use Rattle.in_tree.specs.Observed.{cells_of, limit_in, waits_of}
-use Rattle.in_tree.proofs.Far.{full_is_far}
+use Rattle.in_tree.specs.Observed.{cells_of, waits_of}
+use Rattle.in_tree.proofs.Far.{filling_is_far, full_is_far}
 use Rattle.active_txns.specs.Own.{has_changes}
 use Rattle.sessions.specs.declared.all_sessions.Sessions.{Sessions}
 use Rattle.sessions.specs.AtStanding.{AreSessionsAt, owing}
@@ -49,7 +49,9 @@ use Rattle.crash_recovery.specs.Recovery.{RecoversLog}
 use Rattle.store_model.specs.declared.record_change.RecordChange.{RecordChange}
 use Rattle.environment.specs.Steps.{CallsTo, HasCalled, IsLogStep, RecoversWith}
 use Rattle.environment.specs.Valid.{owed_by}
-use Rattle.environment.specs.Whole.{HasDone, HasLimit, IsAt, disk_of, end_file, reach_of}
+use Rattle.environment.specs.Whole.{HasDone, HasLimit, IsAt, disk_of, end_file, limit_found, reach_of}
+use Rattle.je_lsn.specs.Naming.{last_file}
+use Rattle.txn_core.specs.Planning.{makes_index}
 
 -- ---- what is owed
 
@@ -72,10 +74,16 @@ owed_with (Some a) st = by_test (has_changes (st.own a.txn.0))
 module _ {D : Type 0} where
   -- ---- the limit is a bound
 
-  limit_bounded : (trees : LogTrees D) (s : Sessions) (node owed : ℕ) (changes : List Change) (planned : List TreeChange) → owed ≤ owed_by s + 1 → length planned ≤ most_changed changes →
+  -- where there is no room the log ends far behind
+  found_is_far : (fills : Bool) (trees : LogTrees D) (planned : List TreeChange) (owed : ℕ) → limit_found fills trees planned owed ≡ Some Full →
+      (has_failed trees.log ≡ false) × (last_file < (end_of trees.log).file + (waits_of trees + (130 * length planned + owed)))
+  found_is_far true trees planned owed full = filling_is_far trees planned owed full
+  found_is_far false trees planned owed full = full_is_far trees planned owed full
+
+  limit_bounded : (fills : Bool) (trees : LogTrees D) (s : Sessions) (node owed : ℕ) (changes : List Change) (planned : List TreeChange) → owed ≤ owed_by s + 1 → length planned ≤ most_changed changes →
       most_entries (most_changed changes) + 1 ≤ most_logged changes →
-      IsBounded (record { file = end_file trees s; node = node }) changes (limit_by (limit_in trees planned owed) node (length planned))
-  limit_bounded trees s node owed changes planned within few logged = by_found (limit_in trees planned owed) refl
+      IsBounded (record { file = end_file trees s; node = node }) changes (limit_by (limit_found fills trees planned owed) node (length planned))
+  limit_bounded fills trees s node owed changes planned within few logged = by_found (limit_found fills trees planned owed) refl
     where
       ended_by : (b : Bool) → nat_lt last_number (node + numbers_for (length planned)) ≡ b → IsBounded (record { file = end_file trees s; node = node }) changes (cond b (Some IdsEnded) None)
       ended_by true e = let past = ltb-true last_number (node + numbers_for (length planned)) e in inr (inr (refl, omega (arith, past, few)))
@@ -84,10 +92,10 @@ module _ {D : Type 0} where
       ended : IsBounded (record { file = end_file trees s; node = node }) changes (cond (nat_lt last_number (node + numbers_for (length planned))) (Some IdsEnded) None)
       ended = ended_by (nat_lt last_number (node + numbers_for (length planned))) refl
 
-      by_found : (found : Option TreeErr) → limit_in trees planned owed ≡ found → IsBounded (record { file = end_file trees s; node = node }) changes (limit_by found node (length planned))
+      by_found : (found : Option TreeErr) → limit_found fills trees planned owed ≡ found → IsBounded (record { file = end_file trees s; node = node }) changes (limit_by found node (length planned))
       by_found None is = ended
       by_found (Some Full) is =
-          let far = full_is_far trees planned owed is in
+          let far = found_is_far fills trees planned owed is in
           let end : end_file trees s ≡ (end_of trees.log).file + waits_of trees + owed_by s = ap (λ (b : Bool). cond b 0 ((end_of trees.log).file + waits_of trees + owed_by s)) far.0 in
           let past = far.1 in
           inr (inl (refl, omega (arith, end, past, few, logged, within)))
@@ -99,7 +107,7 @@ module _ {D : Type 0} where
   bounded e owed [] limit within has = inl has
   bounded e owed (change ∷ more) limit within has =
       subst (IsBounded (reach_of e) (change ∷ more)) (sym has.is)
-      (limit_bounded e.engine.trees e.sessions e.engine.kept.last_node owed (change ∷ more) has.planned within
+      (limit_bounded (makes_index (change ∷ more)) e.engine.trees e.sessions e.engine.kept.last_node owed (change ∷ more) has.planned within
       (planned_few has.planned e.engine.kept.last_db (change ∷ more) (committed (cells_of e.engine.trees)) has.rows) (omega arith))
 
   -- reaching no farther is reaching no farther with more changes

@@ -37,10 +37,10 @@ use Rattle.txn_views.specs.Seen.{is_right_change, seen_rows}
 use Rattle.txn_views.proofs.RightLaws.{changes-are_right}
 use Rattle.environment.specs.declared.call_plan.CallPlan.{CallPlan}
 use Rattle.environment.specs.declared.environment.Environment.{Environment}
-use Rattle.environment.specs.Access.{IsOnDb, IsPlannedFor}
+use Rattle.environment.specs.Access.{AreThere, IsOnDb, IsPlannedFor}
 use Rattle.environment.specs.Auto.{IsAutoAt, IsAutoLog, IsLoggedAuto, IsPlannedAuto, alone_in, changes_auto, outcome_auto}
 use Rattle.environment.specs.Changing.{MayMake}
-use Rattle.environment.specs.Valid.{active_number, fitting}
+use Rattle.environment.specs.Valid.{KnowsDatabases, active_number, fitting}
 use Rattle.environment.specs.Writing.{IsValidAt}
 use Rattle.environment.proofs.AutoEnds.{outcome_is_auto}
 use Rattle.environment.proofs.AutoPlans.{planned_log}
@@ -51,7 +51,8 @@ use Rattle.environment.proofs.ChangeLaws.{Changed}
 use Rattle.environment.proofs.LateLaws.{may_wait}
 use Rattle.environment.proofs.LoggableLaws.{own_loggable}
 use Rattle.environment.proofs.OwnLaws.{not_refused_there}
-use Rattle.environment.proofs.PlanLaws.{db_there, number_is, seen_on}
+use Rattle.environment.proofs.BesideLaws.{at_db, db_there}
+use Rattle.environment.proofs.PlanLaws.{number_is, seen_on}
 use Rattle.environment.proofs.SeenNames.{seen_named}
 
 -- ---- its plan
@@ -83,7 +84,8 @@ module _ {D : Type 0} (most : ℕ) (observable : Bool) (history : D → History)
 
   pub on_there : IsOnDb there db found g
   on_there = record {
-    alone = on.alone;
+    over = on.over;
+    indexes = on.indexes;
     number = on.number;
     kind = on.kind;
     name = on.name;
@@ -92,6 +94,10 @@ module _ {D : Type 0} (most : ℕ) (observable : Bool) (history : D → History)
     named = on.named;
     above = on.above;
   }
+
+  -- and its databases are known
+  pub knows_there : KnowsDatabases there e.engine.kept
+  knows_there = may.at.databases may.valid
 
   -- its number
   pub same_txn : a.txn ≡ record { 0 = e.engine.kept.last_txn + 1 }
@@ -102,19 +108,23 @@ module _ {D : Type 0} (most : ℕ) (observable : Bool) (history : D → History)
     abbrev valid_ : IsValidAt observable history e st
     valid_ = may.at.valid may.valid
 
+    there_ : AreThere st g
+    there_ = db_there (committed (cells_of e.engine.trees)) st valid_.makes e.engine.kept (may.at.databases may.valid) db found g on
+
     seen_ : AreSeenBy st a g (cells_of e.engine.trees)
-    seen_ = seen_on e.engine.trees st may.sound valid_.makes valid_.writes valid_.may rising a g (db_there st db found g on).own
+    seen_ = seen_on e.engine.trees st may.sound valid_.makes valid_.writes valid_.may rising a g (at_db st db found g on)
 
     named_ : AllByRecursion (λ (r : Row). IsName r.0) (seen_rows a.level a.txn (cells_of e.engine.trees g.db))
     named_ =
         seen_named valid_.log (end_of e.engine.trees.log) (cells_of e.engine.trees) st.last_txn st.last_db (active_number st.actives) st.own valid_.gives valid_.has.is_log valid_.writes may.sound.own_active
-        g.database.name g.db (number_is (committed (cells_of e.engine.trees)) st valid_.makes (g.db, g.database) (db_there st db found g on).own) on.above (rising g.db) a.level a.txn
+        g.database.name g.db (number_is (committed (cells_of e.engine.trees)) st valid_.makes (g.db, g.database) (at_db st db found g on)) on.above (rising g.db) a.level a.txn
 
     refused_none : (index_refusal call g.database.index ≡ None) × (database_refuses g.database.kind call ≡ None)
     refused_none = not_refused_there st session call db found None g (record {
       late = may.late;
       target = may.target;
-      alone = on.alone;
+      over = on.over;
+      indexes = on.indexes;
       number = on.number;
       kind = on.kind;
       name = on.name;
@@ -130,11 +140,11 @@ module _ {D : Type 0} (most : ℕ) (observable : Bool) (history : D → History)
 
     pub may_be_made : MayMake st (changes_auto st session call g)
     may_be_made =
-        may_make st a g (outcome_auto st session call g).changes (db_there st db found g on)
+        may_make st a g (outcome_auto st session call g).changes there_
         (subst (λ (p : List Pair). AllByRecursion (λ c. is_right_change g.database.kind c ≡ true) (evaluation g.database.kind call g.at p).changes) seen_.pairs
         (changes-are_right g.database.kind call g.at (seen_rows a.level a.txn (cells_of e.engine.trees g.db)) refuses_none seen_.right))
         (own_loggable st a call g (cells_of e.engine.trees) seen_ (rising g.db) named_ (may_wait call may.db may.records) refuses_none)
-        (one_key st g g.over (outcome_auto st session call g).changes (db_there st db found g on).over
+        (one_key st g g.over (outcome_auto st session call g).changes there_.over
         (λ i is dup. index_key g.database.kind call g.at (view_of st a g) i dup (may_wait call may.db may.records) (ap (index_refusal call) (sym is) ∙ refused_none.0)))
 
 -- ---- what is logged of its changes

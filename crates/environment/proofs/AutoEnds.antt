@@ -38,6 +38,7 @@ use Rattle.standing_laws.proofs.Each.{all_append}
 use Rattle.standing_laws.proofs.Stopped.{LeavesSame, victims_apart, victims_leave}
 use Rattle.engine.specs.Limits.{IsWithin}
 use Rattle.engine.proofs.CalmAnswers.{IsCalm, faultless, unnumbered}
+use Rattle.environment.proofs.Databases.{known_leaves}
 use Rattle.environment.proofs.PlacesLaws.{gone_again}
 use Rattle.environment.specs.declared.environment.Environment.{Environment}
 use Rattle.environment.specs.declared.outcome.Outcome.{Outcome as Told}
@@ -146,6 +147,7 @@ module _ {D : Type 0} (observable : Bool) (history : D → History) (sync_out re
           sessions_at = stop.stands;
           apart = victims_apart there a line call g stop.need victims may.at.apart (no_wait session st.actives st.waiting may.outside may.sound.waits.each);
           checkpoint = may.at.checkpoint ∙ sym leaves.checkpoint;
+          databases = λ none. known_leaves there after e.engine.kept leaves (may.at.databases may.valid);
           valid = λ none.
               let state = now (history (disk_below e.engine.trees.log)) in
               valid_leaves observable state e.engine.trees.log (cells_of e.engine.trees) (has_tree_of e.engine.trees) (fitting e.engine.trees) e.engine.kept.since e.written.by_txn.entries there after leaves
@@ -236,6 +238,7 @@ module _ {D : Type 0} (observable : Bool) (history : D → History) (sync_out re
           sessions_at = at;
           apart = may.at.apart;
           checkpoint = may.at.checkpoint;
+          databases = may.at.databases;
           valid = may.at.valid;
         };
         log = same_buffer e.engine.trees.log;

@@ -41,6 +41,7 @@ use Rattle.standing_laws.specs.Right.{HaveOwnWaits, IsWaitIn, is_active, txn_id}
 use Rattle.standing_laws.proofs.Stopped.{LeavesSame}
 use Rattle.engine.specs.Limits.{IsWithin}
 use Rattle.engine.specs.Environment.{RecoversStore}
+use Rattle.environment.proofs.Databases.{known_leaves}
 use Rattle.environment.specs.declared.environment.Environment.{Environment}
 use Rattle.environment.specs.declared.written.OwnNames.{OwnNames}
 use Rattle.environment.specs.Calls.{IsOnRecords}
@@ -164,6 +165,7 @@ module _ {D : Type 0} where
     sessions_at = sessions_now;
     apart = apart;
     checkpoint = at.checkpoint ∙ sym same.checkpoint;
+    databases = λ none. known_leaves (record st { last_txn = last }) after e.engine.kept same (at.databases (sym same.fault ∙ none));
     valid = λ none.
         let state = now (history (disk_below e.engine.trees.log)) in
         valid_leaves observable state e.engine.trees.log (cells_of e.engine.trees) (has_tree_of e.engine.trees) (fitting e.engine.trees) e.engine.kept.since e.written.by_txn.entries (record st { last_txn = last }) after same

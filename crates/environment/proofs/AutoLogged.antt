@@ -52,10 +52,12 @@ use Rattle.standing_laws.proofs.CursorDatabases.{all_with}
 use Rattle.sessions.proofs.CursorStores.{sessions_changed, under_changed}
 use Rattle.txn_core.specs.declared.planned_changes.PlannedChanges.{PlannedChanges}
 use Rattle.txn_core.specs.Known.{committed}
-use Rattle.txn_core.specs.Planning.{IsPlannedLog, gone_by}
+use Rattle.txn_core.specs.Planning.{IsPlannedLog, gone_by, is_index, makes_index}
+use Rattle.txn_core.proofs.NoIndexes.{named_no_index}
 use Rattle.txn_core.specs.Totals.{totals_of}
 use Rattle.txn_core.specs.Transactions.{LeavesWrites}
 use Rattle.txn_log.specs.Buffers.{HasAdded}
+use Rattle.txn_log.specs.Committing.{MakesStore}
 use Rattle.txn_log.specs.Own.{tree_of}
 use Rattle.engine.specs.declared.engine.Engine.{Engine}
 use Rattle.engine.specs.Contents.{HasLogged, known, rows_after, Checkpoints}
@@ -73,14 +75,15 @@ use Rattle.environment.specs.Auto.{IsAutoAt, IsLoggedAuto, alone_in, changes_aut
 use Rattle.environment.specs.Calls.{IsOnRecords}
 use Rattle.environment.specs.Changing.{IsRightIn}
 use Rattle.environment.specs.Steps.{HasCome, HasNotCome, HasStepped, IsLogStep, StandsAt}
-use Rattle.environment.specs.Valid.{IsValidWith, owed_by, fitting}
-use Rattle.environment.specs.Whole.{HasLimit, reach_of}
+use Rattle.environment.specs.Valid.{IsValidWith, owed_by, fitting, KnowsDatabases}
+use Rattle.environment.specs.Whole.{HasLimit, limit_found, reach_of}
 use Rattle.environment.proofs.Answering.{owed_is}
 use Rattle.environment.proofs.AutoEnds.{next, none_yet, outcome_is_auto, sessions_closed}
 use Rattle.environment.proofs.ChangeLaws.{Changed}
 use Rattle.environment.proofs.AutoLaws.{back, come_ready, near_fewer, own_back, own_gone, same_leaves, valid_leaves}
-use Rattle.environment.proofs.AutoRows.{AreOnly, all_free, lone_valid}
+use Rattle.environment.proofs.AutoRows.{AreOnly, all_free, lone_valid, stays}
 use Rattle.environment.proofs.CatalogEnds.{alone_at}
+use Rattle.environment.proofs.Databases.{AreSameMaps, known_moved, known_leaves, still_known}
 use Rattle.environment.proofs.CatalogLogged.{are_of, drawn_same, has_limit, logged_step, stands_on, tried_step, undrawn_same, with_engine, within_below}
 use Rattle.environment.proofs.Standing.{sessions_faulted}
 
@@ -143,6 +146,7 @@ module _ {D : Type 0} (observable : Bool) (history : D → History) (sync_out re
     sessions_at = sessions;
     apart = apart;
     checkpoint = at.checkpoint ∙ sym same.checkpoint;
+    databases = λ none. known_leaves st after e.engine.kept same (at.databases (sym same.fault ∙ none));
     valid = λ none. valid_leaves observable (now (history (disk_below e.engine.trees.log))) e.engine.trees.log (cells_of e.engine.trees) (has_tree_of e.engine.trees) (fitting e.engine.trees) e.engine.kept.since e.written.by_txn.entries st after same
         (at.valid (sym same.fault ∙ none));
   }
@@ -175,6 +179,9 @@ module _ {D : Type 0} (observable : Bool) (history : D → History) (sync_out re
 
     changes_eq : with_names cs_ ≡ all_
     changes_eq = sym (ap (λ (o : Outcome). o.changes) (outcome_is_auto observable history most e st session call g may)) ∙ log.changes
+
+    pub no_index : is_index log.change ≡ false
+    no_index = sym (ap makes_index changes_eq) ∙ named_no_index cs_
 
     some_ : ev_.changes ≢ []
     some_ none = filled (sym changes_eq ∙ ap (λ (l : List RecordChange). with_names (changes_with there_ a_ g l)) none)
@@ -251,7 +258,8 @@ module _ {D : Type 0} (observable : Bool) (history : D → History) (sync_out re
         HasStepped observable history sync_out read_out read_of most e (with_both e n s) (owing st + 1) all_ all_ (λ limit. IsDone ev_.changes limit there_ a_ ev_ answer × (◌≡◌ {A = List Victim} [] [])) x answer)
         (sym is ∙ after_some ev_.changes st there_ a_ call g ev_ answer some_) (record {
           limit = Found;
-          has_limit = has_limit e (owing st + 1) (alone_in st) session call planned log;
+          has_limit = subst (λ (b : Bool). HasLimit e (owing st + 1) all_ (limit_by (limit_found b e.engine.trees planned.changes.items (owing st + 1)) e.engine.kept.last_node (length planned.changes.items))) no_index
+              (has_limit e (owing st + 1) (alone_in st) session call planned log);
           answers = (done_some ev_.changes Found there_ a_ ev_ answer some_ answers, refl);
           here = restand most (with_engine e n) s old after stands leaves sessions apart;
           numbered = numbered;
@@ -311,9 +319,19 @@ module _ {D : Type 0} (observable : Bool) (history : D → History) (sync_out re
     abbrev Done_ : Standing
     Done_ = commits all_ (record st { last_txn = next_txn st.last_txn })
 
-    pub comes_logged : (n : Engine D) (s : Sessions) (commit : ℕ) → Logs_ n (Ok (Logged commit)) → Near_ n (Ok (Logged commit)) → LeavesOthers e.engine.trees n.trees planned (owing st + 1) → Closed s →
+    -- what is known of databases stays
+    known_still : (n : Engine D) → AreSameMaps e.engine.kept n.kept → KnowsDatabases st n.kept
+    known_still n maps = known_moved st e.engine.kept n.kept maps (may.at.databases may.valid)
+
+    known_logged : (n : Engine D) → planned.last_db ≤ LAST_DATABASE → HasLogged (contents_of e.engine) (contents_of n) planned → AreSameMaps e.engine.kept n.kept →
+        (later_db : ℕ) → MakesStore (committed (cells_of n.trees)) later_db Done_ → KnowsDatabases Done_ n.kept
+    known_logged n low has maps later_db makes =
+        let catalog : committed (cells_of n.trees) 0 ≡ rows_ 0 = has.rows 0 ∙ ap (λ (o : Option ℕ). rows_after planned.changes.items o rows_ 0) none_gone ∙ stays planned.changes.items rows_ above_all in
+        known_moved Done_ e.engine.kept n.kept maps (still_known rows_ (committed (cells_of n.trees)) st.last_db later_db st Done_ e.engine.kept (may.at.valid may.valid).makes makes catalog (may.at.databases may.valid))
+
+    pub comes_logged : (n : Engine D) (s : Sessions) (commit : ℕ) → Logs_ n (Ok (Logged commit)) → Near_ n (Ok (Logged commit)) → LeavesOthers e.engine.trees n.trees planned (owing st + 1) → AreSameMaps e.engine.kept n.kept → Closed s →
         HasCome observable history sync_out read_out read_of most e (with_both e n s) st session line call (Logged commit) []
-    comes_logged n s commit logs near leaves closed =
+    comes_logged n s commit logs near leaves maps closed =
         let number : commit ≡ st.commits + 1 = logs.0 ∙ ap (λ (x : ℕ). x + 1) may.at.commits in
         let with_own_ : Standing = with_outcome a_ call g ev_ (answered a_ call g there_) in
         let after : Standing = ended a_ (commits all_ with_own_) in
@@ -325,6 +343,7 @@ module _ {D : Type 0} (observable : Bool) (history : D → History) (sync_out re
         (sessions_changed e.sessions all_ st.last_db st (subst (AllByRecursion IsOfRecord) changes_eq (all_with cs_)) may.at.sessions_at)
         (logged_at observable history sync_out read_out read_of most e.engine.trees.log n.trees.log (contents_of e.engine) (contents_of n) (alone_in st) session call planned (alone_at most observable history e st may.at) may.valid below log logs.2 logs.1
         logs.4 logs.5)
+        (λ valid. known_logged n logs.2 logs.1 maps Done_.last_db (valid_logged n logs.2 logs.1 leaves logs.4 logs.5).makes)
         (λ valid. valid_logged n logs.2 logs.1 leaves logs.4 logs.5))
         same (sessions_closed observable history sync_out read_out read_of most e st session call g may s [] after closed refl
         (under_changed s.cursors all_ st.store st.last_db st.numbers (subst (AllByRecursion IsOfRecord) changes_eq (all_with cs_))) refl own_is (gone_again a_.session (moved call ev_.place (st.places a_.session)) st.places) refl refl) may.at.apart less
@@ -332,17 +351,17 @@ module _ {D : Type 0} (observable : Bool) (history : D → History) (sync_out re
         (logged_step observable history sync_out read_out read_of most e st session call planned may.at may.valid log logs.2 n logs.4)
 
     drawn_on : (n : Engine D) → Rattle.engine.specs.Contents.IsSame (Rattle.engine.specs.Contents.drawn_contents (contents_of e.engine)) (contents_of n) → Rattle.log_buffer.specs.Buffer.IsUnchanged e.engine.trees.log n.trees.log →
-        Rattle.engine.specs.Whole.AreSameCells e.engine.trees n.trees → StandsAt most observable history (with_engine e n) (record st { last_txn = next_txn st.last_txn })
-    drawn_on n same log_same cells = drawn_same observable history sync_out read_out read_of most e n st may.at below same log_same cells
+        Rattle.engine.specs.Whole.AreSameCells e.engine.trees n.trees → AreSameMaps e.engine.kept n.kept → StandsAt most observable history (with_engine e n) (record st { last_txn = next_txn st.last_txn })
+    drawn_on n same log_same cells maps = drawn_same observable history sync_out read_out read_of most e n st may.at below same log_same cells (λ calm. known_still n maps)
 
-    pub comes_full : (n : Engine D) (s : Sessions) → Logs_ n (Ok LogFull) → Near_ n (Ok LogFull) → Rattle.engine.specs.Whole.AreSameCells e.engine.trees n.trees → Closed s →
+    pub comes_full : (n : Engine D) (s : Sessions) → Logs_ n (Ok LogFull) → Near_ n (Ok LogFull) → Rattle.engine.specs.Whole.AreSameCells e.engine.trees n.trees → AreSameMaps e.engine.kept n.kept → Closed s →
         HasCome observable history sync_out read_out read_of most e (with_both e n s) st session line call LogFull []
-    comes_full n s logs near cells closed =
-        refused n s LogFull logs near (drawn_on n logs.1 logs.2 cells) closed refl refl (λ k. tt) (subst (λ (l : Option Answer). IsLogged (log_limit l) (Logged (st.commits + 1)) LogFull) (sym logs.0) refl) (inl (logs.2, refl))
+    comes_full n s logs near cells maps closed =
+        refused n s LogFull logs near (drawn_on n logs.1 logs.2 cells maps) closed refl refl (λ k. tt) (subst (λ (l : Option Answer). IsLogged (log_limit l) (Logged (st.commits + 1)) LogFull) (sym logs.0) refl) (inl (logs.2, refl))
 
-    pub comes_ended : (n : Engine D) (s : Sessions) → Logs_ n (Ok IdsEnded) → Near_ n (Ok IdsEnded) → Rattle.engine.specs.Whole.AreSameCells e.engine.trees n.trees → Closed s → e.engine.kept.last_db ≤ LAST_DATABASE →
+    pub comes_ended : (n : Engine D) (s : Sessions) → Logs_ n (Ok IdsEnded) → Near_ n (Ok IdsEnded) → Rattle.engine.specs.Whole.AreSameCells e.engine.trees n.trees → AreSameMaps e.engine.kept n.kept → Closed s → e.engine.kept.last_db ≤ LAST_DATABASE →
         HasCome observable history sync_out read_out read_of most e (with_both e n s) st session line call IdsEnded []
-    comes_ended n s logs near cells closed few = refused n s IdsEnded logs near (drawn_on n logs.1 logs.2 cells) closed refl refl (λ k. tt) (by_limit logs.0) (inl (logs.2, refl))
+    comes_ended n s logs near cells maps closed few = refused n s IdsEnded logs near (drawn_on n logs.1 logs.2 cells maps) closed refl refl (λ k. tt) (by_limit logs.0) (inl (logs.2, refl))
       where
         by_limit : (Found ≡ Some IdsEnded) ⊎ ((Found ≡ None) × (LAST_DATABASE < planned.last_db)) → IsLogged (log_limit Found) (Logged (st.commits + 1)) IdsEnded
         by_limit (inl is) = subst (λ (l : Option Answer). IsLogged (log_limit l) (Logged (st.commits + 1)) IdsEnded) (sym is) refl
@@ -362,17 +381,18 @@ module _ {D : Type 0} (observable : Bool) (history : D → History) (sync_out re
         (stands_on observable history sync_out read_out read_of most e n st (faulted_alone (alone_in st)) may.at (sessions_faulted e.sessions st st.begun may.at.sessions_at)
         (faulted_at most observable (now (history (disk_below e.engine.trees.log))) (now (history (disk_below n.trees.log))) e.engine.trees.log n.trees.log (contents_of e.engine) (contents_of n) (alone_in st) st.begun
         (alone_at most observable history e st may.at) logs.0 logs.3.tried.max)
+        (λ valid. absurd cc)
         (λ valid. absurd cc))
         same back_at may.at.apart (omega arith)
         (subst (λ (l : Option Answer). IsLogged (log_limit l) (Logged (st.commits + 1)) DiskFault) (sym logs.2) (inr refl)) tt refl
         (tried_step observable history sync_out read_out read_of most e st session call planned may.at may.valid log logs.1 n logs.3)
 
-    pub comes_not : (n : Engine D) (s : Sessions) (error : AllocError) → Logs_ n (Err error) → Near_ n (Err error) → Rattle.engine.specs.Whole.AreSameCells e.engine.trees n.trees → AreSessionsAt s st →
+    pub comes_not : (n : Engine D) (s : Sessions) (error : AllocError) → Logs_ n (Err error) → Near_ n (Err error) → Rattle.engine.specs.Whole.AreSameCells e.engine.trees n.trees → AreSameMaps e.engine.kept n.kept → AreSessionsAt s st →
         HasNotCome observable history sync_out read_out read_of most e (with_both e n s) st
-    comes_not n s error logs near cells back_at =
+    comes_not n s error logs near cells maps back_at =
         let same : LeavesSame st st = same_leaves st st refl refl refl refl refl refl refl refl refl in
         record {
-          here = restand most (with_engine e n) s st st (undrawn_same observable history sync_out read_out read_of most e n st may.at logs.0 logs.1 cells) same back_at may.at.apart;
+          here = restand most (with_engine e n) s st st (undrawn_same observable history sync_out read_out read_of most e n st may.at logs.0 logs.1 cells (λ calm. known_still n maps)) same back_at may.at.apart;
           log = logs.1;
           near =
               let less : owed_by s ≤ owed_by e.sessions = fewer_owed s st back_at (omega arith) in
@@ -389,13 +409,13 @@ module _ {D : Type 0} (observable : Bool) (history : D → History) (sync_out re
     closed_faulted s at = record { actives = at.actives ∙ back_actives; own = at.own ∙ own_gone a_.txn.0 st.own none_own_yet; places = placed_again s.cursors st session may.sound may.outside at.places; waiting = at.waiting; locks = tt }
 
     -- an answer, behind which its transaction has ended
-    pub comes_closed : (n : Engine D) (s : Sessions) (answer : Answer) → Logs_ n (Ok answer) → Near_ n (Ok answer) → LeavesCells e.engine.trees n.trees planned (owing st + 1) (Ok answer) → Closed s →
+    pub comes_closed : (n : Engine D) (s : Sessions) (answer : Answer) → Logs_ n (Ok answer) → Near_ n (Ok answer) → LeavesCells e.engine.trees n.trees planned (owing st + 1) (Ok answer) → AreSameMaps e.engine.kept n.kept → Closed s →
         e.engine.kept.last_db ≤ LAST_DATABASE → HasCome observable history sync_out read_out read_of most e (with_both e n s) st session line call answer []
-    comes_closed n s (Logged commit) logs near leaves closed few = comes_logged n s commit logs near leaves closed
-    comes_closed n s LogFull logs near leaves closed few = comes_full n s logs near leaves closed
-    comes_closed n s IdsEnded logs near leaves closed few = comes_ended n s logs near leaves closed few
-    comes_closed n s DiskFault logs near leaves closed few = comes_failed n s logs near (closed_faulted s closed)
-    comes_closed n s answer logs near leaves closed few = absurd logs
+    comes_closed n s (Logged commit) logs near leaves maps closed few = comes_logged n s commit logs near leaves maps closed
+    comes_closed n s LogFull logs near leaves maps closed few = comes_full n s logs near leaves maps closed
+    comes_closed n s IdsEnded logs near leaves maps closed few = comes_ended n s logs near leaves maps closed few
+    comes_closed n s DiskFault logs near leaves maps closed few = comes_failed n s logs near (closed_faulted s closed)
+    comes_closed n s answer logs near leaves maps closed few = absurd logs
 
   -- what is told
   pub told_come : (most : ℕ) (e new : Environment D) (st : Standing) (session line : ℕ) (call : Call) (answer : Answer) (told : Answer) (victims : List Victim) → told ≡ answer → victims ≡ [] →

@@ -91,8 +91,8 @@ module _ (known : Known) (p : Alone) (session : ℕ) (call : Call) (planned : Pl
     may = λ few. records_may_be_logged known.rows known.last_db (with_names (c ∷ cs)) (may_log known.rows known.last_db st makes (c ∷ cs) may.right);
     last_db = let last = log.last_db_is in let none = made_ in omega (arith, last, none);
     totals = ap₂ (λ (d r : ℕ). let t : Totals = record { databases = d; records = r } in t) databases_ records_;
-    there = subst (AllByRecursion (λ (e : TreeChange). has_number (numbers_of known.rows) e.db ≡ true)) (sym log.changes) (all_there known.rows known.last_db st makes (c ∷ cs) may.right);
+    there = λ plain. subst (AllByRecursion (λ (e : TreeChange). has_number (numbers_of known.rows) e.db ≡ true)) (sym log.changes) (all_there known.rows known.last_db st makes (c ∷ cs) may.right);
     made = λ few d. ap (is_made d) log.changes ∙ makes_none d own_ ∙ sym (ap (λ (b : Bool). b && (d == planned.last_db)) (ap (nat_lt known.last_db) log.last_db_is ∙ not_under known.last_db));
     gone_is = log.gone ∙ none_goes known.rows c;
-    few = log.few;
+    few = λ plain. log.few;
   }

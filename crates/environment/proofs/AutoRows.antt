@@ -134,7 +134,7 @@ free_names is_active own t planned only =
 
 -- ---- the catalog stays
 
-stays : (planned : List TreeChange) (rows : Rows) → AllByRecursion (λ c. c.db ≢ 0) planned → rows_changed (map (row_by 0) planned) rows 0 ≡ rows 0
+pub stays : (planned : List TreeChange) (rows : Rows) → AllByRecursion (λ c. c.db ≢ 0) planned → rows_changed (map (row_by 0) planned) rows 0 ≡ rows 0
 stays [] rows above = refl
 stays (c ∷ cs) rows above = stays cs (row_changed (row_by 0 c) rows) above.1 ∙ row_changed-there (row_by 0 c) rows 0 (λ e. above.0 (sym e))
 

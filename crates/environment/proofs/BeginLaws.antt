@@ -151,6 +151,7 @@ module _ {D : Type 0} where
     sessions_at = sessions_now;
     apart = at.apart;
     checkpoint = at.checkpoint;
+    databases = at.databases;
     valid = λ none. valid_begun observable (now (history (disk_below e.engine.trees.log))) e.engine.trees.log (cells_of e.engine.trees) (has_tree_of e.engine.trees) (fitting e.engine.trees) e.engine.kept.since e.written.by_txn.entries st a sound left is (at.valid none);
   }
 
@@ -167,6 +168,7 @@ module _ {D : Type 0} where
     sessions_at = same;
     apart = at.apart;
     checkpoint = at.checkpoint;
+    databases = at.databases;
     valid = at.valid;
   }
 

@@ -1,7 +1,9 @@
 -- How a change of the catalog ends where others are under way.
 use Rattle.std.proofs.Common.{◌≡◌, ◌∙◌, ◌⊎◌, inl, ◌≤◌, ◌<◌, ◌+◌, ℕ, Bool, true, false, true≢false, cond, nat_lt, List, [], ◌∷◌, Option, None, Some, Ok, Err, ap, refl, sym, subst, arith}
 use Rattle.txn_log.proofs.AtStandingLaws.{same_under}
-use Rattle.std.specs.Prelude.{IfNone, IfSome}
+use Rattle.std.specs.Prelude.{IfNone, IfOk, IfSome, Result, is_some, length, nat_le}
+use Rattle.std.specs.List.{list_any}
+use Rattle.store_model.specs.Indexes.{is_index_of}
 use mathlib.Core.Path.{fun_ext}
 use Rattle.log_buffer.specs.Flip.{pos_lsn}
 use Rattle.std.specs.declared.alloc.AllocError.{AllocError}
@@ -9,20 +11,18 @@ use Rattle.std.proofs.lemmas.Bool.{lt-ltb}
 use Rattle.je_disk.specs.Moments.{History, now}
 use Rattle.je_order.specs.declared.txn_id.TxnId.{TxnId}
 use Rattle.store_model.specs.declared.store.Database.{Database}
-use Rattle.store_model.specs.declared.store.TheConstants.{LAST_TXN}
+use Rattle.store_model.specs.declared.store.TheConstants.{LAST_TXN, MOST_DATABASES}
 use Rattle.store_model.specs.declared.answer.Answer.{Answer}
-use Rattle.store_model.specs.declared.answer.Answer.TheVariants.{DatabaseInUse, IdsEnded, DiskFault}
+use Rattle.store_model.specs.declared.answer.Answer.TheVariants.{DatabaseInUse, IdsEnded, DiskFault, ReadOnlyIndex, TooMany}
 use Rattle.store_model.specs.declared.answer.Fault.{Fault}
 use Rattle.store_model.specs.declared.answer.Fault.TheVariants.{Disk}
 use Rattle.store_model.specs.declared.call.Call.{Call}
-use Rattle.store_model.specs.declared.call.Call.TheVariants.{Create, Remove, Rename, Truncate}
+use Rattle.store_model.specs.declared.call.Call.TheVariants.{Create, CreateIndex, Remove, Rename, Truncate}
 use Rattle.store_model.specs.declared.change.Change.{Change}
 use Rattle.store_model.specs.declared.change.Change.TheVariants.{Make, Remove as Removes, Rename as Renames, Empty}
 use Rattle.store_model.specs.declared.index.Index.{Index}
-use Rattle.store_model.specs.Evaluation.{emptying, Outcome, answers, evaluation, evaluation_in}
-use Rattle.store_model.specs.Indexes.{HasNoIndex}
-use Rattle.store_model.proofs.NoIndex.{found_no_index}
-use Rattle.store_model.specs.Refusals.{next_txn, or_refusal}
+use Rattle.store_model.specs.Evaluation.{emptying, indexing, Outcome, answers, evaluation, evaluation_in}
+use Rattle.store_model.specs.Refusals.{access_refusal, creation_refusal, indexed_refusal, is_primary, next_txn, or_refusal, taken_refusal}
 use Rattle.store_model.specs.Store.{database_of}
 use Rattle.db_catalog.specs.Planning.{outcome_unless}
 use Rattle.je_answers.specs.declared.active.Active.{Active}
@@ -58,7 +58,7 @@ use Rattle.engine.proofs.CalmAnswers.{IsCalm, faultless, is_loud, outcome_calm, 
 use Rattle.engine.proofs.TxnGives.{gives_alone}
 use Rattle.environment.specs.declared.environment.Environment.{Environment}
 use Rattle.environment.specs.Calls.{ChangesCatalog}
-use Rattle.environment.specs.Catalog.{IsFreeToChange, IsUsedBy, IsUserOf, changed_number}
+use Rattle.environment.specs.Catalog.{IsFreeToChange, IsUsedBy, IsUserOf, changed_number, IsUserBefore}
 use Rattle.environment.specs.Limits.{owing_with, written_evaluated}
 use Rattle.environment.specs.Steps.{HasCome, IsLogStep, PerformsAnswer, StandsAt}
 use Rattle.environment.specs.Valid.{active_number, fitting, Lives}
@@ -67,7 +67,6 @@ use Rattle.environment.proofs.Answering.{within_more}
 use Rattle.environment.proofs.BeginLaws.{next_is, none_left, with_begun}
 use Rattle.environment.proofs.CatalogStanding.{alone_of, answers_alike, late_alike, leaves_alike, outside, with_alone}
 use Rattle.environment.proofs.EarlyLaws.{same_buffer, same_reach}
-use Rattle.environment.proofs.LateLaws.{none_is_index}
 use Rattle.environment.proofs.ListLaws.{drawn_at}
 use Rattle.environment.proofs.Bases.{lives_at}
 
@@ -75,6 +74,7 @@ use Rattle.environment.proofs.Bases.{lives_at}
 
 pub auto_is : (call : Call) → ChangesCatalog call → IsAutoCommitted call
 auto_is (Create db kind) is = tt
+auto_is (CreateIndex db index) is = tt
 auto_is (Remove db) is = tt
 auto_is (Rename db to) is = tt
 auto_is (Truncate db) is = tt
@@ -85,6 +85,7 @@ pub committed_are : (late : Option Answer) (st : Standing) (session : ℕ) (call
     changes_evaluated late st session call ≡ (outcome_unless late (performed_outcome (alone_of st) session call)).changes
 committed_are (Some refusal) st session call is = refl
 committed_are None st session (Create db kind) is = refl
+committed_are None st session (CreateIndex db index) is = refl
 committed_are None st session (Remove db) is = refl
 committed_are None st session (Rename db to) is = refl
 committed_are None st session (Truncate db) is = refl
@@ -94,6 +95,7 @@ pub written_are : (late : Option Answer) (st : Standing) (session : ℕ) (call :
     written_evaluated late st session call ≡ (outcome_unless late (performed_outcome (alone_of st) session call)).changes
 written_are (Some refusal) st session call is = refl
 written_are None st session (Create db kind) is = refl
+written_are None st session (CreateIndex db index) is = refl
 written_are None st session (Remove db) is = refl
 written_are None st session (Rename db to) is = refl
 written_are None st session (Truncate db) is = refl
@@ -116,25 +118,111 @@ renames_one : (db to : List ℕ) (p : Alone) (o : Option Database) (d : Database
 renames_one db to p None d answer there is = absurd cc
 renames_one db to p (Some e) d answer there is = by_one (evaluation_in (Rename db to) p.store (Some e)) answer (Renames db to) refl is
 
-empties_one : (db : List ℕ) (p : Alone) (d : Database) (answer : Answer) → HasNoIndex p.store → database_of db p.store ≡ Some d → evaluation_in (Truncate db) p.store (database_of db p.store) ≡ answers answer → ⊥
-empties_one db p d answer none there is =
-    by_one (evaluation_in (Truncate db) p.store (Some d)) answer (Empty db) (ap (λ (o : Option Index). (emptying db o).changes) (found_no_index db p.store d none there))
-    (ap (evaluation_in (Truncate db) p.store) (sym there) ∙ is)
+empties_one : (db : List ℕ) (p : Alone) (o : Option Database) (d : Database) (answer : Answer) → o ≡ Some d → evaluation_in (Truncate db) p.store o ≡ answers answer → answer ≡ ReadOnlyIndex
+empties_one db p None d answer there is = absurd cc
+empties_one db p (Some e) d answer there is = by_index e.index is
+  where
+    by_index : (i : Option Index) → emptying db i ≡ answers answer → answer ≡ ReadOnlyIndex
+    by_index None h = absurd (by_one (emptying db None) answer (Empty db) refl h)
+    by_index (Some index) h = sym (ap (λ (x : Outcome). x.answer) h)
 
-unrefused : (p : Alone) (session : ℕ) (call : Call) (answer : Answer) → HasNoIndex p.store → ChangesCatalog call → late_refusal (alone p) session call ≡ None → performed_outcome p session call ≡ answers answer → ⊥
-unrefused p session (Create db kind) answer plain is none e = by_one (evaluation (Create db kind) p.store) answer (Make db kind) refl e
-unrefused p session (Remove db) answer plain is none e =
+indexes_some : (db : List ℕ) (index : Index) (o : Option Database) (answer : Answer) → is_primary o ≡ true → indexing db index o ≡ answers answer → ⊥
+indexes_some db index None answer there is = true≢false (sym there)
+indexes_some db index (Some primary) answer there is = let none : (indexing db index (Some primary)).changes ≡ [] = ap (λ (x : Outcome). x.changes) is in absurd cc
+
+primary_there : (first rest : Option Answer) (b : Bool) → or_refusal first (or_refusal (access_refusal b) rest) ≡ None → b ≡ true
+primary_there (Some x) rest b none = absurd cc
+primary_there None rest true none = refl
+primary_there None rest false none = absurd cc
+
+-- what nothing refuses changes something, but for an index that is not emptied
+unrefused : (p : Alone) (session : ℕ) (call : Call) (answer : Answer) → ChangesCatalog call → late_refusal (alone p) session call ≡ None → performed_outcome p session call ≡ answers answer → answer ≡ ReadOnlyIndex
+unrefused p session (Create db kind) answer is none e = absurd (by_one (evaluation (Create db kind) p.store) answer (Make db kind) refl e)
+unrefused p session (CreateIndex db index) answer is none e =
+    absurd (indexes_some db index (database_of index.primary p.store) answer (primary_there (number_refusal p.last_txn None) _ (is_primary (database_of index.primary p.store)) none) e)
+unrefused p session (Remove db) answer is none e =
     let there = is_there (number_refusal p.last_txn None) _ (database_of db p.store) none in
-    removes_one db p (database_of db p.store) there.0 answer there.1 e
-unrefused p session (Rename db to) answer plain is none e =
+    absurd (removes_one db p (database_of db p.store) there.0 answer there.1 e)
+unrefused p session (Rename db to) answer is none e =
     let there = is_there (number_refusal p.last_txn None) _ (database_of db p.store) none in
-    renames_one db to p (database_of db p.store) there.0 answer there.1 e
-unrefused p session (Truncate db) answer plain is none e =
+    absurd (renames_one db to p (database_of db p.store) there.0 answer there.1 e)
+unrefused p session (Truncate db) answer is none e =
     let there = is_there (number_refusal p.last_txn None) _ (database_of db p.store) none in
-    empties_one db p there.0 answer plain there.1 e
-unrefused p session call answer plain is none e = absurd is
+    empties_one db p (database_of db p.store) there.0 answer there.1 e
+unrefused p session call answer is none e = absurd is
+
+-- and no refusal says that
+not_taken : (b : Bool) → taken_refusal b ≡ Some ReadOnlyIndex → ⊥
+not_taken true is = absurd cc
+not_taken false is = absurd cc
+
+not_indexed : (b : Bool) → indexed_refusal b ≡ Some ReadOnlyIndex → ⊥
+not_indexed true is = absurd cc
+not_indexed false is = absurd cc
+
+not_many : (b : Bool) → (cond b (Some (TooMany MOST_DATABASES)) None) ≡ Some ReadOnlyIndex → ⊥
+not_many true is = absurd cc
+not_many false is = absurd cc
+
+not_created : (taken : Bool) (count : ℕ) → creation_refusal taken count ≡ Some ReadOnlyIndex → ⊥
+not_created true count is = absurd cc
+not_created false count is = not_many (nat_le MOST_DATABASES count) is
+
+not_there : (b : Bool) → access_refusal b ≡ Some ReadOnlyIndex → ⊥
+not_there true is = absurd cc
+not_there false is = absurd cc
+
+not_numbered : (last : ℕ) → number_refusal last None ≡ Some ReadOnlyIndex → ⊥
+not_numbered last is = by (nat_lt last LAST_TXN) is
+  where
+    by : (b : Bool) → cond b None (Some IdsEnded) ≡ Some ReadOnlyIndex → ⊥
+    by true e = absurd cc
+    by false e = absurd cc
+
+none_of_both : (first second : Option Answer) (a : Answer) → (first ≡ Some a → ⊥) → (second ≡ Some a → ⊥) → or_refusal first second ≡ Some a → ⊥
+none_of_both None second a no_first no_second is = no_second is
+none_of_both (Some x) second a no_first no_second is = no_first is
+
+not_none : None ≡ Some ReadOnlyIndex → ⊥
+not_none is = absurd cc
+
+never_read_only : (p : Alone) (session : ℕ) (call : Call) → ChangesCatalog call → late_refusal (alone p) session call ≡ Some ReadOnlyIndex → ⊥
+never_read_only p session (Create db kind) is late =
+    none_of_both (number_refusal p.last_txn None) _ ReadOnlyIndex (not_numbered p.last_txn)
+    (none_of_both (creation_refusal (is_some (database_of db p.store)) (length p.store.databases)) None ReadOnlyIndex (not_created (is_some (database_of db p.store)) (length p.store.databases)) not_none) late
+never_read_only p session (CreateIndex db index) is late =
+    none_of_both (number_refusal p.last_txn None) _ ReadOnlyIndex (not_numbered p.last_txn)
+    (none_of_both (access_refusal (is_primary (database_of index.primary p.store))) _ ReadOnlyIndex (not_there (is_primary (database_of index.primary p.store)))
+    (none_of_both (creation_refusal (is_some (database_of db p.store)) (length p.store.databases)) None ReadOnlyIndex (not_created (is_some (database_of db p.store)) (length p.store.databases)) not_none)) late
+never_read_only p session (Remove db) is late =
+    none_of_both (number_refusal p.last_txn None) _ ReadOnlyIndex (not_numbered p.last_txn)
+    (none_of_both (access_refusal (is_some (database_of db p.store))) _ ReadOnlyIndex (not_there (is_some (database_of db p.store)))
+    (none_of_both (indexed_refusal (list_any (is_index_of db) p.store.databases)) None ReadOnlyIndex (not_indexed (list_any (is_index_of db) p.store.databases)) not_none)) late
+never_read_only p session (Rename db to) is late =
+    none_of_both (number_refusal p.last_txn None) _ ReadOnlyIndex (not_numbered p.last_txn)
+    (none_of_both (access_refusal (is_some (database_of db p.store))) _ ReadOnlyIndex (not_there (is_some (database_of db p.store)))
+    (none_of_both (taken_refusal (is_some (database_of to p.store))) None ReadOnlyIndex (not_taken (is_some (database_of to p.store))) not_none)) late
+never_read_only p session (Truncate db) is late =
+    none_of_both (number_refusal p.last_txn None) _ ReadOnlyIndex (not_numbered p.last_txn)
+    (none_of_both (access_refusal (is_some (database_of db p.store))) _ ReadOnlyIndex (not_there (is_some (database_of db p.store)))
+    (none_of_both (indexed_refusal (list_any (is_index_of db) p.store.databases)) None ReadOnlyIndex (not_indexed (list_any (is_index_of db) p.store.databases)) not_none)) late
+never_read_only p session call is late = absurd is
+
+-- so nothing refuses a call that is answered so
+pub read_only_late : (p : Alone) (session : ℕ) (call : Call) → ChangesCatalog call → outcome_alone p session call ≡ answers ReadOnlyIndex → late_refusal (alone p) session call ≡ None
+read_only_late p session call is e = by (late_refusal (alone p) session call) refl e
+  where
+    by : (o : Option Answer) → late_refusal (alone p) session call ≡ o → outcome_unless o (performed_outcome p session call) ≡ answers ReadOnlyIndex → o ≡ None
+    by None late h = refl
+    by (Some a) late h = absurd (never_read_only p session call is (late ∙ ap (λ (o : Outcome). Some o.answer) h))
 
 -- ---- who uses its database
+
+-- who is told before an answer without changes
+pub user_first : (st : Standing) (call : Call) (answer : Answer) (r : Result (Option TxnId) AllocError) → answer ≡ ReadOnlyIndex → IfOk r (IsUserOf st call) → IfOk r (IsUserBefore st call answer)
+user_first st call answer (Ok None) is free = λ h. free
+user_first st call answer (Ok (Some t)) is used = (is, used)
+user_first st call answer (Err error) is h = tt
 
 user_by : (st : Standing) (db : List ℕ) (number : ℕ) (o : Option TxnId) (call : Call) → number ≡ st.numbers db →
     (IsUnused st (st.numbers db) → IsFreeToChange st call) → ((t : TxnId) → IsLeastUser st (st.numbers db) t ⊎ IsAwaited st (st.numbers db) t → IsUsedBy st call t) →
@@ -155,6 +243,8 @@ number_is numbers st db number is named = by_some number (numbers db) is ∙ nam
 pub user_is : (st : Standing) (numbers : List ℕ → ℕ) (call : Call) (number : ℕ) (o : Option TxnId) → ChangesCatalog call → ((name : List ℕ) → numbers name ≡ st.numbers name) →
     Some number ≡ changed_number numbers call → IfNone o (IsUnused st number) → IfSome o (λ t. IsLeastUser st number t ⊎ IsAwaited st number t) → IsUserOf st call o
 user_is st numbers (Create db kind) number o is named e none some = absurd cc
+user_is st numbers (CreateIndex db index) number o is named e none some =
+    user_by st index.primary number o (CreateIndex db index) (number_is numbers st index.primary number e named) (λ unused. unused) (λ t used. used) none some
 user_is st numbers (Remove db) number o is named e none some = user_by st db number o (Remove db) (number_is numbers st db number e named) (λ unused. unused) (λ t used. used) none some
 user_is st numbers (Rename db to) number o is named e none some = user_by st db number o (Rename db to) (number_is numbers st db number e named) (λ unused. unused) (λ t used. used) none some
 user_is st numbers (Truncate db) number o is named e none some = user_by st db number o (Truncate db) (number_is numbers st db number e named) (λ unused. unused) (λ t used. used) none some
@@ -162,6 +252,7 @@ user_is st numbers call number o is named e none some = absurd is
 
 pub user_none : (st : Standing) (numbers : List ℕ → ℕ) (call : Call) → ChangesCatalog call → None ≡ changed_number numbers call → IsFreeToChange st call
 user_none st numbers (Create db kind) is e = tt
+user_none st numbers (CreateIndex db index) is e = absurd cc
 user_none st numbers (Remove db) is e = absurd cc
 user_none st numbers (Rename db to) is e = absurd cc
 user_none st numbers (Truncate db) is e = absurd cc
@@ -320,16 +411,17 @@ module _ {D : Type 0} where
       -- an answer without changes
       pub answered_performs : (e : Environment D) (session : ℕ) (call : Call) (answer : Answer) → ChangesCatalog call → e.engine.kept.last_txn < LAST_TXN → e.engine.kept.fault ≡ None → CanGoOn e →
           ((p : Alone) (s : ℕ) → HasModel (known (contents_of e.engine)) p → IsPlanned (known (contents_of e.engine)) p s call (Answered answer)) →
+          ((most : ℕ) (st : Standing) → StandsAt most observable history e st → AreSound st → answer ≡ ReadOnlyIndex → IsFreeToChange st call) →
           ((most : ℕ) × (st : Standing) × StandsAt most observable history e st × AreSound st × (early_refusal st session call ≡ None)) →
           PerformsAnswer observable history sync_out read_out read_of faults e (with_begun e (e.engine.kept.last_txn + 1) e.sessions) session call (Ok answer)
-      answered_performs e session call answer is below valid bounds plan there = record {
+      answered_performs e session call answer is below valid bounds plan free there = record {
         comes = λ most st line at sound early.
             let none : st.fault ≡ None = sym at.fault ∙ valid in
             let p : Alone = alone_of st in
             let planned = plan p session (has most st at) in
             let calm : IsCalm answer = calm_is most st at in
             come_alone most e (with_begun e (e.engine.kept.last_txn + 1) e.sessions) st session line call answer [] None (drawn_alone p) is early none (ap (λ (o : Outcome). o.changes) planned)
-            (λ late. absurd (unrefused p session call answer (none_is_index (committed (cells_of e.engine.trees)) st (at.valid none).makes) is late (sym (ap (λ (l : Option Answer). outcome_unless l (performed_outcome p session call)) late) ∙ planned))) refl
+            (λ late. free most st at sound (unrefused p session call answer is late (sym (ap (λ (l : Option Answer). outcome_unless l (performed_outcome p session call)) late) ∙ planned))) refl
             (answered_ends None (known (contents_of e.engine)) p session call answer none (auto_is call is) planned)
             (drawn_here most e st below at) (unnumbered answer st.commits calm) (none ∙ ap (λ (b : Bool). cond b (Some Disk) None) (sym (faultless answer calm)))
             (subst (λ (b : Bool). IsLogStep observable history sync_out read_out read_of b e.engine.trees.log e.engine.trees.log []) (sym (faultless answer calm)) (inl (same_buffer e.engine.trees.log, refl)))

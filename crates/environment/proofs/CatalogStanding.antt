@@ -5,7 +5,7 @@ use Rattle.je_order.specs.declared.txn_id.TxnId.{TxnId}
 use Rattle.store_model.specs.declared.answer.Answer.{Answer}
 use Rattle.store_model.specs.declared.answer.Answer.TheVariants.{DatabaseInUse}
 use Rattle.store_model.specs.declared.call.Call.{Call}
-use Rattle.store_model.specs.declared.call.Call.TheVariants.{Create, Remove, Rename, Truncate}
+use Rattle.store_model.specs.declared.call.Call.TheVariants.{Create, CreateIndex, Remove, Rename, Truncate}
 use Rattle.store_model.specs.declared.change.Change.{Change}
 use Rattle.store_model.specs.Evaluation.{Outcome, evaluation}
 use Rattle.store_model.specs.Refusals.{or_refusal}
@@ -17,6 +17,7 @@ use Rattle.je_answers.specs.Events.{AreChanged, IsEvaluated}
 use Rattle.je_answers.specs.Locking.{IsAwaited, IsLeastUser}
 use Rattle.je_answers.specs.Refusals.{early_refusal, late_refusal, name_refusal, number_refusal, target_refusal, there_refusal, txn_refusal}
 use Rattle.je_answers.specs.Standing.{Standing, active_of}
+use Rattle.txn_core.specs.Planning.{IsCatalogCall}
 use Rattle.environment.specs.Calls.{ChangesCatalog}
 use Rattle.environment.specs.Catalog.{IsFreeToChange, IsUsedBy}
 use Rattle.environment.proofs.EarlyLaws.{not_early}
@@ -47,11 +48,22 @@ with_alone q st = record st {
   in_checkpoint = q.in_checkpoint;
 }
 
+-- ---- it is a call on the catalog
+
+pub catalog_call : (call : Call) → ChangesCatalog call → IsCatalogCall call
+catalog_call (Create db kind) is = tt
+catalog_call (CreateIndex db index) is = tt
+catalog_call (Remove db) is = tt
+catalog_call (Rename db to) is = tt
+catalog_call (Truncate db) is = tt
+catalog_call call is = absurd is
+
 -- ---- no transaction changes the catalog
 
 outside_by : (call : Call) (o : Option Active) → ChangesCatalog call → txn_refusal call o ≡ None → o ≡ None
 outside_by call None is none = refl
 outside_by (Create db kind) (Some a) is none = absurd (none-some _ (sym none))
+outside_by (CreateIndex db index) (Some a) is none = absurd (none-some _ (sym none))
 outside_by (Remove db) (Some a) is none = absurd (none-some _ (sym none))
 outside_by (Rename db to) (Some a) is none = absurd (none-some _ (sym none))
 outside_by (Truncate db) (Some a) is none = absurd (none-some _ (sym none))
@@ -65,6 +77,8 @@ outside st session call is early = outside_by call (active_of session st.actives
 pub late_alike : (st : Standing) (session : ℕ) (call : Call) → ChangesCatalog call → active_of session st.actives ≡ None → late_refusal st session call ≡ late_refusal (alone (alone_of st)) session call
 late_alike st session (Create db kind) is none = ap (λ (o : Option Active). or_refusal (number_refusal st.last_txn o)
     (or_refusal (there_refusal st session (Create db kind)) (or_refusal (name_refusal st session (Create db kind)) (target_refusal (Create db kind) None)))) none
+late_alike st session (CreateIndex db index) is none = ap (λ (o : Option Active). or_refusal (number_refusal st.last_txn o)
+    (or_refusal (there_refusal st session (CreateIndex db index)) (or_refusal (name_refusal st session (CreateIndex db index)) (target_refusal (CreateIndex db index) None)))) none
 late_alike st session (Remove db) is none = ap (λ (o : Option Active). or_refusal (number_refusal st.last_txn o)
     (or_refusal (there_refusal st session (Remove db)) (or_refusal (name_refusal st session (Remove db)) (target_refusal (Remove db) None)))) none
 late_alike st session (Rename db to) is none = ap (λ (o : Option Active). or_refusal (number_refusal st.last_txn o)
@@ -83,6 +97,8 @@ pub answers_alike : (late limit : Option Answer) (st : Standing) (session line :
     IsEvaluatedAlone late limit (alone_of st) session call answer → IsEvaluated late limit st session line call answer []
 answers_alike (Some refusal) limit st session line call answer is free may = (may, refl)
 answers_alike None limit st session line (Create db kind) answer is free may = (may, refl)
+answers_alike None limit st session line (CreateIndex db index) answer is free may =
+    (inl (free refl, changed_alike (evaluation (CreateIndex db index) st.store).changes (evaluation (CreateIndex db index) st.store) limit st answer may), refl)
 answers_alike None limit st session line (Remove db) answer is free may =
     (inl (free refl, changed_alike (evaluation (Remove db) st.store).changes (evaluation (Remove db) st.store) limit st answer may), refl)
 answers_alike None limit st session line (Rename db to) answer is free may =
@@ -99,6 +115,7 @@ used_by st db t (inr awaited) = inr (t, awaited, refl)
 pub in_use_answers : (limit : Option Answer) (st : Standing) (session line : ℕ) (call : Call) (t : TxnId) → ChangesCatalog call → IsUsedBy st call t →
     IsEvaluated None limit st session line call (DatabaseInUse t) []
 in_use_answers limit st session line (Create db kind) t is used = absurd used
+in_use_answers limit st session line (CreateIndex db index) t is used = (inr (used_by st (st.numbers index.primary) t used), refl)
 in_use_answers limit st session line (Remove db) t is used = (inr (used_by st (st.numbers db) t used), refl)
 in_use_answers limit st session line (Rename db to) t is used = (inr (used_by st (st.numbers db) t used), refl)
 in_use_answers limit st session line (Truncate db) t is used = (inr (used_by st (st.numbers db) t used), refl)
@@ -116,6 +133,7 @@ pub leaves_alike : (late : Option Answer) (st : Standing) (session line : ℕ) (
     after_evaluated late st session line call answer [] ≡ with_alone (evaluated_alone late call (alone_of st) session answer) st
 leaves_alike (Some refusal) st session line call answer is none = ap (λ (o : Option Active). drawn_by o st) none
 leaves_alike None st session line (Create db kind) answer is none = catalog_alike (fate_of answer) (evaluation (Create db kind) st.store).changes (active_of session st.actives) st none
+leaves_alike None st session line (CreateIndex db index) answer is none = catalog_alike (fate_of answer) (evaluation (CreateIndex db index) st.store).changes (active_of session st.actives) st none
 leaves_alike None st session line (Remove db) answer is none = catalog_alike (fate_of answer) (evaluation (Remove db) st.store).changes (active_of session st.actives) st none
 leaves_alike None st session line (Rename db to) answer is none = catalog_alike (fate_of answer) (evaluation (Rename db to) st.store).changes (active_of session st.actives) st none
 leaves_alike None st session line (Truncate db) answer is none = catalog_alike (fate_of answer) (evaluation (Truncate db) st.store).changes (active_of session st.actives) st none
@@ -125,6 +143,7 @@ leaves_alike None st session line call answer is none = absurd is
 pub in_use_leaves : (st : Standing) (session line : ℕ) (call : Call) (t : TxnId) → ChangesCatalog call → active_of session st.actives ≡ None →
     after_evaluated None st session line call (DatabaseInUse t) [] ≡ with_alone (drawn_alone (alone_of st)) st
 in_use_leaves st session line (Create db kind) t is none = leaves_alike None st session line (Create db kind) (DatabaseInUse t) is none
+in_use_leaves st session line (CreateIndex db index) t is none = leaves_alike None st session line (CreateIndex db index) (DatabaseInUse t) is none
 in_use_leaves st session line (Remove db) t is none = leaves_alike None st session line (Remove db) (DatabaseInUse t) is none
 in_use_leaves st session line (Rename db to) t is none = leaves_alike None st session line (Rename db to) (DatabaseInUse t) is none
 in_use_leaves st session line (Truncate db) t is none = leaves_alike None st session line (Truncate db) (DatabaseInUse t) is none

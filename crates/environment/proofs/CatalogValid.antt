@@ -34,7 +34,8 @@ use Rattle.je_answers.specs.Views.{of_db}
 use Rattle.log_buffer.specs.declared.buffer.LogBuffer.{LogBuffer}
 use Rattle.log_buffer.specs.Buffer.{disk_of, end_of}
 use Rattle.log_buffer.specs.Growth.{longer}
-use Rattle.log_replay.specs.Rows.{Rows, data_at, numbers_of}
+use Rattle.log_replay.specs.Logging.{row_changes}
+use Rattle.log_replay.specs.Rows.{Rows, data_at, numbers_of, rows_changed}
 use Rattle.in_tree.specs.Limits.{HasRoomFor, commit_sizes}
 use Rattle.sessions.specs.AtStanding.{owing}
 use Rattle.standing_laws.specs.Right.{AreNumbered, is_active, txn_id}
@@ -52,7 +53,7 @@ use Rattle.txn_views.specs.Seen.{HasWrites, IsWriteOf, last_own}
 use Rattle.txn_views.proofs.OwnLaws.{none_in}
 use Rattle.engine.specs.Contents.{rows_after}
 use Rattle.engine.specs.Environment.{RecoversStore}
-use Rattle.engine.proofs.CatalogLogs.{IsOfCatalog, catalog_leaves_log, planned_in_catalog}
+use Rattle.engine.proofs.CatalogLogs.{AreApart, changes_leave_log}
 use Rattle.engine.proofs.PlannedRows.{ArePlanned, LeavesRows, planned_rows}
 use Rattle.environment.specs.declared.written.OwnNames.{OwnNames}
 use Rattle.environment.specs.Valid.{IsValidWith, active_number, Forest, Lives}
@@ -84,17 +85,24 @@ pub none_of : (d : ℕ) (own : List OwnChange) → AllByRecursion (λ (c : OwnCh
 none_of d [] other = refl
 none_of d (c ∷ own) other = cond-false (c.0 == d) (c.1 ∷ of_db d own) (of_db d own) (ne_eqb c.0 d other.0) ∙ none_of d own other.1
 
--- a name outside the catalog has no change
-no_change : (d : ℕ) (x : Name) (planned : List TreeChange) → d ≢ 0 → AllByRecursion (λ (c : TreeChange). c.db ≡ 0) planned → last_change d x planned ≡ None
-no_change d x [] other in_db = refl
-no_change d x (c ∷ cs) other in_db =
-    ap (find (is_change_of d x)) (reverse-append (c ∷ []) cs) ∙ find-append (is_change_of d x) (reverse cs) (c ∷ [])
-    ∙ ap₂ option_or (no_change d x cs other in_db.1)
-    (ap (λ (b : Bool). cond (b && is_eq (name_cmp c.name x)) (Some c) None) (ne_eqb c.db d (λ e. other (sym e ∙ in_db.0))))
+-- what is so of each change's database is so of that of a name that is changed
+of_changed : (P : ℕ → Type 0) (d : ℕ) (x : Name) (planned : List TreeChange) → AllByRecursion (λ (c : TreeChange). P c.db) planned → is_some (last_change d x planned) ≡ true → P d
+of_changed P d x [] all some = absurd (true≢false (sym some))
+of_changed P d x (c ∷ cs) all some = by (c.db == d) refl (of_changed P d x cs all.1)
+  where
+    last_is : last_change d x (c ∷ cs) ≡ option_or (last_change d x cs) (cond ((c.db == d) && is_eq (name_cmp c.name x)) (Some c) None)
+    last_is = ap (find (is_change_of d x)) (reverse-append (c ∷ []) cs) ∙ find-append (is_change_of d x) (reverse cs) (c ∷ [])
+
+    by : (b : Bool) → (c.db == d) ≡ b → (is_some (last_change d x cs) ≡ true → P d) → P d
+    by true e later = subst P (eqb-true c.db d e) all.0
+    by false e later = later (sym (ap is_some (last_is ∙ ap (λ (t : Bool). option_or (last_change d x cs) (cond (t && is_eq (name_cmp c.name x)) (Some c) None)) e) ∙ same (last_change d x cs)) ∙ some)
+      where
+        same : (o : Option TreeChange) → is_some (option_or o None) ≡ is_some o
+        same None = refl
+        same (Some y) = refl
 
 module _ (rows : Rows) (change : Change) (planned : List TreeChange) (gone : Option ℕ) (own : ℕ → List OwnChange) (gone_is : gone ≡ gone_by rows change)
-    (in_db : AllByRecursion (λ (c : TreeChange). c.db ≡ 0) planned) (elsewhere : (u : ℕ) → AllByRecursion (λ (c : OwnChange). IsElsewhere rows change c.0) (own u))
-    (may : (u : ℕ) → AllByRecursion (MayBeCommitted rows) (own u)) where
+    (apart : AreApart own planned) (elsewhere : (u : ℕ) → AllByRecursion (λ (c : OwnChange). IsElsewhere rows change c.0) (own u)) where
   stay_all : (l : List OwnChange) → AllByRecursion (λ (c : OwnChange). IsElsewhere rows change c.0) l → AllByRecursion (λ (c : OwnChange). is_gone c.0 gone ≡ false) l
   stay_all = all_weaker (λ (c : OwnChange). IsElsewhere rows change c.0) (λ c. is_gone c.0 gone ≡ false) (λ c other. ap (is_gone c.0) gone_is ∙ stays_there rows change c.0 other)
 
@@ -103,21 +111,23 @@ module _ (rows : Rows) (change : Change) (planned : List TreeChange) (gone : Opt
   none_gone d x goes t = none_in d x (own t) (none_of d (own t)
       (all_weaker (λ (c : OwnChange). is_gone c.0 gone ≡ false) (λ c. c.0 ≢ d) (λ c stays e. true≢false (sym goes ∙ ap (λ (n : ℕ). is_gone n gone) (sym e) ∙ stays)) (own t) (stay_all (own t) (elsewhere t))))
 
-  none_above : (d : ℕ) (x : Name) → d ≡ 0 → (t : ℕ) → last_own d x (own t) ≡ None
-  none_above d x zero_is t = none_in d x (own t) (none_of d (own t) (all_weaker (MayBeCommitted rows) (λ c. c.0 ≢ d) (λ c can e. own_above rows c can (e ∙ zero_is)) (own t) (may t)))
+  none_changed : (d : ℕ) (x : Name) → is_some (last_change d x planned) ≡ true → (t : ℕ) → last_own d x (own t) ≡ None
+  none_changed d x some t = none_in d x (own t) (none_of d (own t) (of_changed (λ n. (u : ℕ) → AllByRecursion (λ (c : OwnChange). c.0 ≢ n) (own u)) d x planned apart some t))
 
-  planned_above : (d : ℕ) (x : Name) → is_some (last_change d x planned) ≡ true → d ≡ 0
-  planned_above d x some = by (d == 0) refl
+  -- an own change's name is not changed
+  unchanged : (l : List OwnChange) → ((d : ℕ) (x : Name) → is_some (last_change d x planned) ≡ true → AllByRecursion (λ (c : OwnChange). c.0 ≢ d) l) → AllByRecursion (λ (c : OwnChange). last_change c.0 (row_of c).name planned ≡ None) l
+  unchanged [] others = tt
+  unchanged (c ∷ l) others = (by (last_change c.0 (row_of c).name planned) refl, unchanged l (λ d x some. (others d x some).1))
     where
-      by : (b : Bool) → (d == 0) ≡ b → d ≡ 0
-      by true e = eqb-true d 0 e
-      by false e = absurd (true≢false (sym some ∙ ap is_some (no_change d x planned (λ z. true≢false (sym (eq-eqb d 0 z) ∙ e)) in_db)))
+      by : (o : Option TreeChange) → last_change c.0 (row_of c).name planned ≡ o → o ≡ None
+      by None e = refl
+      by (Some p) e = absurd ((others c.0 (row_of c).name (ap is_some e)).0 refl)
 
   pub writes_after : (cells later : AllCells) → HasWrites cells own → LeavesWrites planned gone cells later → HasWrites later own
   writes_after cells later writes leaves d x = subst (IsWriteOf d x own) (sym (leaves d x)) (by_gone (is_gone d gone) refl)
     where
       by_some : (b : Bool) → is_some (last_change d x planned) ≡ b → IsWriteOf d x own (cond b None (write_in (value_at x (cells d))))
-      by_some true e = none_above d x (planned_above d x e)
+      by_some true e = none_changed d x e
       by_some false e = writes d x
 
       by_gone : (b : Bool) → is_gone d gone ≡ b → IsWriteOf d x own (cond b None (cond (is_some (last_change d x planned)) None (write_in (value_at x (cells d)))))
@@ -126,48 +136,47 @@ module _ (rows : Rows) (change : Change) (planned : List TreeChange) (gone : Opt
 
   -- and the records under the names of own changes stay
   same_data : (later : Rows) → ((d : ℕ) (x : Name) → is_gone d gone ≡ false → data_at x (later d) ≡ value_changed (last_change d x planned) (data_at x (rows d))) → (l : List OwnChange) →
-      AllByRecursion (λ (c : OwnChange). IsElsewhere rows change c.0) l → AllByRecursion (MayBeCommitted rows) l →
+      AllByRecursion (λ (c : OwnChange). IsElsewhere rows change c.0) l → AllByRecursion (λ (c : OwnChange). last_change c.0 (row_of c).name planned ≡ None) l →
       AllByRecursion (λ (c : OwnChange). data_at (row_of c).name (later c.0) ≡ data_at (row_of c).name (rows c.0)) l
-  same_data later is [] other can = tt
-  same_data later is (c ∷ l) other can = (
-    is c.0 (row_of c).name (ap (is_gone c.0) gone_is ∙ stays_there rows change c.0 other.0)
-        ∙ ap (λ (o : Option TreeChange). value_changed o (data_at (row_of c).name (rows c.0))) (no_change c.0 (row_of c).name planned (own_above rows c can.0) in_db),
-    same_data later is l other.1 can.1,
+  same_data later is [] other none = tt
+  same_data later is (c ∷ l) other none = (
+    is c.0 (row_of c).name (ap (is_gone c.0) gone_is ∙ stays_there rows change c.0 other.0) ∙ ap (λ (o : Option TreeChange). value_changed o (data_at (row_of c).name (rows c.0))) none.0,
+    same_data later is l other.1 none.1,
   )
 
   pub names_after : (later : Rows) (entries : List (TxnId × OwnNames)) → ((d : ℕ) (x : Name) → is_gone d gone ≡ false → data_at x (later d) ≡ value_changed (last_change d x planned) (data_at x (rows d))) →
       AreNamesOf entries own rows → AreNamesOf entries own later
   names_after later entries is names = record {
     names = names.names;
-    had = λ t. names.had t ∙ sym (had_stay rows later (own t) (same_data later is (own t) (elsewhere t) (may t)));
+    had = λ t. names.had t ∙ sym (had_stay rows later (own t) (same_data later is (own t) (elsewhere t) (unchanged (own t) (λ d x some. of_changed (λ n. (u : ℕ) → AllByRecursion (λ (c : OwnChange). c.0 ≢ n) (own u)) d x planned apart some t))));
   }
 
 -- ---- a valid environment
 
 module _ {D : Type 0} (observable : Bool) (history : D → History) (sync_out read_out : D → Option ℕ) (read_of : D → ℕ) where
   -- a change was logged with its Commit
-  pub logged_valid : (old new : LogBuffer D) (cells later : AllCells) (has_tree later_tree : ℕ → Bool) (forest later_forest : Forest) (since later_since : ℕ) (written : List (TxnId × OwnNames)) (st after : Standing) (t : TxnId) (change : Change) (planned : List TreeChange)
-      (gone : Option ℕ) (v : IsValidWith observable (now (history (disk_of old))) old cells has_tree forest since written st) →
-      IsOfCatalog change → ArePlanned (committed cells) st.last_db change [] planned gone → AreNumbered st.last_txn st.actives → next_txn st.last_txn ≡ st.last_txn + 1 → t.0 ≡ st.last_txn + 1 →
+  pub logged_valid : (old new : LogBuffer D) (cells later : AllCells) (has_tree later_tree : ℕ → Bool) (forest later_forest : Forest) (since later_since : ℕ) (written : List (TxnId × OwnNames)) (st after : Standing) (t : TxnId) (change : Change) (more : List Change)
+      (planned : List TreeChange) (gone : Option ℕ) (v : IsValidWith observable (now (history (disk_of old))) old cells has_tree forest since written st) →
+      ArePlanned (committed cells) st.last_db change more planned gone → rows_after planned gone (committed cells) 0 ≡ rows_changed (row_changes 0 st.last_db change (committed cells)) (committed cells) 0 →
+      AreApart st.own planned → AreNumbered st.last_txn st.actives → next_txn st.last_txn ≡ st.last_txn + 1 → t.0 ≡ st.last_txn + 1 →
       ((u : ℕ) → AllByRecursion (λ (c : OwnChange). IsElsewhere (committed cells) change c.0) (st.own u)) →
       (a : HasAdded observable history sync_out read_out read_of old new (LogsTransaction t planned)) →
       ((log : Log) (base : ℕ) → HasLog observable (now (history (disk_of old))) old log → base ≤ pos_lsn (end_of old) → forest (placed log) base → later_forest (placed (longer old a.entries log)) base) → later_since ≡ since →
       committed later ≡ rows_after planned gone (committed cells) → LeavesWrites planned gone cells later → ((db : ℕ) → later_tree db ≡ has_number (numbers_of (committed later)) db) →
       ((n : ℕ) → owing st ≡ suc n → HasRoomFor new (commit_sizes (suc n))) → RecoversStore (longer old a.entries v.log) after.store →
-      after ≡ with_alone (committed_alone (change ∷ []) (drawn_alone (alone_of st))) st →
+      after ≡ with_alone (committed_alone (change ∷ more) (drawn_alone (alone_of st))) st →
       IsValidWith observable (now (history (disk_of new))) new later later_tree later_forest later_since written after
-  unfolding catalog_leaves_log transaction_leaves_log transaction_is_given transaction_gives transaction_on still_gives
-  logged_valid old new cells later has_tree later_tree forest later_forest since later_since written st after t change planned gone v of_catalog are numbers step next elsewhere a carries since_is rows_are writes made room recovers after_is =
+  unfolding changes_leave_log transaction_leaves_log transaction_is_given transaction_gives transaction_on still_gives
+  logged_valid old new cells later has_tree later_tree forest later_forest since later_since written st after t change more planned gone v are catalog apart numbers step next elsewhere a carries since_is rows_are writes made room recovers after_is =
       let rows : Rows = committed cells in
-      let leaves : LeavesRows rows (rows_after planned gone rows) st.last_db (change ∷ []) planned gone = planned_rows rows st.last_db change [] planned gone are in
-      let in_db = planned_in_catalog rows st.last_db change planned gone of_catalog are in
+      let leaves : LeavesRows rows (rows_after planned gone rows) st.last_db (change ∷ more) planned gone = planned_rows rows st.last_db change more planned gone are in
       let at : IsLogAt observable history old v.log rows (active_number st.actives) st = record { given = record { has = v.has; gives = v.gives }; makes = v.makes; may = v.may } in
       let own_is : after.own ≡ st.own = ap (λ (s : Standing). s.own) after_is in
       let actives_is : after.actives ≡ st.actives = ap (λ (s : Standing). s.actives) after_is in
       let last_is : after.last_txn ≡ st.last_txn + 1 = ap (λ (s : Standing). s.last_txn) after_is ∙ step in
       let on : IsLogAt observable history new (longer old a.entries v.log) (rows_after planned gone rows) (active_number st.actives) after =
-      catalog_leaves_log observable history sync_out read_out read_of old new v.log rows (active_number st.actives) (active_number st.actives) st after t change planned gone at of_catalog are
-      (inr (omega (arith, next), refl))
+      changes_leave_log observable history sync_out read_out read_of old new v.log rows (active_number st.actives) (active_number st.actives) st after t change more planned gone at are
+      (inr (omega (arith, next), refl)) catalog apart
       (subst (λ (own : ℕ → List OwnChange). (u : ℕ) → AllByRecursion (λ (c : OwnChange). IsElsewhere rows change c.0) (own u)) (sym own_is) elsewhere)
       (subst (λ (own : ℕ → List OwnChange). (u : ℕ) → AllByRecursion (MayBeCommitted rows) (own u)) (sym own_is) v.may)
       a (record { store = ap (λ (s : Standing). s.store) after_is; numbers = ap (λ (s : Standing). s.numbers) after_is; last_db = ap (λ (s : Standing). s.last_db) after_is }) (omega (arith, last_is))
@@ -187,12 +196,12 @@ module _ {D : Type 0} (observable : Bool) (history : D → History) (sync_out re
             (subst (λ (r : Rows). GivesRecordsWith (longer old a.entries v.log) (end_of new) r after.last_txn after.last_db (active_number st.actives) after.own) (sym rows_are) on.given.gives);
         recovers = recovers;
         makes = subst (λ (r : Rows). MakesStore r after.last_db after) (sym rows_are) on.makes;
-        writes = subst (HasWrites later) (sym own_is) (writes_after rows change planned gone st.own are.gone_is in_db elsewhere v.may cells later v.writes writes);
+        writes = subst (HasWrites later) (sym own_is) (writes_after rows change planned gone st.own are.gone_is apart elsewhere cells later v.writes writes);
         may = subst (λ (r : Rows). (u : ℕ) → AllByRecursion (MayBeCommitted r) (after.own u)) (sym rows_are) on.may;
         made = made;
         room = λ n is. room n (sym (ap owing after_is) ∙ is);
         names = subst (λ (own : ℕ → List OwnChange). AreNamesOf written own (committed later)) (sym own_is) (subst (AreNamesOf written st.own) (sym rows_are)
-            (names_after rows change planned gone st.own are.gone_is in_db elsewhere v.may (rows_after planned gone rows) written leaves.data_is v.names));
+            (names_after rows change planned gone st.own are.gone_is apart elsewhere (rows_after planned gone rows) written leaves.data_is v.names));
         fits = lives.fits;
         from = lives.from;
         firsts = lives.firsts;

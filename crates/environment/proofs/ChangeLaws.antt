@@ -28,7 +28,7 @@ use Rattle.log_replay.specs.Logging.{all_row_changes, kind_named, number_named, 
 use Rattle.log_replay.specs.Rows.{RowChange, Rows, data_at, is_right_row, numbers_of}
 use Rattle.log_replay.proofs.ListLaws.{all_of_map, all_to_map, map-map}
 use Rattle.log_replay.proofs.LoggedLaws.{number-within}
-use Rattle.log_replay.proofs.StoreLaws.{environment_parts, number_of_row}
+use Rattle.log_replay.proofs.StoreLaws.{environment_parts, number_of_row, primaries_in}
 use Rattle.log_replay.proofs.TransactionLaws.{records_are_logged}
 use Rattle.txn_core.specs.Known.{has_number}
 use Rattle.txn_core.specs.Planning.{HaveFewNew, row_by}
@@ -120,7 +120,7 @@ module _ (rows : Rows) (last_db : ℕ) (st : Standing) (makes : MakesStore rows 
   number_few : (c : Changed) → IsRightIn st c → last_db < 2 ^ 32 → c.0.0 < 2 ^ 32
   number_few c is few =
       let within = number-within rows last_db c.0.1.name
-      (record { environment = environment_parts rows makes.environment; rising = makes.rising; unused = makes.unused; numbers = all_of_map number_of_row (λ n. n ≤ last_db) (rows 0) makes.numbers }) (above_in c is) in
+      (record { environment = environment_parts rows makes.environment; primaries = primaries_in rows makes.environment; rising = makes.rising; unused = makes.unused; numbers = all_of_map number_of_row (λ n. n ≤ last_db) (rows 0) makes.numbers }) (above_in c is) in
       let number = number_in c is in
       omega (arith, within, number, few)
 

@@ -283,6 +283,7 @@ module _ {D : Type 0} (observable : Bool) (history : D → History) (sync_out re
             sessions_at = record { actives = stands.actives; own = stands.own; places = stands.places; waiting = stands.waiting; locks = tt };
             apart = here.apart;
             checkpoint = ap (λ (k : Kept). is_some k.checkpoints.under_way) h.kept ∙ ap (λ (k : Kept). is_some k.checkpoints.under_way) w.4 ∙ here.checkpoint;
+            databases = λ calm. absurd cc;
             valid = λ calm. absurd cc;
           };
           numbered = tt;

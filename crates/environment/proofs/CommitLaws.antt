@@ -5,6 +5,7 @@ use Rattle.txn_log.specs.Checkpoints.{EndsFrom}
 use Rattle.engine.proofs.CallEntries.{commit_no_end}
 use Rattle.std.proofs.Common.{◌≡◌, ◌≢◌, ◌⊎◌, inl, inr, ℕ, zero, suc, ◌+◌, ◌≤◌, ◌<◌, ◌==◌, Bool, true, false, true≢false, cond, not, List, [], ◌∷◌, ◌++◌, filter, length, map, count_by, Option, None, Some, Ok, Bor, refl, ap, ap₂, sym, ◌∙◌, subst, arith}
 use Rattle.txn_log.proofs.Giving.{transaction_gives, transaction_on, still_gives}
+use Rattle.environment.proofs.Databases.{still_known}
 use Rattle.environment.proofs.Bases.{begun_with, lives_on}
 use Rattle.std.specs.List.{AllByRecursion}
 use Rattle.std.specs.Option.{option_copied}
@@ -81,7 +82,7 @@ use Rattle.environment.specs.Committing.{HasNotSettled, HasSettled, is_set}
 use Rattle.environment.specs.Ending.{HasAbandoned}
 use Rattle.environment.specs.Limits.{owing_after, written_evaluated}
 use Rattle.environment.specs.Steps.{HasCome, HasFailedWith, HasGrown, HasStepped, IsLogStep, PerformsAnswer, RecoversWith, StandsAt}
-use Rattle.environment.specs.Valid.{IsValidWith, active_number, owed_by, fitting, Lives, waiting_in}
+use Rattle.environment.specs.Valid.{IsValidWith, active_number, owed_by, fitting, Lives, waiting_in, KnowsDatabases}
 use Rattle.environment.specs.Whole.{CanGoOn, disk_of, reach_of}
 use Rattle.environment.specs.Written.{AreNamesOf, had_at, names_at}
 use Rattle.environment.proofs.Answering.{owed_is, within_more}
@@ -353,6 +354,9 @@ module _ {D : Type 0} (observable : Bool) (history : D → History) (sync_out re
           firsts = lives.firsts;
         }
 
+    known_then : (v : Valid) → (h : Settled) → active_of a.session st.actives ≡ Some a → own_it ≢ [] → KnowsDatabases st old.engine.kept → KnowsDatabases then_ old.engine.kept
+    known_then v h is some knows = still_known rows_old later_rows st.last_db then_.last_db st then_ old.engine.kept v.makes (log_then v h is).makes (catalog_same v) knows
+
     totals_then : Valid → Settled → Sum → old.engine.kept.totals ≡ totals_of st.store → new.engine.kept.totals ≡ totals_of then_.store
     totals_then v h sum was = ap (λ (k : Kept). k.totals) h.committed.kept ∙ ap₂ both databases count
       where
@@ -382,6 +386,7 @@ module _ {D : Type 0} (observable : Bool) (history : D → History) (sync_out re
       sessions_at = h.sessions (committed_to changes_it st) a refl refl (sessions_changed old.sessions changes_it st.last_db st (all_named st own_it) at.sessions_at);
       apart = at.apart;
       checkpoint = ap (λ (k : Kept). is_some k.checkpoints.under_way) h.committed.kept ∙ at.checkpoint;
+      databases = λ calm_. subst (KnowsDatabases then_) (sym h.committed.kept) (known_then (at.valid none) h is some (at.databases none));
       valid = λ calm_. valid_then (at.valid none) h is some;
     } where
       last_same : then_.last_db ≡ st.last_db
@@ -496,6 +501,7 @@ module _ {D : Type 0} (observable : Bool) (history : D → History) (sync_out re
           (record { actives = at.sessions_at.actives; own = at.sessions_at.own; places = at.sessions_at.places; waiting = at.sessions_at.waiting; locks = tt });
       apart = at.apart;
       checkpoint = ap (λ (k : Kept). is_some k.checkpoints.under_way) h.kept ∙ at.checkpoint;
+      databases = λ none. absurd (none-some Disk (sym none));
       valid = λ none. absurd (none-some Disk (sym none));
     }
 

@@ -59,7 +59,7 @@ use Rattle.environment.specs.declared.environment.Environment.{Environment}
 use Rattle.environment.specs.declared.written.OwnNames.{OwnNames}
 use Rattle.environment.specs.Ending.{HasAbandoned}
 use Rattle.environment.specs.Steps.{StandsAt}
-use Rattle.environment.specs.Valid.{IsValidWith, active_number, owed_by, fitting, Forest, Lives}
+use Rattle.environment.specs.Valid.{IsValidWith, active_number, owed_by, fitting, Forest, Lives, KnowsDatabases}
 use Rattle.environment.specs.Whole.{reach_of}
 use Rattle.environment.specs.Written.{AreNamesOf, had_at, names_at}
 use Rattle.environment.proofs.Answering.{owed_is}
@@ -379,6 +379,7 @@ module _ {D : Type 0} where
       sessions_at = h.sessions st a refl refl at.sessions_at;
       apart = at.apart;
       checkpoint = ap (λ (k : Kept). is_some k.checkpoints.under_way) h.kept ∙ at.checkpoint;
+      databases = λ none. subst (KnowsDatabases st) (sym h.kept) (at.databases none);
       valid = λ none. valid_still h (numbers none) is (at.valid none);
     }
 
@@ -446,6 +447,7 @@ module _ {D : Type 0} where
     sessions_at = now_;
     apart = own_waits_left (λ (w : Wait). not (w.session == session)) st.waiting at.apart;
     checkpoint = at.checkpoint;
+    databases = at.databases;
     valid = λ none. valid_waiting observable (now (history (disk_of e.engine.trees.log))) e.engine.trees.log (cells_of e.engine.trees) (has_tree_of e.engine.trees) (fitting e.engine.trees) e.engine.kept.since e.written.by_txn.entries st
         (without_call session st).waiting st.locks (at.valid none);
   }

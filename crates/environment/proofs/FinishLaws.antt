@@ -102,6 +102,7 @@ module _ {D : Type 0} where
     sessions_at = stands;
     apart = at.apart;
     checkpoint = at.checkpoint;
+    databases = at.databases;
     valid = λ none. valid_elsewhere observable (now (history (disk_below e.engine.trees.log))) e.engine.trees.log (cells_of e.engine.trees) (has_tree_of e.engine.trees) (fitting e.engine.trees) e.engine.kept.since e.written.by_txn.entries st own places locks same
         (at.valid none);
   }

@@ -1,5 +1,5 @@
 -- What refuses a call on records late, and the database that it is on.
-use Rattle.std.proofs.Common.{◌≡◌, ◌≢◌, ◌==◌, ◌∙◌, ℕ, ◌≤◌, nat_lt, Bool, true, false, true≢false, cond, List, [], ◌∷◌, Option, None, Some, is_some, find, length, refl, ap, sym, subst, rules, arith, is_eq}
+use Rattle.std.proofs.Common.{◌≡◌, ◌≢◌, ◌==◌, ◌∙◌, ℕ, ◌≤◌, nat_lt, Bool, true, false, true≢false, cond, List, [], ◌∷◌, Option, None, Some, is_some, find, length, refl, ap, ap₂, sym, subst, rules, arith, is_eq}
 use Rattle.std.specs.Prelude.{option_map}
 use Rattle.std.proofs.lemmas.Bool.{eq-eqb}
 use Rattle.std.proofs.lemmas.Bool.Decides.{nat_tests}
@@ -22,15 +22,13 @@ use Rattle.store_model.specs.declared.kind.Kind.TheVariants.{Plain as IsPlain, D
 use Rattle.store_model.specs.declared.put_mode.PutMode.{PutMode}
 use Rattle.store_model.specs.declared.put_mode.PutMode.TheVariants.{Overwrite, NoOverwrite, NoDupData}
 use Rattle.je_order.specs.declared.limits.TheConstants.{KEY_LIMIT}
-use Rattle.store_model.specs.Refusals.{access_refusal, data_limit, database_refuses, kind_refusal, motion_refusal, or_refusal, pair_refusal, too_long}
+use Rattle.store_model.specs.Refusals.{access_refusal, data_limit, index_refusal, database_refuses, kind_refusal, motion_refusal, or_refusal, pair_refusal, too_long}
 use Rattle.environment.proofs.EarlyLaws.{IsCalmRefusal, calm_or}
-use Rattle.store_model.specs.Indexes.{HasNoIndex}
 use Rattle.store_model.specs.Store.{database_of}
 use Rattle.je_answers.specs.declared.active.Active.{Active}
 use Rattle.je_answers.specs.Standing.{Standing, active_of, database_at}
-use Rattle.je_answers.specs.Views.{IsPlain as IsAlone, Target, named_target, target, target_of}
+use Rattle.je_answers.specs.Views.{Target, named_target, target, target_of}
 use Rattle.je_answers.specs.Refusals.{database_refusal, late_refusal, number_refusal, target_refusal}
-use Rattle.je_answers.proofs.PlainTargets.{plain_refusal, target_is_plain}
 use Rattle.db_catalog.specs.declared.db_kind.DbKind.{DbKind}
 use Rattle.db_catalog.specs.declared.db_kind.DbKind.TheVariants.{Plain, Dup, SliceIndex, FieldIndex}
 use Rattle.db_catalog.specs.declared.db_record.DbRecord.{DbRecord}
@@ -39,12 +37,15 @@ use Rattle.db_catalog.specs.Planning.{IsFoundAs, found_in}
 use Rattle.log_replay.specs.Logging.{record_named}
 use Rattle.log_replay.specs.Rows.{Rows, number_or_0, store_of}
 use Rattle.log_replay.proofs.RowLaws.{name_cmp-plain}
-use Rattle.log_replay.proofs.LoggedLaws.{store_has_no_index}
 use Rattle.log_replay.proofs.StoreLaws.{database_of-absent}
 use Rattle.txn_log.specs.Committing.{MakesStore}
 use Rattle.txn_log.proofs.CommittingLaws.{database_numbered}
 use Rattle.engine.proofs.CalmAnswers.{IsCalm}
-use Rattle.environment.specs.Access.{IsLate}
+use Rattle.environment.specs.Access.{IsLate, index_refuses, refuses_in}
+use Rattle.index_map.specs.Made.{Made, primary_in}
+use Rattle.environment.specs.Valid.{index_made, made_at}
+use Rattle.store_model.specs.declared.index.Index.{Index}
+use Rattle.store_model.specs.declared.extract.Extract.{Extract}
 use Rattle.standing_laws.specs.Right.{MayWait}
 use Rattle.environment.specs.Calls.{IsAtCursor, IsOnRecords}
 use Rattle.environment.specs.declared.late.Late.TheVariants.{Refused, Found}
@@ -120,17 +121,7 @@ one_first p q (h ∷ xs) x y first second py qx = by_tests (p h) (q h) refl refl
 
 found_number : (o : Option DbRecord) (f : FoundDb) → found_in o ≡ Some f → number_or_0 o ≡ f.number
 found_number None f is = absurd cc
-found_number (Some r) f is = by_kind r.kind is
-  where
-    by_kind : (k : DbKind) → Rattle.db_catalog.specs.Planning.found_db r.number (Rattle.db_catalog.specs.Planning.kind_of_catalog k) ≡ Some f → Rattle.log_replay.specs.Rows.database_number k r.number ≡ f.number
-    by_kind Plain e = ap (λ (x : FoundDb). x.number) (some_is _ f e)
-    by_kind Dup e = ap (λ (x : FoundDb). x.number) (some_is _ f e)
-    by_kind (SliceIndex primary offset len) e = absurd cc
-    by_kind (FieldIndex primary number separator) e = absurd cc
-
--- no database that a catalog has is an index
-pub none_is_index : (rows : Rows) (st : Standing) → MakesStore rows st.last_db st → HasNoIndex st.store
-none_is_index rows st makes = subst HasNoIndex makes.store (store_has_no_index rows)
+found_number (Some r) f is = ap (λ (x : FoundDb). x.number) (some_is _ f is)
 
 -- the database of a name is that of the name's number
 pub record IsKnownAs (st : Standing) (db : List ℕ) (d : Database) : Type 0 where
@@ -181,6 +172,29 @@ module _ (rows : Rows) (st : Standing) (makes : MakesStore rows st.last_db st) (
   pub number_by : (found : Option FoundDb) (f : FoundDb) → found ≡ found_in (record_named rows db) → found ≡ Some f → st.numbers db ≡ f.number
   number_by found f exact there = sym (makes.named db) ∙ found_number (record_named rows db) f (sym exact ∙ there)
 
+-- ---- what its database refuses
+
+index_refused : (call : Call) (o : Option Index) → index_refusal call o ≡ index_refuses call (is_some o)
+index_refused (Put db key value mode) None = refl
+index_refused (Put db key value mode) (Some index) = refl
+index_refused (CPutCur cursor value) None = refl
+index_refused (CPutCur cursor value) (Some index) = refl
+index_refused (CPut cursor key value mode) None = refl
+index_refused (CPut cursor key value mode) (Some index) = refl
+index_refused call o = refl
+
+some_primary : (numbers : List ℕ → ℕ) (o : Option Index) → is_some (option_map (λ (m : ℕ × Extract). m.0) (option_map (λ (i : Index). (numbers i.primary, i.extract)) o)) ≡ is_some o
+some_primary numbers None = refl
+some_primary numbers (Some index) = refl
+
+-- the database that was found, by its number and kind, and by the indexes that are known
+pub target_refuses : (st : Standing) (call : Call) (f : FoundDb) (d : Database) → database_at f.number st ≡ Some d → d.kind ≡ f.kind →
+    or_refusal (index_refusal call d.index) (database_refuses d.kind call) ≡ refuses_in (made_at st.numbers st.store) f call
+target_refuses st call f d there kind =
+    ap₂ (λ (o : Option Answer) (k : Kind). or_refusal o (database_refuses k call))
+    (index_refused call d.index
+    ∙ ap (index_refuses call) (sym (some_primary st.numbers d.index) ∙ sym (ap (λ (o : Option Database). is_some (option_map (λ (m : ℕ × Extract). m.0) (index_made st.numbers o))) there))) kind
+
 module _ (rows : Rows) (st : Standing) (makes : MakesStore rows st.last_db st) (session : ℕ) (call : Call) (db : List ℕ) (on : IsOnRecords db call) where
   abbrev pub number : Option Answer
   number = number_refusal st.last_txn (active_of session st.actives)
@@ -189,12 +203,8 @@ module _ (rows : Rows) (st : Standing) (makes : MakesStore rows st.last_db st) (
   late_on o is = late_is st session call db on
       ∙ ap (λ (x : Option Database). or_refusal number (or_refusal (access_refusal (is_some x)) (or_refusal None (target_refusal call (option_map (target st.numbers st.store (st.numbers db) None) x))))) is
 
-  -- its database is no index and has none
   target_there : (d : Database) → database_of db st.store ≡ Some d → target_of st session call ≡ Some (target st.numbers st.store (st.numbers db) None d)
   target_there d is = target_is st session call db on ∙ ap (option_map (target st.numbers st.store (st.numbers db) None)) is
-
-  is_plain_there : (d : Database) → database_of db st.store ≡ Some d → IsAlone (target st.numbers st.store (st.numbers db) None d)
-  is_plain_there d is = target_is_plain st session call (target st.numbers st.store (st.numbers db) None d) (none_is_index rows st makes) (target_there d is)
 
   pub late_number : is_some number ≡ true → IsLate st session call db (Refused IdsEnded)
   late_number is = (
@@ -209,24 +219,25 @@ module _ (rows : Rows) (st : Standing) (makes : MakesStore rows st.last_db st) (
         refl,
       )
 
-  pub late_refuses : is_some number ≡ false → (found : Option FoundDb) (f : FoundDb) → IsFoundAs (database_of db (store_of rows)) found → found ≡ Some f → (answer : Answer) → database_refuses f.kind call ≡ Some answer → IsCalm answer →
-      IsLate st session call db (Refused answer)
-  late_refuses none found f as_ there answer refuses calm =
+  pub late_refuses : is_some number ≡ false → (found : Option FoundDb) (f : FoundDb) → IsFoundAs (database_of db (store_of rows)) found → found ≡ Some f → found ≡ found_in (record_named rows db) → (answer : Answer) →
+      refuses_in (made_at st.numbers st.store) f call ≡ Some answer → IsCalm answer → IsLate st session call db (Refused answer)
+  late_refuses none found f as_ there exact answer refuses calm =
       let d = there_by rows st makes db found f as_ there in (
         late_on (Some d.database) d.is ∙ ap (λ (n : Option Answer). or_refusal n (target_refusal call (Some (target st.numbers st.store (st.numbers db) None d.database)))) (number_is_none number none)
-            ∙ plain_refusal call (target st.numbers st.store (st.numbers db) None d.database) (is_plain_there d.database d.is) ∙ ap (λ (k : Kind). database_refuses k call) d.kind ∙ refuses,
+            ∙ target_refuses st call f d.database (ap (λ (n : ℕ). database_at n st) (sym (number_by rows st makes db found f exact there)) ∙ (known_as rows st makes db d.database d.is).there) d.kind ∙ refuses,
         calm,
       )
 
-  pub late_found : is_some number ≡ false → (found : Option FoundDb) (f : FoundDb) → found ≡ found_in (record_named rows db) → IsFoundAs (database_of db (store_of rows)) found → found ≡ Some f → database_refuses f.kind call ≡ None →
-      IsLate st session call db (Found f)
+  pub late_found : is_some number ≡ false → (found : Option FoundDb) (f : FoundDb) → found ≡ found_in (record_named rows db) → IsFoundAs (database_of db (store_of rows)) found → found ≡ Some f →
+      refuses_in (made_at st.numbers st.store) f call ≡ None → IsLate st session call db (Found f)
   late_found none found f exact as_ there refuses = (
     g,
     record {
       late = late_on (Some d.database) d.is ∙ ap (λ (n : Option Answer). or_refusal n (target_refusal call (Some g))) (number_is_none number none)
-          ∙ plain_refusal call g (is_plain_there d.database d.is) ∙ ap (λ (k : Kind). database_refuses k call) d.kind ∙ refuses;
+          ∙ target_refuses st call f d.database (ap (λ (n : ℕ). database_at n st) (sym named_number) ∙ known.there) d.kind ∙ refuses;
       target = target_there d.database d.is;
-      alone = is_plain_there d.database d.is;
+      over = refl;
+      indexes = refl;
       number = named_number;
       kind = d.kind;
       name = known.name;
@@ -299,6 +310,18 @@ calm_refuses kind (CPutCur cursor value) is = calm_or (kind_refusal (CPutCur cur
 calm_refuses kind (CDel cursor) is = tt
 calm_refuses kind (CPut cursor key value mode) is = calm_or (kind_refusal (CPut cursor key value mode) kind) _ (calm_cursor_put kind mode cursor key value) (calm_pair kind key value)
 calm_refuses kind call is = absurd is
+
+calm_index : (call : Call) (is_index : Bool) → IsCalmRefusal (index_refuses call is_index)
+calm_index (Put db key value mode) true = refl
+calm_index (Put db key value mode) false = tt
+calm_index (CPutCur cursor value) true = refl
+calm_index (CPutCur cursor value) false = tt
+calm_index (CPut cursor key value mode) true = refl
+calm_index (CPut cursor key value mode) false = tt
+calm_index call is_index = tt
+
+pub calm_in : (made : Made) (f : FoundDb) (call : Call) → MayWait call → IsCalmRefusal (refuses_in made f call)
+calm_in made f call is = calm_or (index_refuses call (is_some (primary_in made f.number))) (database_refuses f.kind call) (calm_index call (is_some (primary_in made f.number))) (calm_refuses f.kind call is)
 
 -- a call on the records of a database by its name is one on records, and so is one at a cursor
 pub may_wait : (call : Call) (db : List ℕ) → IsOnRecords db call → MayWait call

@@ -1,4 +1,6 @@
 -- Where the life of an environment began.
+-- What an environment knows of its databases.
+pub mod Databases
 pub mod Bases
 -- The LSN that each transaction logged nothing before.
 pub mod Firsts
@@ -80,6 +82,12 @@ pub mod OwnLogged
 pub mod CatalogEnds
 -- A change of the catalog is logged.
 pub mod CatalogLogged
+-- What is known of databases behind a change of the catalog.
+pub mod KnownChanges
+-- What is known of databases follows a change of the catalog: what was held for it is settled.
+pub mod HoldingLaws
+-- A change of the catalog that was logged, or not, is followed by what is known of databases.
+pub mod FollowLaws
 -- It is logged with its Commit, or not.
 pub mod AutoLogged
 -- A call on records in a transaction.
@@ -116,3 +124,9 @@ pub mod TurningSteps
 pub mod TurningAnswers
 -- The least first LSN of the transactions under way.
 pub mod LeastFirst
+-- The keys of an index are short.
+pub mod ShortKeys
+-- The databases of a target are there.
+pub mod TargetThere
+-- The databases beside that of a call.
+pub mod BesideLaws

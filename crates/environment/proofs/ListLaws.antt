@@ -25,7 +25,7 @@ use Rattle.record_tree.specs.Occupied.{AllCells}
 use Rattle.in_tree.specs.Observed.{cells_of, has_tree_of}
 use Rattle.txn_core.specs.Known.{Known, committed}
 use Rattle.txn_core.specs.Planning.{HasModel, IsPlanned}
-use Rattle.txn_core.specs.declared.planned.Planned.TheVariants.{Answered, Logs}
+use Rattle.txn_core.specs.declared.planned.Planned.TheVariants.{Answered, Logs, Fills}
 use Rattle.txn_core.specs.declared.planned_changes.PlannedChanges.{PlannedChanges}
 use Rattle.txn_log.proofs.Giving.{still_gives}
 use Rattle.environment.specs.declared.environment.Environment.{Environment}
@@ -56,7 +56,12 @@ planned_names known st answer store last plan = sym (ap (λ o. o.answer) (plan (
 pub logs_nothing : (known : Known) (st : Standing) (planned : PlannedChanges) → store_of known.rows ≡ st.store → known.last_db ≡ st.last_db →
     ((p : Alone) (session : ℕ) → HasModel known p → IsPlanned known p session Lists (Logs planned)) → ⊥
 unfolding model_of
-logs_nothing known st planned store last plan = let log = plan (model_of st) 0 (has_model known st store last) in let is = log.changes in absurd cc
+logs_nothing known st planned store last plan = let log = plan (model_of st) 0 (has_model known st store last) in let is = log.0.changes in absurd cc
+
+pub fills_nothing : (known : Known) (st : Standing) (planned : PlannedChanges) → store_of known.rows ≡ st.store → known.last_db ≡ st.last_db →
+    ((p : Alone) (session : ℕ) → HasModel known p → IsPlanned known p session Lists (Fills planned)) → ⊥
+unfolding model_of
+fills_nothing known st planned store last plan = let log = plan (model_of st) 0 (has_model known st store last) in let is = log.0.changes in absurd cc
 
 -- ---- a number is drawn
 
@@ -101,6 +106,7 @@ module _ {D : Type 0} where
     sessions_at = at.sessions_at;
     apart = at.apart;
     checkpoint = at.checkpoint;
+    databases = at.databases;
     valid = λ none. valid_drawn observable (now (history (disk_below e.engine.trees.log))) e.engine.trees.log (cells_of e.engine.trees) (has_tree_of e.engine.trees) (fitting e.engine.trees) e.engine.kept.since e.written.by_txn.entries st last more (at.valid none);
   }
 

@@ -41,7 +41,7 @@ use Rattle.log_buffer.specs.Buffer.{IsUnchanged, disk_of as disk_below, end_of, 
 use Rattle.log_replay.specs.Logging.{all_row_changes}
 use Rattle.in_tree.specs.Observed.{cells_of, has_tree_of, limit_in, waits_of}
 use Rattle.txn_core.specs.Known.{committed}
-use Rattle.txn_core.specs.Planning.{row_by}
+use Rattle.txn_core.specs.Planning.{makes_index, row_by}
 use Rattle.txn_log.specs.Own.{tree_of}
 use Rattle.txn_views.specs.Laws.{AreSeenBy}
 use Rattle.txn_views.specs.Seen.{is_right_change, seen_rows}
@@ -73,8 +73,8 @@ use Rattle.environment.proofs.CallChanges.{may_make, one_key, some_changed, some
 use Rattle.environment.proofs.IndexKeys.{index_key}
 use Rattle.environment.proofs.ChangeLaws.{Changed, entries_are}
 use Rattle.environment.specs.Steps.{HasNotCome, HasStepped, IsLogStep, StandsAt}
-use Rattle.environment.specs.Valid.{active_number, owed_by, fitting}
-use Rattle.environment.specs.Whole.{CanGoOn, HasLimit, reach_of}
+use Rattle.environment.specs.Valid.{active_number, owed_by, fitting, KnowsDatabases}
+use Rattle.environment.specs.Whole.{CanGoOn, HasLimit, limit_found, reach_of}
 use Rattle.environment.specs.Writing.{IsLeft, IsValidAt, MayWrite, WritesAll, WritesOwn}
 use Rattle.environment.proofs.Answering.{owed_is, owed_with}
 use Rattle.environment.proofs.CatalogValid.{low}
@@ -218,7 +218,7 @@ module _ {D : Type 0} (observable : Bool) (history : D → History) (sync_out re
     planned = has.planned;
     rows = subst (λ (x : Engine D). map (row_by 0) has.planned ≡ all_row_changes 0 x.kept.last_db (c ∷ changes) (committed (cells_of x.trees))) same has.rows;
     makes = subst (λ (x : Engine D). x.kept.last_db + made_by (c ∷ changes) < 2 ^ 32 → (d : ℕ) → is_made d has.planned ≡ true → x.kept.last_db < d) same has.makes;
-    is = subst (λ (x : Engine D). limit ≡ limit_by (limit_in x.trees has.planned owed) x.kept.last_node (length has.planned)) same has.is;
+    is = subst (λ (x : Engine D). limit ≡ limit_by (limit_found (makes_index (c ∷ changes)) x.trees has.planned owed) x.kept.last_node (length has.planned)) same has.is;
   }
 
   left_moves : (e before new : Environment D) → e.engine ≡ before.engine → IsLeft e new → IsLeft before new
@@ -294,6 +294,7 @@ module _ {D : Type 0} (observable : Bool) (history : D → History) (sync_out re
       sessions_at = stands;
       apart = here.apart;
       checkpoint = ap (λ (k : Kept). is_some k.checkpoints.under_way) w.4 ∙ here.checkpoint;
+      databases = λ calm. subst (KnowsDatabases st) (sym w.4) (here.databases calm);
       valid = λ calm. valid_elsewhere observable (now (history (disk_below mid.engine.trees.log))) mid.engine.trees.log (cells_of mid.engine.trees) (has_tree_of mid.engine.trees) (fitting mid.engine.trees) mid.engine.kept.since mid.written.by_txn.entries own_ own_.own
           OwnDone.places OwnDone.locks refl w.0;
     }
@@ -334,6 +335,7 @@ module _ {D : Type 0} (observable : Bool) (history : D → History) (sync_out re
       sessions_at = stands;
       apart = here.apart;
       checkpoint = ap (λ (k : Kept). is_some k.checkpoints.under_way) left.kept ∙ here.checkpoint;
+      databases = λ calm. subst (KnowsDatabases st) (sym left.kept) (here.databases calm);
       valid = λ calm. valid_elsewhere observable (now (history (disk_below mid.engine.trees.log))) mid.engine.trees.log (cells_of mid.engine.trees) (has_tree_of mid.engine.trees) (fitting mid.engine.trees) mid.engine.kept.since mid.written.by_txn.entries st st.own
           st.places locks refl valid;
     }
@@ -378,6 +380,7 @@ module _ {D : Type 0} (observable : Bool) (history : D → History) (sync_out re
         sessions_at = record { actives = stands.actives; own = stands.own; places = stands.places; waiting = stands.waiting; locks = tt };
         apart = here.apart;
         checkpoint = ap (λ (k : Kept). is_some k.checkpoints.under_way) w.3 ∙ here.checkpoint;
+        databases = λ calm. absurd cc;
         valid = λ calm. absurd cc;
       };
       numbered = tt;
@@ -570,6 +573,7 @@ module _ {D : Type 0} (observable : Bool) (history : D → History) (sync_out re
             sessions_at = stands;
             apart = up.here.apart;
             checkpoint = ap (λ (k : Kept). is_some k.checkpoints.under_way) w.1.kept ∙ up.here.checkpoint;
+            databases = λ calm. subst (KnowsDatabases st) (sym w.1.kept) (up.here.databases calm);
             valid = λ calm. w.0;
           };
           log = w.1.log;

@@ -18,6 +18,7 @@ use Rattle.in_tree.specs.Observed.{waits_of}
 use Rattle.sessions.specs.declared.all_sessions.Sessions.{Sessions}
 use Rattle.sessions.specs.AtStanding.{AreSessionsAt, owing}
 use Rattle.engine.specs.Limits.{IsWithin}
+use Rattle.environment.proofs.Databases.{known_leaves}
 use Rattle.environment.specs.declared.environment.Environment.{Environment}
 use Rattle.environment.specs.declared.outcome.Outcome.{Outcome}
 use Rattle.environment.specs.Access.{AccessesTo, HasAccessed, IsFoundFor, IsTakenUp}
@@ -39,6 +40,7 @@ use Rattle.je_answers.specs.After.{after_stop, after_taking}
 use Rattle.je_answers.specs.Journal.{changes_taken}
 use Rattle.log_buffer.specs.Buffer.{disk_of as disk_below}
 use Rattle.in_tree.specs.Observed.{cells_of, has_tree_of}
+use Rattle.txn_core.specs.Known.{committed}
 use Rattle.sessions.specs.declared.taken.Taken.{Taken}
 use Rattle.sessions.specs.declared.taken.Taken.TheVariants.{Ready, Stopped}
 use Rattle.store_model.specs.Refusals.{database_refuses, or_refusal}
@@ -59,7 +61,8 @@ use Rattle.environment.proofs.AccessLaws.{calm_cause}
 use Rattle.environment.proofs.Answering.{within_more}
 use Rattle.environment.proofs.AutoLaws.{valid_leaves}
 use Rattle.environment.proofs.EarlyLaws.{same_buffer}
-use Rattle.environment.proofs.PlanLaws.{db_there, on_db}
+use Rattle.environment.proofs.BesideLaws.{db_there}
+use Rattle.environment.proofs.PlanLaws.{on_db}
 
 module _ {D : Type 0} (observable : Bool) (history : D → History) (sync_out read_out : D → Option ℕ) (read_of : D → ℕ) where
   -- what a call came to in its session's transaction is what it came to
@@ -113,6 +116,7 @@ module _ {D : Type 0} (observable : Bool) (history : D → History) (sync_out re
     sessions_at = at;
     apart = here.apart;
     checkpoint = here.checkpoint;
+    databases = here.databases;
     valid = here.valid;
   }
 
@@ -170,6 +174,7 @@ module _ {D : Type 0} (observable : Bool) (history : D → History) (sync_out re
     sessions_at = at;
     apart = apart;
     checkpoint = here.checkpoint ∙ sym same.checkpoint;
+    databases = λ none. known_leaves st after e.engine.kept same (here.databases (sym same.fault ∙ none));
     valid = λ none. valid_leaves observable (now (history (disk_below e.engine.trees.log))) e.engine.trees.log (cells_of e.engine.trees) (has_tree_of e.engine.trees) (fitting e.engine.trees) e.engine.kept.since e.written.by_txn.entries st after same
         (here.valid (sym same.fault ∙ none));
   }
@@ -243,7 +248,7 @@ module _ {D : Type 0} (observable : Bool) (history : D → History) (sync_out re
     here = here;
     sound = sound;
     valid = none;
-    on = db_there st db f g (on_db st session call db f at g found);
+    on = db_there (committed (cells_of e.engine.trees)) st (here.valid none).makes e.engine.kept (here.databases none) db f g (on_db st session call db f at g found);
     its = its;
     records = may;
     plain = (not_refused_there st session call db f at g found).1;

@@ -65,7 +65,8 @@ use Rattle.environment.specs.declared.environment.Environment.{Environment}
 use Rattle.environment.specs.declared.wrote.Wrote.{Wrote}
 use Rattle.environment.specs.declared.wrote.Wrote.TheVariants.{Done, Full, NoNumbers, Failed}
 use Rattle.environment.specs.Valid.{active_number, fitting, Lives, waiting_in}
-use Rattle.environment.specs.Whole.{HasLimit}
+use Rattle.environment.specs.Whole.{HasLimit, limit_found}
+use Rattle.txn_core.proofs.NoIndexes.{named_no_index}
 use Rattle.environment.specs.Written.{AreNamesOf, had_at, names_at, AreFirstsOf}
 use Rattle.environment.specs.Writing.{HasWrittenNone, HasWrittenOwn, IsLeft, IsValidAt, MayWrite, WritesAll, WritesOwn, has_record, wrote_by}
 use Rattle.environment.proofs.EndingLaws.{room_unchanged}
@@ -117,7 +118,7 @@ module _ {D : Type 0} (observable : Bool) (history : D → History) (sync_out re
     planned = planned_of (c ∷ cs);
     rows = rows_are (rows_in old) st.last_db st v.makes 0 (c ∷ cs) m.each ∙ ap (λ (n : ℕ). all_row_changes 0 n (with_names (c ∷ cs)) (rows_in old)) (sym last);
     makes = λ few d made. absurd (true≢false (sym made ∙ makes_none d (with_numbers (c ∷ cs))));
-    is = is;
+    is = is ∙ ap (λ (b : Bool). limit_by (limit_found b old.engine.trees (planned_of (c ∷ cs)) owed) old.engine.kept.last_node (length (planned_of (c ∷ cs)))) (sym (named_no_index (c ∷ cs)));
   }
 
   none_found : (found : Option TreeErr) (node count : ℕ) → wrote_by found ≡ NoNumbers → nat_lt last_number (node + numbers_for count) ≡ true → Some IdsEnded ≡ limit_by found node count

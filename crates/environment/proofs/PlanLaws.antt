@@ -1,6 +1,6 @@
 -- What a transaction sees of the database that a call is on.
-use Rattle.std.proofs.Common.{◌≡◌, ◌≢◌, ◌≤◌, ◌∙◌, ◌++◌, inr, ℕ, Bool, true, List, [], ◌∷◌, Option, None, Some, IfSome, map, option_map, is_eq, ap, ap₂, sym, subst, rules}
-use Rattle.std.specs.Prelude.{option_to_list}
+use Rattle.std.proofs.Common.{◌≡◌, ◌≢◌, ◌≤◌, ◌∙◌, ◌⊎◌, inl, inr, ℕ, Bool, true, List, [], ◌∷◌, Option, None, Some, IfSome, map, option_map, is_eq, refl, ap, sym, subst, rules}
+use Rattle.std.proofs.lemmas.Option.{same_Some}
 use Rattle.std.specs.List.{AllByRecursion}
 use Rattle.je_order.specs.Order.{name_cmp}
 use Rattle.je_order.proofs.Lists.{all_weaker, filter_all_pass}
@@ -8,6 +8,7 @@ use Rattle.record_map.specs.Cells.{IsRising}
 use Rattle.record_tree.specs.Occupied.{AllCells, Occupied, is_occupied, occupied_by}
 use Rattle.store_model.specs.declared.call.Call.{Call}
 use Rattle.store_model.specs.declared.kind.Kind.{Kind}
+use Rattle.store_model.specs.declared.kind.Kind.TheVariants.{Plain, Dup}
 use Rattle.store_model.specs.Indexes.{Numbered, changed_database}
 use Rattle.store_model.specs.declared.record_change.RecordChange.{RecordChange}
 use Rattle.store_model.specs.declared.record_change.RecordChange.TheVariants.{Set, Unset}
@@ -17,18 +18,18 @@ use Rattle.je_order.specs.declared.name.Name.{Name}
 use Rattle.store_model.specs.Store.{database_of}
 use Rattle.je_answers.specs.declared.active.Active.{Active}
 use Rattle.je_answers.specs.Standing.{Standing}
-use Rattle.je_answers.specs.Views.{IsPlain, Target}
+use Rattle.je_answers.specs.Views.{Target}
 use Rattle.db_catalog.specs.declared.found_db.FoundDb.{FoundDb}
-use Rattle.log_replay.specs.Logging.{kind_named, number_named}
+use Rattle.log_replay.specs.Logging.{index_named, kind_named, number_named}
 use Rattle.log_replay.specs.Rows.{Row, Rows, are_right, catalog_kind, catalog_number, pair_of}
-use Rattle.sessions.specs.declared.named_db.NamedDb.{NamedDb}
-use Rattle.sessions.specs.Names.{AreOthersOf, known as known_as, known_in}
 use Rattle.txn_views.specs.declared.found_target.FoundTarget.{FoundTarget}
+use Rattle.index_map.specs.declared.found_index.FoundIndex.{FoundIndex}
+use Rattle.index_map.specs.Laws.{db_at, indexes_at, known, over_of}
 use Rattle.txn_views.specs.declared.outcome_plan.OutcomePlan.{OutcomePlan}
-use Rattle.txn_views.specs.Targets.{AreSeenAs, IsFoundTarget, IsOutcomeIn, IsOutcomePlan, IsReadable, IsSeenAs, IsTargetPlan, indexes_at, known, over_of}
+use Rattle.txn_views.specs.Targets.{AreReadable, AreSeenAs, IsFoundTarget, IsOutcomeIn, IsOutcomePlan, IsReadable, IsSeenAs, IsTargetPlan, changing_at}
 use Rattle.txn_views.proofs.PlanLaws.{outcomes_are_models, plans_are_models}
 use Rattle.log_replay.proofs.ListLaws.{found}
-use Rattle.log_replay.proofs.StoreLaws.{database_of-numbered, environment_parts, row_named}
+use Rattle.log_replay.proofs.StoreLaws.{database_of-numbered, environment_parts, primaries_in, row_named}
 use Rattle.standing_laws.specs.Right.{AreSound}
 use Rattle.in_tree.specs.Forest.{cells_at}
 use Rattle.in_tree.specs.declared.logged_trees.LogTrees.{LogTrees}
@@ -52,7 +53,10 @@ use Rattle.txn_views.proofs.ViewLaws.{views-are_seen}
 use Rattle.environment.specs.declared.call_plan.CallPlan.{CallPlan}
 use Rattle.environment.specs.declared.environment.Environment.{Environment}
 use Rattle.environment.specs.Writing.{IsValidAt}
-use Rattle.environment.specs.Access.{AreNumbersApart, AreThere, IsDbAt, IsFoundFor, IsIndexAt, IsOnDb, IsPlannedFor, IsPrimaryAt}
+use Rattle.environment.specs.Access.{AreThere, IsDbAt, IsFoundFor, IsIndexAt, IsOnDb, IsPlannedFor, IsPrimaryAt}
+use Rattle.environment.specs.Beside.{IsTargetBy, as_beside, beside_of, name_in}
+use Rattle.environment.specs.Valid.{KnowsDatabases}
+use Rattle.environment.proofs.BesideLaws.{db_there, found_target, others_beside}
 
 some_is : {X : Type 0} (x y : X) → Some x ≡ Some y → x ≡ y
 some_is x y e = search (rules, e)
@@ -64,7 +68,8 @@ are_occupied trees d = filter_all_pass (λ (e : Name × Occupied). is_occupied e
 -- the database that a call is on
 pub on_db : (st : Standing) (session : ℕ) (call : Call) (db : List ℕ) (f : FoundDb) (at : Option Name) (g : Target) → IsFoundFor st session call db f at g → IsOnDb st db f g
 on_db st session call db f at g found = record {
-  alone = found.alone;
+  over = found.over;
+  indexes = found.indexes;
   number = found.number;
   kind = found.kind;
   name = found.name;
@@ -74,38 +79,11 @@ on_db st session call db f at g found = record {
   above = found.above;
 }
 
--- a target that is no index and has none is there where its database is
-pub alone_there : (st : Standing) (g : Target) → IsPlain g → IsDbAt st (g.db, g.database) → AreThere st g
-alone_there st g plain at = record {
-  own = at;
-  over = by_over g.over plain.over;
-  indexes = by_indexes g.indexes plain.indexes;
-  apart = by_apart (changed_database g.over (g.db, g.database)) g.indexes plain.indexes;
-  plain = inr plain.indexes;
-}
-  where
-    by_over : (o : Option Numbered) → o ≡ None → IfSome o (IsPrimaryAt st g)
-    by_over None is = tt
-    by_over (Some d) is = absurd cc
-
-    by_indexes : (ds : List Numbered) → ds ≡ [] → AllByRecursion (IsIndexAt st) ds
-    by_indexes [] is = tt
-    by_indexes (d ∷ ds) is = absurd cc
-
-    by_apart : (d : Numbered) (ds : List Numbered) → ds ≡ [] → AreNumbersApart (d ∷ ds)
-    by_apart d [] is = (tt, tt)
-    by_apart d (e ∷ ds) is = absurd cc
-
--- the databases of what a call is on are there
-pub db_there : (st : Standing) (db : List ℕ) (f : FoundDb) (g : Target) → IsOnDb st db f g → AreThere st g
-db_there st db f g on =
-    alone_there st g on.alone (record { is = subst (λ (n : List ℕ). database_of n st.store ≡ Some g.database) (sym on.name) on.is; there = on.there; named = on.named; above = on.above })
-
 -- of two names with one number there is one
 same_name : (rows : Rows) (last_db : ℕ) (db other : List ℕ) {st : Standing} → MakesStore rows last_db st → number_named rows db ≢ 0 → number_named rows other ≡ number_named rows db → other ≡ db
 same_name rows last_db db other makes has same =
     same_is other db (apart_named rows last_db db other
-    (record { environment = environment_parts rows makes.environment; rising = makes.rising; unused = makes.unused; numbers = all_of_map number_of_row (λ n. n ≤ last_db) (rows 0) makes.numbers }) has same)
+    (record { environment = environment_parts rows makes.environment; primaries = primaries_in rows makes.environment; rising = makes.rising; unused = makes.unused; numbers = all_of_map number_of_row (λ n. n ≤ last_db) (rows 0) makes.numbers }) has same)
 
 -- a database as the target of a call
 abbrev pub lone : Numbered → Target
@@ -121,7 +99,7 @@ module _ (rows : Rows) (st : Standing) (makes : MakesStore rows st.last_db st) (
 
   -- so it is the database that the catalog's records make
   abbrev pub made : Kind → ℕ → Database
-  made kind number = record { name = d.1.name; kind = kind; index = None; pairs = map (pair_of kind) (rows number) }
+  made kind number = record { name = d.1.name; kind = kind; index = index_named rows d.1.name; pairs = map (pair_of kind) (rows number) }
 
   database_is : d.1 ≡ made (kind_named rows d.1.name) (number_named rows d.1.name)
   database_is = some_is d.1 _ (sym at.is ∙ ap (database_of d.1.name) (sym makes.store) ∙ database_of-numbered rows d.1.name makes.environment has)
@@ -151,6 +129,33 @@ module _ (rows : Rows) (st : Standing) (makes : MakesStore rows st.last_db st) (
 
   pub own_is_proper : (own : List (ℕ × RecordChange)) → AllByRecursion (MayBeCommitted rows) own → AllByRecursion (λ c. c.0 ≡ d.0 → IsProperChange d.1.kind c.1) own
   own_is_proper own may = all_weaker (MayBeCommitted rows) (λ c. c.0 ≡ d.0 → IsProperChange d.1.kind c.1) (λ c m here. proper_of c m here) own may
+
+-- ---- what is found of a target
+
+-- the first of some databases, by what a plan knows of it, and those behind it
+abbrev first_number : ℕ → List Numbered → ℕ
+first_number n [] = n
+first_number n (d ∷ ds) = d.0
+
+abbrev behind : List Numbered → List Numbered
+behind [] = []
+behind (d ∷ ds) = ds
+
+none_found : (is : List Numbered) (fs : List FoundIndex) → indexes_at fs ≡ map known is → is ≡ [] → fs ≡ []
+none_found [] [] e none = refl
+none_found [] (f ∷ fs) e none = absurd cc
+none_found (i ∷ is) fs e none = absurd cc
+
+-- the database whose records change, by its kind
+changing_kind : (g : Target) (f : FoundDb) (o : Option Numbered) (over : Option ℕ) → f.kind ≡ g.database.kind → over_of over ≡ option_map known o → (changing_at over f).kind ≡ (changed_database o (g.db, g.database)).1.kind
+changing_kind g f None None kind is = kind
+changing_kind g f None (Some n) kind is = absurd cc
+changing_kind g f (Some p) None kind is = absurd cc
+changing_kind g f (Some p) (Some n) kind is = ap (λ (d : Numbered). d.1.kind) (same_Some (db_at n Plain) (known p) is)
+
+plain_or_none : (g : Target) (f : FoundTarget) → IsFoundTarget g f → ((changed_database g.over (g.db, g.database)).1.kind ≡ Plain) ⊎ (g.indexes ≡ []) → ((changing_at f.over f.db).kind ≡ Plain) ⊎ (f.indexes.now ≡ [])
+plain_or_none g f is (inl plain) = inl (changing_kind g f.db g.over f.over is.kind is.over ∙ plain)
+plain_or_none g f is (inr none) = inr (none_found g.indexes f.indexes.now is.indexes none)
 
 -- ---- what a transaction sees of the databases of a target
 
@@ -191,59 +196,74 @@ module _ {D : Type 0} (trees : LogTrees D) (st : Standing) (sound : AreSound st)
       by_over None primary = tt
       by_over (Some d) primary = seen_as a d primary.at
 
-  -- it can be read where it is found by its number and kind
-  pub readable_on : (a : Active) (g : Target) (f : FoundDb) (txn : TxnId) (level : Isolation) → IsDbAt st (g.db, g.database) → g.db ≡ f.number → g.database.kind ≡ f.kind → a.txn ≡ txn → a.level ≡ level →
-      IsReadable level txn (cells_of trees) f.number f.kind
-  readable_on a g f txn level at number kind is_txn is_level = record {
-    right =
-        subst (λ (l : Isolation). are_right f.kind (seen_rows l txn (cells_of trees f.number)) ≡ true) is_level
-        (subst (λ (t : TxnId). are_right f.kind (seen_rows a.level t (cells_of trees f.number)) ≡ true) is_txn
-        (subst (λ (n : ℕ). are_right f.kind (seen_rows a.level a.txn (cells_of trees n)) ≡ true) number
-        (subst (λ (k : Kind). are_right k (seen_rows a.level a.txn (cells_of trees g.db)) ≡ true) kind (seen_on a g at).right)));
-    rising = rising f.number;
-  }
+  -- each can be read where it is found by its number and kind
+  module _ (a : Active) (txn : TxnId) (level : Isolation) (is_txn : a.txn ≡ txn) (is_level : a.level ≡ level) where
+    readable_db : (d : Numbered) (number : ℕ) (kind : Kind) → IsDbAt st d → d.0 ≡ number → d.1.kind ≡ kind → IsReadable level txn (cells_of trees) number kind
+    readable_db d number kind at is is_kind = record {
+      right =
+          subst (λ (l : Isolation). are_right kind (seen_rows l txn (cells_of trees number)) ≡ true) is_level
+          (subst (λ (t : TxnId). are_right kind (seen_rows a.level t (cells_of trees number)) ≡ true) is_txn
+          (subst (λ (n : ℕ). are_right kind (seen_rows a.level a.txn (cells_of trees n)) ≡ true) is
+          (subst (λ (k : Kind). are_right k (seen_rows a.level a.txn (cells_of trees d.0)) ≡ true) is_kind (seen_db a d at).right)));
+      rising = rising number;
+    }
 
--- the database that was found is the target, which is no index and has none
-alone_found : (g : Target) (f : FoundTarget) → IsPlain g → g.db ≡ f.db.number → g.database.kind ≡ f.db.kind → f.over ≡ None → f.indexes.now ≡ [] → IsFoundTarget g f
-alone_found g f plain number kind over indexes = record {
-  number = sym number;
-  kind = sym kind;
-  over = ap over_of over ∙ ap (option_map known) (sym plain.over);
-  indexes = ap indexes_at indexes ∙ ap (map known) (sym plain.indexes);
-}
+    readable_over : (g : Target) (o : Option Numbered) (over : Option ℕ) → over_of over ≡ option_map known o → IfSome o (IsPrimaryAt st g) → IfSome over (λ number. IsReadable level txn (cells_of trees) number Plain)
+    readable_over g None None is at = tt
+    readable_over g None (Some n) is at = absurd cc
+    readable_over g (Some p) None is at = tt
+    readable_over g (Some p) (Some n) is at = readable_db p n Plain at.at (sym (ap (λ (d : Numbered). d.0) (same_Some (db_at n Plain) (known p) is))) at.kind
 
--- so no others are beside it
-alone_beside : (others : List NamedDb) (g : Target) → IsPlain g → others ≡ [] → AreOthersOf others g
-alone_beside others g plain none = ap (map known_as) none ∙ ap₂ (λ (x : Option Numbered) (y : List Numbered). map known_in (option_to_list x ++ y)) (sym plain.over) (sym plain.indexes)
+    readable_indexes : (is : List Numbered) (fs : List FoundIndex) → indexes_at fs ≡ map known is → AllByRecursion (IsIndexAt st) is → AllByRecursion (λ i. IsReadable level txn (cells_of trees) i.number Dup) fs
+    readable_indexes [] [] e all = tt
+    readable_indexes [] (f ∷ fs) e all = absurd cc
+    readable_indexes (i ∷ is) [] e all = tt
+    readable_indexes (i ∷ is) (f ∷ fs) e all = (readable_db i f.number Dup all.0.at (sym (ap (first_number 0) e)) all.0.kind, readable_indexes is fs (ap behind e) all.1)
+
+    pub readable_target : (g : Target) (f : FoundTarget) → AreThere st g → IsFoundTarget g f → AreReadable level txn (cells_of trees) f
+    readable_target g f there is = record {
+      db = readable_db (g.db, g.database) f.db.number f.db.kind there.own (sym is.number) (sym is.kind);
+      over = readable_over g g.over f.over is.over there.over;
+      indexes = readable_indexes g.indexes f.indexes.now is.indexes there.indexes;
+      plain = plain_or_none g f is there.plain;
+    }
 
 -- so the plan of a call is the model's
 module _ {D : Type 0} (trees : LogTrees D) (txn : TxnId) (level : Isolation) (db : List ℕ) (f : FoundDb) (call : Call) (at : Option Name) (rising : (d : ℕ) → IsRising (cells_of trees d)) where
-  pub planned_by : (observable : Bool) (history : D → History) (e : Environment D) → e.engine.trees ≡ trees → (on : FoundTarget) → on.db ≡ f → on.over ≡ None → on.indexes.now ≡ [] →
-      (p : CallPlan) → p.others ≡ [] → IsTargetPlan level txn (cells_of trees) on call at p.target →
-      (st : Standing) (a : Active) (g : Target) → IsValidAt observable history e st → AreSound st → IsOnDb st db f g → g.at ≡ at → a.txn ≡ txn → a.level ≡ level → IsPlannedFor st a call g p
-  planned_by observable history e same on on_is over indexes p others plan st a g v sound found stands is_txn is_level =
+  -- the databases of a call can be read
+  pub readable_by : (observable : Bool) (history : D → History) (e : Environment D) → e.engine.trees ≡ trees → (on : FoundTarget) → IsTargetBy e.engine.kept.indexes f on →
+      (st : Standing) (a : Active) (g : Target) → IsValidAt observable history e st → KnowsDatabases st e.engine.kept → AreSound st → IsOnDb st db f g → a.txn ≡ txn → a.level ≡ level → AreReadable level txn (cells_of trees) on
+  readable_by observable history e same on on_is st a g v knows sound found is_txn is_level =
       let makes = subst (λ (t : LogTrees D). MakesStore (committed (cells_of t)) st.last_db st) same v.makes in
       let writes = subst (λ (t : LogTrees D). HasWrites (cells_of t) st.own) same v.writes in
       let may = subst (λ (t : LogTrees D). (u : ℕ) → AllByRecursion (MayBeCommitted (committed (cells_of t))) (st.own u)) same v.may in
-      let number : g.db ≡ on.db.number = found.number ∙ sym (ap (λ (x : FoundDb). x.number) on_is) in
-      let kind : g.database.kind ≡ on.db.kind = found.kind ∙ sym (ap (λ (x : FoundDb). x.kind) on_is) in
+      readable_target trees st sound makes writes may rising a txn level is_txn is_level g on (db_there (committed (cells_of trees)) st makes e.engine.kept knows db f g found)
+      (found_target (committed (cells_of trees)) st makes e.engine.kept knows db f g found on on_is)
+
+  pub planned_by : (observable : Bool) (history : D → History) (e : Environment D) → e.engine.trees ≡ trees → (on : FoundTarget) → IsTargetBy e.engine.kept.indexes f on →
+      (p : CallPlan) → map as_beside p.others ≡ beside_of (name_in e.engine.kept.names) on.over on.indexes.now → IsTargetPlan level txn (cells_of trees) on call at p.target →
+      (st : Standing) (a : Active) (g : Target) → IsValidAt observable history e st → KnowsDatabases st e.engine.kept → AreSound st → IsOnDb st db f g → g.at ≡ at → a.txn ≡ txn → a.level ≡ level → IsPlannedFor st a call g p
+  planned_by observable history e same on on_is p others plan st a g v knows sound found stands is_txn is_level =
+      let makes = subst (λ (t : LogTrees D). MakesStore (committed (cells_of t)) st.last_db st) same v.makes in
+      let writes = subst (λ (t : LogTrees D). HasWrites (cells_of t) st.own) same v.writes in
+      let may = subst (λ (t : LogTrees D). (u : ℕ) → AllByRecursion (MayBeCommitted (committed (cells_of t))) (st.own u)) same v.may in
       record {
-        plan = plans_are_models st a call g (cells_of trees) on p.target (alone_found g on found.alone number kind over indexes) (all_seen trees st sound makes writes may rising a g (db_there st db f g found))
+        plan = plans_are_models st a call g (cells_of trees) on p.target (found_target (committed (cells_of trees)) st makes e.engine.kept knows db f g found on on_is)
+            (all_seen trees st sound makes writes may rising a g (db_there (committed (cells_of trees)) st makes e.engine.kept knows db f g found))
             (subst (λ (o : Option Name). IsTargetPlan a.level a.txn (cells_of trees) on call o p.target) (sym stands)
             (subst (λ (t : TxnId). IsTargetPlan a.level t (cells_of trees) on call at p.target) (sym is_txn)
             (subst (λ (l : Isolation). IsTargetPlan l txn (cells_of trees) on call at p.target) (sym is_level) plan)));
-        beside = alone_beside p.others g found.alone others;
+        beside = others_beside (committed (cells_of trees)) st makes e.engine.kept knows db f g found on on_is p.others others;
       }
 
   -- and one without locks
-  pub outcome_by : (observable : Bool) (history : D → History) (e : Environment D) → e.engine.trees ≡ trees → (on : FoundTarget) → on.db ≡ f → on.over ≡ None → on.indexes.now ≡ [] →
+  pub outcome_by : (observable : Bool) (history : D → History) (e : Environment D) → e.engine.trees ≡ trees → (on : FoundTarget) → IsTargetBy e.engine.kept.indexes f on →
       (p : OutcomePlan) → IsOutcomePlan level txn (cells_of trees) on call p →
-      (st : Standing) (a : Active) (g : Target) → IsValidAt observable history e st → AreSound st → IsOnDb st db f g → g.at ≡ None → a.txn ≡ txn → a.level ≡ level → IsOutcomeIn st a call g p
-  outcome_by observable history e same on on_is over indexes p plan st a g v sound found stands is_txn is_level =
+      (st : Standing) (a : Active) (g : Target) → IsValidAt observable history e st → KnowsDatabases st e.engine.kept → AreSound st → IsOnDb st db f g → g.at ≡ None → a.txn ≡ txn → a.level ≡ level → IsOutcomeIn st a call g p
+  outcome_by observable history e same on on_is p plan st a g v knows sound found stands is_txn is_level =
       let makes = subst (λ (t : LogTrees D). MakesStore (committed (cells_of t)) st.last_db st) same v.makes in
       let writes = subst (λ (t : LogTrees D). HasWrites (cells_of t) st.own) same v.writes in
       let may = subst (λ (t : LogTrees D). (u : ℕ) → AllByRecursion (MayBeCommitted (committed (cells_of t))) (st.own u)) same v.may in
-      let number : g.db ≡ on.db.number = found.number ∙ sym (ap (λ (x : FoundDb). x.number) on_is) in
-      let kind : g.database.kind ≡ on.db.kind = found.kind ∙ sym (ap (λ (x : FoundDb). x.kind) on_is) in
-      outcomes_are_models st a call g (cells_of trees) on p (alone_found g on found.alone number kind over indexes) (all_seen trees st sound makes writes may rising a g (db_there st db f g found)) stands
+      outcomes_are_models st a call g (cells_of trees) on p (found_target (committed (cells_of trees)) st makes e.engine.kept knows db f g found on on_is)
+      (all_seen trees st sound makes writes may rising a g (db_there (committed (cells_of trees)) st makes e.engine.kept knows db f g found)) stands
       (subst (λ (t : TxnId). IsOutcomePlan a.level t (cells_of trees) on call p) (sym is_txn) (subst (λ (l : Isolation). IsOutcomePlan l txn (cells_of trees) on call p) (sym is_level) plan))

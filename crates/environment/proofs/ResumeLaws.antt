@@ -203,6 +203,7 @@ module _ {D : Type 0} where
     sessions_at = now_;
     apart = own_waits_left (λ (v : Wait). not (v.session == w.session)) st.waiting at.apart;
     checkpoint = at.checkpoint;
+    databases = at.databases;
     valid = λ none. valid_waiting observable (now (history (disk_below e.engine.trees.log))) e.engine.trees.log (cells_of e.engine.trees) (has_tree_of e.engine.trees) (fitting e.engine.trees) e.engine.kept.since e.written.by_txn.entries st
         (without_wait w.session st.waiting) (forgotten w.txn st.locks) (at.valid none);
   }

@@ -12,8 +12,7 @@ use Rattle.store_model.specs.declared.store.Database.{Database}
 use Rattle.store_model.specs.Refusals.{database_refuses, or_refusal}
 use Rattle.je_answers.specs.declared.active.Active.{Active}
 use Rattle.je_answers.specs.Standing.{Standing, active_of, database_at, place_at}
-use Rattle.je_answers.specs.Views.{IsPlain, Target, cursor_target, target, target_at, target_of}
-use Rattle.je_answers.proofs.PlainTargets.{plain_refusal, target_is_plain}
+use Rattle.je_answers.specs.Views.{Target, cursor_target, target, target_at, target_of}
 use Rattle.je_answers.specs.Refusals.{cursor_refusal, late_refusal, number_refusal, target_refusal}
 use Rattle.log_replay.specs.Rows.{Rows}
 use Rattle.open_cursors.specs.declared.open_cursor.OpenCursor.{OpenCursor}
@@ -21,11 +20,13 @@ use Rattle.open_cursors.specs.Under.{IsUnderIn}
 use Rattle.txn_log.specs.Committing.{MakesStore}
 use Rattle.engine.proofs.CalmAnswers.{IsCalm}
 use Rattle.standing_laws.specs.Right.{AreSound}
-use Rattle.environment.specs.Access.{IsLateAt}
+use Rattle.db_catalog.specs.declared.found_db.FoundDb.{FoundDb}
+use Rattle.environment.specs.Access.{IsLateAt, refuses_in}
+use Rattle.environment.specs.Valid.{made_at}
 use Rattle.environment.specs.Calls.{IsAtCursor}
 use Rattle.environment.specs.declared.late_at.LateAt.TheVariants.{Refused, Stands}
 use Rattle.environment.specs.declared.spot.Spot.{Spot}
-use Rattle.environment.proofs.LateLaws.{IsKnownAs, known_as, none_is_index, number_ended, number_is_none}
+use Rattle.environment.proofs.LateLaws.{IsKnownAs, known_as, number_ended, number_is_none, target_refuses}
 
 -- ---- by the number of its cursor
 
@@ -79,19 +80,17 @@ module _ (rows : Rows) (st : Standing) (makes : MakesStore rows st.last_db st) (
     target_there : target_of st session call ≡ Some on
     target_there = target_is st session call cursor at ∙ ap (target_at st) (sym open_) ∙ ap (option_map (target st.numbers st.store opened.place.db opened.place.at)) there
 
-    -- its database is no index and has none
-    plain_there : IsPlain on
-    plain_there = target_is_plain st session call on (none_is_index rows st makes) target_there
+    abbrev spot : FoundDb
+    spot = record { number = opened.place.db; kind = opened.kind }
 
-    late_there : is_some (number_of st session) ≡ false → late_refusal st session call ≡ database_refuses opened.kind call
+    late_there : is_some (number_of st session) ≡ false → late_refusal st session call ≡ refuses_in (made_at st.numbers st.store) spot call
     late_there none =
         late_by (Some opened.place) (sym open_)
         ∙ ap (λ (n : Option Answer). or_refusal n (target_refusal call (target_at st (Some opened.place)))) (number_is_none (number_of st session) none)
         ∙ ap (λ (d : Option Database). target_refusal call (option_map (target st.numbers st.store opened.place.db opened.place.at) d)) there
-        ∙ plain_refusal call on plain_there
-        ∙ ap (λ (k : Kind). database_refuses k call) under.kind_is
+        ∙ target_refuses st call spot under.database there under.kind_is
 
-    pub spot_refused : is_some (number_of st session) ≡ false → (answer : Answer) → database_refuses opened.kind call ≡ Some answer → IsCalm answer → IsLateAt st session call (Refused answer)
+    pub spot_refused : is_some (number_of st session) ≡ false → (answer : Answer) → refuses_in (made_at st.numbers st.store) spot call ≡ Some answer → IsCalm answer → IsLateAt st session call (Refused answer)
     spot_refused none answer refuses calm = (late_there none ∙ refuses, calm)
 
     -- outside a transaction no cursor is open
@@ -102,14 +101,15 @@ module _ (rows : Rows) (st : Standing) (makes : MakesStore rows st.last_db st) (
         by None none = absurd (none-some opened.place (sym (open_ ∙ ap (place_at cursor) (sound.places session none))))
         by (Some a) some = refl
 
-    pub spot_stands : is_some (number_of st session) ≡ false → AreSound st → database_refuses opened.kind call ≡ None → (spot : Spot) →
-        spot ≡ record { name = opened.name; found = record { number = opened.place.db; kind = opened.kind }; at = opened.place.at } → IsLateAt st session call (Stands spot)
-    spot_stands none sound refuses spot is = subst (λ (s : Spot). IsLateAt st session call (Stands s)) (sym is) (
+    pub spot_stands : is_some (number_of st session) ≡ false → AreSound st → refuses_in (made_at st.numbers st.store) spot call ≡ None → (stands : Spot) →
+        stands ≡ record { name = opened.name; found = record { number = opened.place.db; kind = opened.kind }; at = opened.place.at } → IsLateAt st session call (Stands stands)
+    spot_stands none sound refuses stands is = subst (λ (s : Spot). IsLateAt st session call (Stands s)) (sym is) (
       on,
       record {
         late = late_there none ∙ refuses;
         target = target_there;
-        alone = plain_there;
+        over = refl;
+        indexes = refl;
         number = refl;
         kind = under.kind_is;
         name = known.name;

@@ -104,6 +104,7 @@ module _ {D : Type 0} where
     sessions_at = sessions_begun sessions st begun at.sessions_at;
     apart = at.apart;
     checkpoint = at.checkpoint;
+    databases = at.databases;
     valid = λ none. valid_like observable before after buffer other cells has_tree forest kept.since written st begun like (at.valid none);
   }
 
@@ -121,6 +122,7 @@ module _ {D : Type 0} where
     sessions_at = sessions_faulted sessions st begun at.sessions_at;
     apart = at.apart;
     checkpoint = at.checkpoint;
+    databases = λ none. absurd cc;
     valid = λ none. absurd cc;
   }
 

@@ -40,7 +40,7 @@ use Rattle.environment.specs.declared.written.Written.{Written}
 use Rattle.environment.specs.Limits.{reach_behind}
 use Rattle.environment.specs.Steps.{IsLogStep, RecoversWith, StandsAt}
 use Rattle.environment.specs.Turning.{Grew, HasStayed, TurnsSafely, TurnsTo}
-use Rattle.environment.specs.Valid.{AreBare, IsValidWith, fitting, owed_by}
+use Rattle.environment.specs.Valid.{AreBare, IsValidWith, fitting, owed_by, KnowsDatabases}
 use Rattle.environment.specs.Whole.{CanGoOn, HasDone, IsAt, IsGuarded, disk_of, end_file, reach_of}
 use Rattle.environment.proofs.Answering.{guarded_step, owed_is}
 use Rattle.environment.proofs.Standing.{sessions_faulted}
@@ -109,6 +109,7 @@ module _ {D : Type 0} (observable : Bool) (history : D → History) (sync_out re
         sessions_at = subst (λ (s : Sessions). AreSessionsAt s (record st { in_checkpoint = begun })) (sym stays.sessions) (sessions_marked old.sessions st begun at.sessions_at);
         apart = at.apart;
         checkpoint = h.under_way;
+        databases = λ calm. subst (KnowsDatabases st) (sym stays.kept) (at.databases none);
         valid = λ calm. h.valid;
       }
 
@@ -123,6 +124,7 @@ module _ {D : Type 0} (observable : Bool) (history : D → History) (sync_out re
         sessions_at = subst (λ (s : Sessions). AreSessionsAt s (faulted st)) (sym stays.sessions) (sessions_faulted old.sessions st st.begun at.sessions_at);
         apart = at.apart;
         checkpoint = h.under_way ∙ at.checkpoint;
+        databases = λ calm. absurd (none-some Disk (sym calm));
         valid = λ calm. absurd (none-some Disk (sym calm));
       }
 

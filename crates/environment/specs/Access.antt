@@ -1,13 +1,16 @@
 -- A call on the records of a database, among transactions.
-use Rattle.std.specs.Prelude.{ℕ, ◌≡◌, ◌≢◌, ◌≤◌, ◌⊎◌, ◌==◌, ◌∷◌, [], Bool, true, false, List, Option, None, Some, IfSome, IsSome, Result, Ok, Err}
+use Rattle.std.specs.Prelude.{ℕ, ◌≡◌, ◌≢◌, ◌≤◌, ◌⊎◌, ◌==◌, ◌∷◌, [], Bool, true, false, List, Option, None, Some, IfSome, IsSome, Result, Ok, Err, is_some}
 use Rattle.std.specs.List.{AllByRecursion}
 use Rattle.store_model.specs.declared.answer.Answer.{Answer}
+use Rattle.store_model.specs.declared.answer.Answer.TheVariants.{ReadOnlyIndex}
+use Rattle.store_model.specs.declared.call.Call.TheVariants.{Put, CPutCur, CPut}
+use Rattle.index_map.specs.Made.{Made, primary_in}
 use Rattle.store_model.specs.declared.call.Call.{Call}
 use Rattle.store_model.specs.declared.record_change.RecordChange.{RecordChange}
 use Rattle.store_model.specs.Store.{database_of}
 use Rattle.je_answers.specs.declared.active.Active.{Active}
 use Rattle.je_answers.specs.Standing.{Standing, active_of, database_at}
-use Rattle.je_answers.specs.Views.{IsPlain, Target, changes_with, needs_in, outcome_of, target_of, with_numbers}
+use Rattle.je_answers.specs.Views.{Target, changes_with, needs_in, outcome_of, target_of, with_numbers}
 use Rattle.je_answers.specs.Refusals.{late_refusal}
 use Rattle.je_order.specs.declared.name.Name.{Name}
 use Rattle.je_order.specs.declared.limits.TheConstants.{KEY_LIMIT}
@@ -15,14 +18,14 @@ use Rattle.store_model.specs.declared.extract.Extract.{Extract}
 use Rattle.store_model.specs.declared.extract.Extract.TheVariants.{ByteSlice, Field}
 use Rattle.store_model.specs.declared.index.Index.{Index}
 use Rattle.store_model.specs.declared.kind.Kind.TheVariants.{Plain, Dup}
-use Rattle.store_model.specs.Indexes.{Numbered, changed_database}
+use Rattle.store_model.specs.Indexes.{Numbered, changed_database, indexes_of, primary_of, records_name}
 use Rattle.store_model.specs.declared.place.Place.{Place}
 use Rattle.db_catalog.specs.declared.found_db.FoundDb.{FoundDb}
 use Rattle.engine.proofs.CalmAnswers.{IsCalm}
 use Rattle.std.specs.declared.alloc.AllocError.{AllocError}
 use Rattle.je_disk.specs.Moments.{History}
 use Rattle.store_model.specs.declared.victim.Victim.{Victim}
-use Rattle.store_model.specs.Refusals.{database_refuses, index_refusal}
+use Rattle.store_model.specs.Refusals.{database_refuses, index_refusal, or_refusal}
 use Rattle.je_answers.specs.Locking.{first_blocked}
 use Rattle.je_answers.specs.Events.{IsTaken}
 use Rattle.je_answers.specs.After.{after_taking, moved, moved_to}
@@ -47,7 +50,8 @@ use Rattle.environment.specs.declared.moving.Move.{Move}
 pub record IsFoundFor (st : Standing) (session : ℕ) (call : Call) (db : List ℕ) (found : FoundDb) (at : Option Name) (g : Target) : Type 0 where
   pub late : late_refusal st session call ≡ None
   pub target : target_of st session call ≡ Some g
-  pub alone : IsPlain g
+  pub over : g.over ≡ primary_of st.numbers st.store g.database.index
+  pub indexes : g.indexes ≡ indexes_of st.numbers st.store (records_name g.database)
   pub number : g.db ≡ found.number
   pub kind : g.database.kind ≡ found.kind
   pub name : g.database.name ≡ db
@@ -59,7 +63,8 @@ pub record IsFoundFor (st : Standing) (session : ℕ) (call : Call) (db : List �
 
 -- the database of a name, which the catalog has under this number
 pub record IsOnDb (st : Standing) (db : List ℕ) (found : FoundDb) (g : Target) : Type 0 where
-  pub alone : IsPlain g
+  pub over : g.over ≡ primary_of st.numbers st.store g.database.index
+  pub indexes : g.indexes ≡ indexes_of st.numbers st.store (records_name g.database)
   pub number : g.db ≡ found.number
   pub kind : g.database.kind ≡ found.kind
   pub name : g.database.name ≡ db
@@ -105,6 +110,16 @@ pub record AreThere (st : Standing) (g : Target) : Type 0 where
   pub indexes : AllByRecursion (IsIndexAt st) g.indexes
   pub apart : AreNumbersApart (changed_database g.over (g.db, g.database) ∷ g.indexes)
   pub plain : ((changed_database g.over (g.db, g.database)).1.kind ≡ Plain) ⊎ (g.indexes ≡ [])
+
+-- what an index refuses of a call, and what a database refuses that was found by its number and kind, where these are the indexes
+abbrev pub index_refuses : Call → Bool → Option Answer
+index_refuses (Put db key value mode) true = Some ReadOnlyIndex
+index_refuses (CPutCur cursor value) true = Some ReadOnlyIndex
+index_refuses (CPut cursor key value mode) true = Some ReadOnlyIndex
+index_refuses call is_index = None
+
+abbrev pub refuses_in : Made → FoundDb → Call → Option Answer
+refuses_in made found call = or_refusal (index_refuses call (is_some (primary_in made found.number))) (database_refuses found.kind call)
 
 -- what refuses a call late, or the database that it is on
 abbrev pub IsLate : Standing → ℕ → Call → List ℕ → Late → Type 0

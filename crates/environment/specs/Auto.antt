@@ -19,7 +19,7 @@ use Rattle.log_replay.specs.Rows.{Rows}
 use Rattle.txn_core.specs.Known.{known_of}
 use Rattle.txn_core.specs.Planning.{HaveFewNew, IsPlannedLog, outcome_alone}
 use Rattle.txn_core.specs.declared.planned.Planned.{Planned}
-use Rattle.txn_core.specs.declared.planned.Planned.TheVariants.{Answered, Logs}
+use Rattle.txn_core.specs.declared.planned.Planned.TheVariants.{Answered, Logs, Fills}
 use Rattle.txn_core.specs.declared.planned_changes.PlannedChanges.{PlannedChanges}
 use Rattle.txn_log.specs.Own.{tree_of}
 use Rattle.sessions.specs.declared.all_sessions.Sessions.{Sessions}
@@ -99,6 +99,7 @@ module _ {D : Type 0} where
   abbrev pub IsPlannedAuto : Engine D → Standing → ℕ → Call → Target → Planned → Type 0
   IsPlannedAuto engine st session call g (Answered answer) = outcome_alone (alone_in st) session call ≡ answers answer
   IsPlannedAuto engine st session call g (Logs planned) = IsLoggedAuto engine st session call g planned
+  IsPlannedAuto engine st session call g (Fills planned) = ⊥
 
   -- it has begun, and got its locks
   abbrev pub IsTakenAuto : Environment D → Standing → ℕ → Call → Target → Type 0

@@ -4,7 +4,7 @@ use Rattle.std.specs.declared.alloc.AllocError.{AllocError}
 use Rattle.je_order.specs.Counts.{HasRisen}
 use Rattle.store_model.specs.declared.answer.Answer.TheVariants.{DiskFault}
 use Rattle.store_model.specs.declared.call.Call.{Call}
-use Rattle.store_model.specs.declared.call.Call.TheVariants.{Create, Remove, Rename, Truncate, Get, GetBoth, Put, Delete, Count, Cur, CPutCur, CDel, CPut}
+use Rattle.store_model.specs.declared.call.Call.TheVariants.{Create, CreateIndex, Remove, Rename, Truncate, Get, GetBoth, Put, Delete, Count, Cur, CPutCur, CDel, CPut}
 use Rattle.store_model.specs.declared.event.Event.{Event}
 use Rattle.store_model.specs.declared.event.Event.TheVariants.{Call as Called, Resume}
 use Rattle.je_answers.specs.declared.wait.Wait.{Wait}
@@ -17,6 +17,7 @@ use Rattle.environment.specs.declared.outcome.Outcome.{Outcome}
 -- a call that changes the catalog, and one on the records of the database of a name
 abbrev pub ChangesCatalog : Call → Type 0
 ChangesCatalog (Create db kind) = Unit {0}
+ChangesCatalog (CreateIndex db index) = Unit {0}
 ChangesCatalog (Remove db) = Unit {0}
 ChangesCatalog (Rename db to) = Unit {0}
 ChangesCatalog (Truncate db) = Unit {0}

@@ -12,6 +12,8 @@ pub mod Committing
 pub mod Ending
 -- Of which database a change of the catalog is.
 pub mod Catalog
+-- The databases beside that of a call.
+pub mod Beside
 pub mod Access
 -- A call on records that is a transaction of its own, among others.
 pub mod Auto

@@ -1,8 +1,11 @@
 -- A valid environment beside the model: its log and its trees, and where the model stands.
-use Rattle.std.specs.Prelude.{ℕ, suc, ◌≡◌, Bool, is_some, true, false, List, [], None, filter, length}
+use Rattle.std.specs.Prelude.{ℕ, suc, ◌≡◌, ◌==◌, Bool, is_some, true, false, List, [], Option, None, Some, filter, find, length, option_map}
 use Rattle.std.specs.List.{AllByRecursion}
 use Rattle.je_disk.specs.States.{State}
 use Rattle.je_order.specs.declared.txn_id.TxnId.{TxnId}
+use Rattle.store_model.specs.declared.extract.Extract.{Extract}
+use Rattle.store_model.specs.declared.store.Database.{Database}
+use Rattle.store_model.specs.declared.store.Store.{Store}
 use Rattle.je_answers.specs.declared.active.Active.{Active}
 use Rattle.je_answers.specs.Standing.{Standing}
 use Rattle.log_file.specs.Log.{Log}
@@ -31,6 +34,11 @@ use Rattle.txn_log.specs.Committing.{MakesStore, MayBeCommitted}
 use Rattle.txn_log.specs.Gives.{GivesRecordsWith}
 use Rattle.txn_views.specs.Seen.{HasWrites}
 use Rattle.engine.specs.Environment.{RecoversStore}
+use Rattle.index_map.specs.declared.index_map.IndexMap.{IndexMap}
+use Rattle.index_map.specs.Made.{Made}
+use Rattle.index_map.specs.Map.{HasIndexes}
+use Rattle.db_names.specs.declared.db_names.DbNames.{DbNames}
+use Rattle.db_names.specs.Names.{HasNames, Names}
 use Rattle.environment.specs.Written.{AreFirstsOf, AreNamesOf}
 use Rattle.environment.specs.declared.written.OwnNames.{OwnNames}
 
@@ -65,6 +73,31 @@ AreBare st = AllByRecursion (λ a. a.is_auto ≡ true → st.own a.txn.0 ≡ [])
 abbrev pub owed_by : Sessions → ℕ
 owed_by s = length (filter (λ a. has_changes (own_of s.txns.own.entries a.txn.0)) s.txns.actives.items)
 
+-- the database of a number, where these are the numbers of names
+abbrev pub numbered_in : (List ℕ → ℕ) → Store → ℕ → Option Database
+numbered_in numbers store n = find (λ d. numbers d.name == n) store.databases
+
+-- what it is an index of, by its primary's number
+abbrev pub index_made : (List ℕ → ℕ) → Option Database → Option (ℕ × Extract)
+index_made numbers None = None
+index_made numbers (Some d) = option_map (λ i. (numbers i.primary, i.extract)) d.index
+
+abbrev pub made_at : (List ℕ → ℕ) → Store → Made
+made_at numbers store n = index_made numbers (numbered_in numbers store n)
+
+-- and its name
+abbrev pub name_at : (List ℕ → ℕ) → Store → Names
+name_at numbers store n = option_map (λ d. d.name) (numbered_in numbers store n)
+
+-- maps have the indexes and the names of a store's databases, by their numbers
+pub record HaveDatabases (numbers : List ℕ → ℕ) (store : Store) (indexes : IndexMap) (names : DbNames) : Type 0 where
+  pub indexes_are : HasIndexes (made_at numbers store) indexes
+  pub names_are : HasNames (name_at numbers store) names
+
+-- so an environment knows those of a standing
+abbrev pub KnowsDatabases : Standing → Kept → Type 0
+KnowsDatabases st kept = HaveDatabases st.numbers st.store kept.indexes kept.names
+
 module _ {D : Type 0} where
   -- A log and trees with these cells, where the model stands at `st` and no fault came: the log works, gives the committed records and each
   -- transaction's own changes, recovers the store, and has room for the Commits that are owed; the trees have the same, and fit the log. A redo may
@@ -97,4 +130,5 @@ module _ {D : Type 0} where
     pub sessions_at : AreSessionsAt sessions st
     pub apart : HaveOwnWaits st.waiting
     pub checkpoint : is_some kept.checkpoints.under_way ≡ st.in_checkpoint
+    pub databases : st.fault ≡ None → KnowsDatabases st kept
     pub valid : st.fault ≡ None → IsValidWith observable state buffer cells has_tree forest kept.since written st

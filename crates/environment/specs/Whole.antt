@@ -18,10 +18,11 @@ use Rattle.log_replay.specs.Logging.{all_row_changes}
 use Rattle.record_tree.specs.Logged.{is_made}
 use Rattle.record_tree.specs.declared.tree_change.TreeChange.{TreeChange}
 use Rattle.in_tree.specs.declared.logged_trees.LogTrees.{LogTrees}
-use Rattle.in_tree.specs.Observed.{cells_of, has_tree_of, limit_in, waits_of}
+use Rattle.in_tree.specs.Observed.{cells_of, has_tree_of, limit_filling_in, limit_in, waits_of}
+use Rattle.record_tree.specs.declared.tree_err.TreeErr.{TreeErr}
 use Rattle.log_buffer.specs.Buffer.{end_of, has_failed}
 use Rattle.txn_core.specs.Known.{committed}
-use Rattle.txn_core.specs.Planning.{row_by}
+use Rattle.txn_core.specs.Planning.{makes_index, row_by}
 use Rattle.engine.specs.Guarded.{IsGuardedLog}
 use Rattle.engine.specs.Limits.{IsBoundedBy, IsWithin, Reach, limit_by}
 use Rattle.engine.specs.Opening.{StartsAt, reach_in}
@@ -67,13 +68,17 @@ module _ {D : Type 0} where
   abbrev pub reach_of : Environment D → Reach
   reach_of environment = record { file = end_file environment.engine.trees environment.sessions; node = environment.engine.kept.last_node }
 
+  -- the limit that the trees find for changes; `fills` says whether these make an index and fill it
+  abbrev pub limit_found : Bool → LogTrees D → List TreeChange → ℕ → Option TreeErr
+  limit_found fills trees planned owed = if fills then limit_filling_in trees planned owed else limit_in trees planned owed
+
   -- the limit that it has for changes, with so many Commits owed behind them: none where there are none; else the one that the changes of records
   -- meet that log them, and make trees for new databases alone
   pub record IsLimitFor (environment : Environment D) (owed : ℕ) (changes : List Change) (limit : Option Answer) : Type 0 where
     pub planned : List TreeChange
     pub rows : map (row_by 0) planned ≡ all_row_changes 0 environment.engine.kept.last_db changes (committed (cells_of environment.engine.trees))
     pub makes : environment.engine.kept.last_db + made_by changes < 2 ^ 32 → (d : ℕ) → is_made d planned ≡ true → environment.engine.kept.last_db < d
-    pub is : limit ≡ limit_by (limit_in environment.engine.trees planned owed) environment.engine.kept.last_node (length planned)
+    pub is : limit ≡ limit_by (limit_found (makes_index changes) environment.engine.trees planned owed) environment.engine.kept.last_node (length planned)
 
   abbrev pub HasLimit : Environment D → ℕ → List Change → Option Answer → Type 0
   HasLimit environment owed [] limit = limit ≡ None

@@ -199,6 +199,7 @@ impl<D: Disk> Environment<D> {
                 Ok(told(alloc, answer))
             }
             Planned::Logs(planned) => self.log_auto(alloc, session, txn, planned, owed),
+            Planned::Fills(_) => unreachable!(),
         }
     }
 

@@ -14,7 +14,6 @@ use crate::environment::Environment;
 use crate::late_at::LateAt;
 use crate::outcome::Outcome;
 use crate::spot::Spot;
-use cursor_je::refusal;
 use db_catalog::FoundDb;
 use je_disk::Disk;
 use je_order::{Name, copy_of};
@@ -80,10 +79,16 @@ impl<D: Disk> Environment<D> {
         }
         match self.sessions.cursor(session, cursor) {
             None => Ok(LateAt::Refused(Answer::NoCursor)),
-            Some(opened) => match refusal(opened.kind, call) {
-                Some(answer) => Ok(LateAt::Refused(answer)),
-                None => Ok(LateAt::Stands(spot_of(opened)?)),
-            },
+            Some(opened) => {
+                let found = FoundDb {
+                    number: opened.place.db,
+                    kind: opened.kind,
+                };
+                match self.refusal_in(found, call) {
+                    Some(answer) => Ok(LateAt::Refused(answer)),
+                    None => Ok(LateAt::Stands(spot_of(opened)?)),
+                }
+            }
         }
     }
 

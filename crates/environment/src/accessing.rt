@@ -8,7 +8,9 @@ ghost use Rattle.log_buffer.specs.Buffer.{IsUnchanged};
 ghost use Rattle.engine.proofs.CalmAnswers.{IsCalm};
 ghost use Rattle.engine.specs.Limits.{IsWithin};
 ghost use Rattle.standing_laws.specs.Right.{AreSound};
-ghost use Rattle.environment.specs.Access.{IsFoundFor, IsLate};
+ghost use Rattle.environment.specs.Access.{IsFoundFor, IsLate, index_refuses, refuses_in};
+ghost use Rattle.index_map.specs.Made.{Made};
+ghost use Rattle.index_map.specs.Map.{HasIndexes};
 ghost use Rattle.environment.specs.Calls.{HasCause, IsOnRecords};
 ghost use Rattle.environment.specs.Steps.{ComesTo, HasCome, MayCall, Performs, StandsAt};
 ghost use Rattle.environment.specs.Whole.{CanGoOn, disk_of, reach_of};
@@ -24,6 +26,19 @@ use je_order::Word;
 use std::alloc::{AllocError, Global};
 use store_model::{Answer, Call, LAST_TXN};
 use txn_core::find;
+
+// What an index refuses of a call.
+fn index_refusal(call: &Call, is_index: bool) -> Option<Answer>
+    ensures { result ≡ index_refuses call.now is_index }
+{
+    if !is_index {
+        return None;
+    }
+    match call {
+        Call::Put { .. } | Call::CPutCur { .. } | Call::CPut { .. } => Some(Answer::ReadOnlyIndex),
+        _ => None,
+    }
+}
 
 impl<D: Disk> Environment<D> {
     // Makes a call on the records of the database of that name, in the session's transaction or one of its own.
@@ -72,10 +87,21 @@ impl<D: Disk> Environment<D> {
         let Some(found) = find(&self.engine.trees, alloc, databases, db)? else {
             return Ok(Late::Refused(Answer::NoDatabase));
         };
-        match refusal(found.kind, call) {
+        match self.refusal_in(found, call) {
             Some(answer) => Ok(Late::Refused(answer)),
             None => Ok(Late::Found(found)),
         }
+    }
+
+    // What a database that was found refuses of a call.
+    pub(crate) fn refusal_in(&self, found: FoundDb, call: &Call) -> Option<Answer>
+        ensures { (made : Made) → HasIndexes made self.now.engine.kept.indexes → result ≡ refuses_in made found call.now }
+    {
+        let is_index = self.engine.kept.indexes.primary(found.number).is_some();
+        if let Some(answer) = index_refusal(call, is_index) {
+            return Some(answer);
+        }
+        refusal(found.kind, call)
     }
 
     // Answers a call that is refused late; one outside a transaction allocates a number.

@@ -80,6 +80,7 @@ impl<D: Disk> Environment<D> {
                 Ok(told(alloc, answer))
             }
             Planned::Logs(planned) => self.log_alone(alloc, planned),
+            Planned::Fills(_) => unreachable!(),
         }
     }
 

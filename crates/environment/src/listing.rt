@@ -79,6 +79,7 @@ impl<D: Disk> Environment<D> {
         match planned {
             Planned::Answered(answer) => Ok(answer),
             Planned::Logs(_) => unreachable!(),
+            Planned::Fills(_) => unreachable!(),
         }
     }
 }

@@ -71,11 +71,10 @@ impl<D: Disk> Environment<D> {
             Call::Abort => only(alloc, self.abort(session)),
             Call::List => only(alloc, self.list(alloc, session)),
             Call::Create { .. }
+            | Call::CreateIndex { .. }
             | Call::Remove { .. }
             | Call::Rename { .. }
             | Call::Truncate { .. } => { only(alloc, self.change_catalog(alloc, session, call)) }
-            // None is made yet.
-            Call::CreateIndex { .. } => Err(AllocError),
             Call::Get { db, .. } => self.access(alloc, session, line, db, call, resumed),
             Call::GetBoth { db, .. } => self.access(alloc, session, line, db, call, resumed),
             Call::Put { db, .. } => self.access(alloc, session, line, db, call, resumed),

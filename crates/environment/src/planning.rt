@@ -7,20 +7,22 @@ ghost use Rattle.je_answers.specs.Views.{Target};
 ghost use Rattle.standing_laws.specs.Right.{AreSound};
 ghost use Rattle.txn_views.specs.Targets.{IsOutcomeIn};
 ghost use Rattle.environment.specs.Access.{IsOnDb, IsPlannedFor};
+ghost use Rattle.environment.specs.Valid.{KnowsDatabases};
 ghost use Rattle.environment.specs.Writing.{IsValidAt};
 
+use crate::beside::{others_of, target_at};
 use crate::call_plan::CallPlan;
 use crate::environment::Environment;
 use db_catalog::FoundDb;
 use je_disk::Disk;
-use je_order::{List, Name, TxnId, Word};
+use je_order::{Name, TxnId, Word};
 use std::alloc::{AllocError, Global};
 use store_model::{Call, Isolation};
-use txn_views::{FoundTarget, OutcomePlan, plan_outcome, plan_target};
+use txn_views::{OutcomePlan, plan_outcome, plan_target};
 
 impl<D: Disk> Environment<D> {
     // What a call comes to for a transaction at a level, on a database that was found under a name and from where its cursor
-    // stands, and the locks that it needs. No database is an index or has one.
+    // stands, and the locks that it needs.
     pub(crate) fn plan(
         &self,
         alloc: Global,
@@ -31,21 +33,15 @@ impl<D: Disk> Environment<D> {
         call: &Call,
         at: Option<&Name>,
     ) -> Result<CallPlan, AllocError>
-        requires here { (st : Standing) × (a : Transaction) × (g : Target) × IsValidAt D.observable D.history self.now st × AreSound st × IsOnDb st db.now found g × (g.at ≡ option_copied at) × (a.txn ≡ txn) × (a.level ≡ level) }
-        ensures { IfOk result (λ p. (st : Standing) (a : Transaction) (g : Target) → IsValidAt D.observable D.history self.now st → AreSound st → IsOnDb st db.now found g → g.at ≡ option_copied at.entry → a.txn ≡ txn → a.level ≡ level
+        requires here { (st : Standing) × (a : Transaction) × (g : Target) × IsValidAt D.observable D.history self.now st × KnowsDatabases st self.now.engine.kept × AreSound st × IsOnDb st db.now found g × (g.at ≡ option_copied at) × (a.txn ≡ txn) × (a.level ≡ level) }
+        ensures { IfOk result (λ p. (st : Standing) (a : Transaction) (g : Target) → IsValidAt D.observable D.history self.now st → KnowsDatabases st self.now.engine.kept → AreSound st → IsOnDb st db.now found g → g.at ≡ option_copied at.entry → a.txn ≡ txn → a.level ≡ level
             → IsPlannedFor st a call.now g p) }
     {
         self.engine.trees.are_ordered();
-        let on = FoundTarget {
-            db: found,
-            over: None,
-            indexes: &[],
-        };
+        let on = target_at(&self.engine.kept.indexes, found);
+        let others = others_of(alloc, &self.engine.kept.names, on.over, on.indexes)?;
         match plan_target(&self.engine.trees, alloc, txn, level, on, call, at) {
-            Ok(target) => Ok(CallPlan {
-                target,
-                others: List::new(alloc),
-            }),
+            Ok(target) => Ok(CallPlan { target, others }),
             Err(error) => Err(error),
         }
     }
@@ -60,16 +56,12 @@ impl<D: Disk> Environment<D> {
         found: FoundDb,
         call: &Call,
     ) -> Result<OutcomePlan, AllocError>
-        requires here { (st : Standing) × (a : Transaction) × (g : Target) × IsValidAt D.observable D.history self.now st × AreSound st × IsOnDb st db.now found g × (g.at ≡ None) × (a.txn ≡ txn) × (a.level ≡ level) }
-        ensures { IfOk result (λ p. (st : Standing) (a : Transaction) (g : Target) → IsValidAt D.observable D.history self.now st → AreSound st → IsOnDb st db.now found g → g.at ≡ None → a.txn ≡ txn → a.level ≡ level
+        requires here { (st : Standing) × (a : Transaction) × (g : Target) × IsValidAt D.observable D.history self.now st × KnowsDatabases st self.now.engine.kept × AreSound st × IsOnDb st db.now found g × (g.at ≡ None) × (a.txn ≡ txn) × (a.level ≡ level) }
+        ensures { IfOk result (λ p. (st : Standing) (a : Transaction) (g : Target) → IsValidAt D.observable D.history self.now st → KnowsDatabases st self.now.engine.kept → AreSound st → IsOnDb st db.now found g → g.at ≡ None → a.txn ≡ txn → a.level ≡ level
             → IsOutcomeIn st a call.now g p) }
     {
         self.engine.trees.are_ordered();
-        let on = FoundTarget {
-            db: found,
-            over: None,
-            indexes: &[],
-        };
+        let on = target_at(&self.engine.kept.indexes, found);
         match plan_outcome(&self.engine.trees, alloc, txn, level, on, call) {
             Ok(planned) => Ok(planned),
             Err(error) => Err(error),

@@ -79,7 +79,7 @@ with_none db images due d none = ap (λ (l : List NodeImage). due d ++ l) (by_te
     by_test true = none
     by_test false = refl
 
-one_grows : (es : List Placed) (base fanout last : ℕ) (db : ℕ) (x : Name) (room : SlotRoom) (old mid : Forest) (due : ℕ → List NodeImage) (f : ForestDue es base last (trees_at old) due) →
+pub one_grows : (es : List Placed) (base fanout last : ℕ) (db : ℕ) (x : Name) (room : SlotRoom) (old mid : Forest) (due : ℕ → List NodeImage) (f : ForestDue es base last (trees_at old) due) →
     IsFittedIn fanout (first_behind last) db x room old mid → (due db ≡ []) ⊎ (room.is_new ≡ false) → last + made_by room ≤ 0x7fffffffffffffff →
     IsGrownTo es base last (last + made_by room) f.home (trees_at mid) (due_with db room.images.items due)
 one_grows es base fanout last db x room old mid due f p few bound = by_new room.is_new refl few
@@ -146,11 +146,11 @@ one_grows es base fanout last db x room old mid due f p few bound = by_new room.
 abbrev pub HasRootHome : (ℕ → Home) → ℕ → Option ℕ → Type 0
 HasRootHome home number makes = IfSome makes (λ d. at_home home d number 0 least)
 
-record IsRooted (es : List Placed) (base last : ℕ) (home : ℕ → Home) (makes : Option ℕ) (trees : ℕ → Option DbTree) (due : ℕ → List NodeImage) : Type 0 where
-  grown : IsGrownTo es base last (last + one_made makes) home trees due
-  root : HasRootHome grown.forest.home (last + 1) makes
+pub record IsRooted (es : List Placed) (base last : ℕ) (home : ℕ → Home) (makes : Option ℕ) (trees : ℕ → Option DbTree) (due : ℕ → List NodeImage) : Type 0 where
+  pub grown : IsGrownTo es base last (last + one_made makes) home trees due
+  pub root : HasRootHome grown.forest.home (last + 1) makes
 
-rooted : (es : List Placed) (base last : ℕ) (makes : Option ℕ) (trees : ℕ → Option DbTree) (due : ℕ → List NodeImage) (f : ForestDue es base last trees due) → IsRooted es base last f.home makes trees due
+pub rooted : (es : List Placed) (base last : ℕ) (makes : Option ℕ) (trees : ℕ → Option DbTree) (due : ℕ → List NodeImage) (f : ForestDue es base last trees due) → IsRooted es base last f.home makes trees due
 rooted es base last None trees due f = record { grown = same_grows es base last (last + 0) trees trees due f f.home (λ number within. refl) (omega arith) (λ d. refl); root = tt }
 rooted es base last (Some d) trees due f = record {
   grown = record {

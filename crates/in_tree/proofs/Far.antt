@@ -1,8 +1,9 @@
 -- Where the log has no room it ends far behind.
-use Rattle.std.proofs.Common.{◌≡◌, ◌≤◌, ◌<◌, ◌+◌, ◌*◌, ◌==◌, ◌++◌, ◌⊎◌, ℕ, zero, suc, List, [], ◌∷◌, Bool, true, false, cond, nat_lt, length, Option, None, Some, is_eq, refl, ap, sym, ◌∙◌, inl, inr, arith}
+use Rattle.std.proofs.Common.{◌≡◌, ◌≤◌, ◌<◌, ◌+◌, ◌*◌, ◌==◌, ◌++◌, ◌⊎◌, ℕ, zero, suc, List, [], ◌∷◌, Bool, true, false, cond, nat_lt, length, Option, None, Some, is_eq, map, ◌||◌, refl, ap, sym, ◌∙◌, inl, inr, arith}
 use Rattle.std.specs.Ordering.{nat_cmp}
 use Rattle.std.specs.BTreeMap.{get}
 use Rattle.std.proofs.lemmas.Bool.{eq-eqb, ltb-true, le-ltb}
+use Rattle.std.proofs.lemmas.List.{length-map}
 use Rattle.log_buffer.specs.declared.log_pos.LogPos.{LogPos}
 use Rattle.log_buffer.specs.Buffer.{end_of, file_max_of, has_failed}
 use Rattle.log_buffer.specs.Flip.{goes_in, end_after, end_after_all, behind, next_file}
@@ -11,11 +12,14 @@ use Rattle.record_tree.specs.declared.tree_err.TreeErr.{TreeErr}
 use Rattle.record_tree.specs.declared.tree_err.TreeErr.TheVariants.{Full, IdsEnded}
 use Rattle.db_tree.specs.Splits.{count_waiting}
 use Rattle.db_tree.specs.Splits.{shape_with, image_sizes, passes_top}
+use Rattle.db_tree.specs.Shapes.{new_shape}
+use Rattle.db_tree.specs.Splits.{nodes_made}
 use Rattle.db_tree.proofs.FewSplits.{images_few}
 use Rattle.in_tree.specs.declared.logged_trees.LogTrees.{LogTrees}
-use Rattle.in_tree.specs.Limits.{change_size, change_sizes, commit_sizes, sizes_for, end_behind, numbers_drawn, are_too_high, limit_behind}
-use Rattle.in_tree.specs.Observed.{limit_in, waits_of}
-use Rattle.in_tree.specs.Shapes.{Shapes, no_shape, shape_of, shapes_of, shapes_after}
+use Rattle.in_tree.specs.Limits.{change_size, change_sizes, one_made, commit_sizes, sizes_for, end_behind, numbers_drawn, are_too_high, limit_behind}
+use Rattle.in_tree.specs.Filling.{is_filled_too_high, numbers_filled}
+use Rattle.in_tree.specs.Observed.{limit_filling_in, limit_in, waits_of}
+use Rattle.in_tree.specs.Shapes.{Shapes, shape_of, shapes_of, shapes_after}
 use Rattle.in_tree.specs.Waits.{waits_below}
 use Rattle.in_tree.proofs.Forests.{number_cases}
 use Rattle.in_tree.proofs.Waits.{waits_one}
@@ -91,7 +95,7 @@ apart_rest false h = cc
 
 module _ {D : Type 0} where
   none_beyond : (x : LogTrees D) (d : ℕ) → 4294967296 ≤ d → count_waiting (shapes_of x.trees.forest d) ≡ 0
-  none_beyond x d far = ap (λ (t : Bool). count_waiting (cond t (shape_of (get nat_cmp x.trees.forest d)) no_shape)) (le-ltb d 4294967296 far)
+  none_beyond x d far = ap (λ (t : Bool). count_waiting (cond t (shape_of (get nat_cmp x.trees.forest d)) new_shape)) (le-ltb d 4294967296 far)
 
   abbrev rest_of : LogTrees D → List TreeChange → ℕ → Option TreeErr
   rest_of x changes owed = limit_behind x.log (sizes_for x.trees.fanout (shapes_of x.trees.forest) changes owed) (x.trees.last_node + numbers_drawn x.trees.fanout (shapes_of x.trees.forest) changes)
@@ -124,3 +128,52 @@ module _ {D : Type 0} where
       length_more_sizes : (a b : List ℕ) → length (a ++ b) ≡ length a + length b
       length_more_sizes [] b = omega arith
       length_more_sizes (e ∷ a) b = let rest = length_more_sizes a b in omega (arith, rest)
+
+  -- ---- where they make a database and fill it
+
+  abbrev filling_sizes : LogTrees D → TreeChange → List TreeChange → ℕ → List ℕ
+  filling_sizes x c rows owed = image_sizes x.trees.fanout c.name (shapes_of x.trees.forest c.db) ++ change_size c ∷ (map change_size rows ++ commit_sizes owed)
+
+  abbrev filling_last : LogTrees D → TreeChange → List TreeChange → ℕ
+  filling_last x c rows = x.trees.last_node + (nodes_made x.trees.fanout c.name (shapes_of x.trees.forest c.db) + one_made c.makes + numbers_filled x.trees.fanout new_shape rows)
+
+  abbrev is_too_high : LogTrees D → TreeChange → List TreeChange → Bool
+  is_too_high x c rows = passes_top x.trees.fanout c.name (shapes_of x.trees.forest c.db) || is_filled_too_high x.trees.fanout new_shape rows
+
+  abbrev filling_rest : LogTrees D → TreeChange → List TreeChange → ℕ → Option TreeErr
+  filling_rest x c rows owed = limit_behind x.log (filling_sizes x c rows owed) (filling_last x c rows)
+
+  by_filling : (x : LogTrees D) (c : TreeChange) (rows : List TreeChange) (owed : ℕ) (failed high files : Bool) → has_failed x.log ≡ failed → is_too_high x c rows ≡ high →
+      nat_lt 0xfffffffe (end_behind x.log (filling_sizes x c rows owed)) ≡ files → limit_filling_in x (c ∷ rows) owed ≡ Some Full →
+      (has_failed x.log ≡ false) × (is_too_high x c rows ≡ false) × (0xfffffffe < end_behind x.log (filling_sizes x c rows owed))
+  by_filling x c rows owed true high files works low far full = absurd (apart_none (sym (ap (λ (t : Bool). cond t None (cond (is_too_high x c rows) (Some IdsEnded) (filling_rest x c rows owed))) works) ∙ full))
+  by_filling x c rows owed false true files works low far full =
+      absurd (apart_ended (sym (ap (λ (t : Bool). cond t None (cond (is_too_high x c rows) (Some IdsEnded) (filling_rest x c rows owed))) works ∙ ap (λ (t : Bool). cond t (Some IdsEnded) (filling_rest x c rows owed)) low) ∙ full))
+  by_filling x c rows owed false false true works low far full = (works, low, ltb-true 0xfffffffe (end_behind x.log (filling_sizes x c rows owed)) far)
+  by_filling x c rows owed false false false works low far full =
+      absurd (apart_rest (nat_lt 0x7fffffffffffffff (filling_last x c rows))
+      (sym (ap (λ (t : Bool). cond t None (cond (is_too_high x c rows) (Some IdsEnded) (filling_rest x c rows owed))) works
+      ∙ ap (λ (t : Bool). cond t (Some IdsEnded) (filling_rest x c rows owed)) low
+      ∙ ap (λ (t : Bool). cond t (Some Full) (cond (nat_lt 0x7fffffffffffffff (filling_last x c rows)) (Some IdsEnded) None)) far) ∙ full))
+
+  -- so it is for changes that make a database and fill it
+  pub filling_is_far : (x : LogTrees D) (changes : List TreeChange) (owed : ℕ) → limit_filling_in x changes owed ≡ Some Full →
+      (has_failed x.log ≡ false) × (0xfffffffe < (end_of x.log).file + (waits_of x + (130 * length changes + owed)))
+  filling_is_far x [] owed full = absurd (apart_none full)
+  filling_is_far x (c ∷ rows) owed full =
+      let shapes = shapes_of x.trees.forest in
+      let parts = by_filling x c rows owed (has_failed x.log) (is_too_high x c rows) (nat_lt 0xfffffffe (end_behind x.log (filling_sizes x c rows owed))) refl refl refl full in
+      let files = files_few (file_max_of x.log) (end_of x.log) (filling_sizes x c rows owed) in
+      let first : passes_top x.trees.fanout c.name (shapes c.db) ≡ false = or_false_left (passes_top x.trees.fanout c.name (shapes c.db)) (is_filled_too_high x.trees.fanout new_shape rows) parts.1 in
+      let sizes = few_sizes x.trees.fanout (4294967296 + above_all (c ∷ [])) shapes (c ∷ []) (omega arith) (ap (λ (t : Bool). t || false) first) in
+      let same = waits_beyond shapes 4294967296 (above_all (c ∷ [])) (none_beyond x) in
+      let one = length_more (image_sizes x.trees.fanout c.name (shapes c.db)) (change_size c ∷ []) in
+      let whole = length_more (image_sizes x.trees.fanout c.name (shapes c.db)) (change_size c ∷ (map change_size rows ++ commit_sizes owed)) in
+      let rest = length_more (map change_size rows) (commit_sizes owed) in
+      let mapped = length-map rows change_size in
+      let commits = commits_many owed in
+      (parts.0, (let most = parts.2 in omega (arith, files, sizes, same, one, whole, rest, mapped, commits, most)))
+    where
+      length_more : (a b : List ℕ) → length (a ++ b) ≡ length a + length b
+      length_more [] b = omega arith
+      length_more (e ∷ a) b = let left = length_more a b in omega (arith, left)

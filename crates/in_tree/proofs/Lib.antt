@@ -34,5 +34,11 @@ pub mod LoadedLaws
 pub mod NotedTrees
 -- What a checkpoint logs of the trees.
 pub mod Checkpoints
+-- A new database's tree gets slots for names, one after the other, before it is one of the trees.
+pub mod FillLaws
+-- A new database that is filled: what its tree fits, and the limit that its changes meet.
+pub mod FillReady
+-- The limit that changes meet which make a database and fill it, where it is found and nothing is left changed.
+pub mod FillLimits
 -- The marks that are left where no noted node is dirty.
 pub mod MarksLeft

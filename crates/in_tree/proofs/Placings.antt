@@ -67,7 +67,7 @@ nothing_back fanout db x room before old none placed = apart placed.next (none �
     apart : (t : DbTree) → None ≡ Some t → ⊥
     apart t h = cc
 
-was_shape : (fanout : ℕ) (c : TreeChange) (room : SlotRoom) (old new : Forest) → (p : IsPlacedIn fanout c.db c.name room old new) → shapes_of old c.db ≡ shape_in p.tree
+pub was_shape : (fanout : ℕ) (c : TreeChange) (room : SlotRoom) (old new : Forest) → (p : IsPlacedIn fanout c.db c.name room old new) → shapes_of old c.db ≡ shape_in p.tree
 was_shape fanout c room old new p = shapes_at old c.db p.within ∙ ap shape_of p.was
 
 -- the trees behind a change
@@ -191,7 +191,7 @@ numbers_placed fanout (c ∷ changes) (r ∷ rooms) old new placed =
     ap₂ (λ (a b : ℕ). a + one_made c.makes + b) (placed.1.placed.made ∙ sym (ap (nodes_made fanout c.name) (was_shape fanout c r old placed.0 placed.1)))
     (numbers_placed fanout changes rooms placed.0 new placed.2 ∙ ap (λ (s : Shapes). numbers_drawn fanout s changes) (shapes_placed fanout c r old placed.0 placed.1))
 
-low_one : (fanout : ℕ) (c : TreeChange) (room : SlotRoom) (old new : Forest) → IsPlacedIn fanout c.db c.name room old new → passes_top fanout c.name (shapes_of old c.db) ≡ false
+pub low_one : (fanout : ℕ) (c : TreeChange) (room : SlotRoom) (old new : Forest) → IsPlacedIn fanout c.db c.name room old new → passes_top fanout c.name (shapes_of old c.db) ≡ false
 low_one fanout c room old new p = ap (passes_top fanout c.name) (was_shape fanout c room old new p) ∙ p.placed.low
 
 pub low_placed : (fanout : ℕ) (changes : List TreeChange) (rooms : List SlotRoom) (old new : Forest) → ArePlaced fanout changes rooms old new → are_too_high fanout (shapes_of old) changes ≡ false
@@ -219,7 +219,7 @@ high_behind fanout (e ∷ changes) left (r ∷ rooms) c old mid placed high =
 
 -- ---- how many images there are
 
-few_one : (fanout : ℕ) (c : TreeChange) (room : SlotRoom) (old new : Forest) → IsPlacedIn fanout c.db c.name room old new → length room.images.items + waits_in new ≤ waits_in old + 129
+pub few_one : (fanout : ℕ) (c : TreeChange) (room : SlotRoom) (old new : Forest) → IsPlacedIn fanout c.db c.name room old new → length room.images.items + waits_in new ≤ waits_in old + 129
 few_one fanout c room old new p =
     let waits = forest_waits old new c.db (Some p.next) p.has p.within in
     let was : count_waiting (shapes_of old c.db) ≡ count_waiting (shape_in p.tree) = ap count_waiting (was_shape fanout c room old new p) in

@@ -10,7 +10,7 @@ use Rattle.db_tree.specs.Splits.{count_waiting}
 use Rattle.db_tree.specs.Waiting.{count_lows, waiting_of}
 use Rattle.tree_nodes.specs.Nodes.{NodeRow}
 use Rattle.in_tree.specs.Forest.{Forest, Replaces, IsSameForest}
-use Rattle.in_tree.specs.Shapes.{Shapes, no_shape, shape_of, shapes_of}
+use Rattle.in_tree.specs.Shapes.{Shapes, shape_of, shapes_of}
 use Rattle.in_tree.specs.Waits.{waits_below, waits_in}
 use Rattle.in_tree.proofs.Forests.{number_cases, apart_numbers, replaced, others}
 
@@ -39,10 +39,10 @@ waits_one a b (suc n) db less same = by_number (number_cases db n) (λ below. wa
 
 -- the tree of a database, and of the same one
 pub shapes_at : (forest : Forest) (d : ℕ) → d < 4294967296 → shapes_of forest d ≡ shape_of (get nat_cmp forest d)
-shapes_at forest d within = ap (λ (t : Bool). cond t (shape_of (get nat_cmp forest d)) no_shape) (lt-ltb d 4294967296 within)
+shapes_at forest d within = ap (λ (t : Bool). cond t (shape_of (get nat_cmp forest d)) new_shape) (lt-ltb d 4294967296 within)
 
 pub shapes_same : (old new : Forest) (d : ℕ) → get nat_cmp new d ≡ get nat_cmp old d → shapes_of new d ≡ shapes_of old d
-shapes_same old new d same = ap (λ (t : Option DbTree). cond (nat_lt d 4294967296) (shape_of t) no_shape) same
+shapes_same old new d same = ap (λ (t : Option DbTree). cond (nat_lt d 4294967296) (shape_of t) new_shape) same
 
 -- where one database has another tree
 pub forest_waits : (old new : Forest) (db : ℕ) (o : Option DbTree) → Replaces old new db o → db < 4294967296 → waits_in new + count_waiting (shapes_of old db) ≡ waits_in old + count_waiting (shape_of o)
@@ -88,9 +88,9 @@ tree_waits_more old new db tree next more there has within most =
     omega (arith, all, was, most)
 
 none_at : (forest : Forest) → ((d : ℕ) → get nat_cmp forest d ≡ None) → (d : ℕ) → count_waiting (shapes_of forest d) ≡ 0
-none_at forest none d = ap (λ (t : Option DbTree). count_waiting (cond (nat_lt d 4294967296) (shape_of t) no_shape)) (none d) ∙ by_test (nat_lt d 4294967296)
+none_at forest none d = ap (λ (t : Option DbTree). count_waiting (cond (nat_lt d 4294967296) (shape_of t) new_shape)) (none d) ∙ by_test (nat_lt d 4294967296)
   where
-    by_test : (t : Bool) → count_waiting (cond t no_shape no_shape) ≡ 0
+    by_test : (t : Bool) → count_waiting (cond t new_shape new_shape) ≡ 0
     by_test true = refl
     by_test false = refl
 
@@ -111,5 +111,5 @@ made_waits old new db tree has within is =
 
 pub gone_waits : (old new : Forest) (db : ℕ) → Replaces old new db None → db < 4294967296 → waits_in new ≤ waits_in old
 gone_waits old new db has within =
-    let none : count_waiting no_shape ≡ 0 = refl in
+    let none : count_waiting new_shape ≡ 0 = refl in
     forest_waits_less old new db None has within (omega (arith, none))

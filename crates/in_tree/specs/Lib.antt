@@ -15,3 +15,4 @@ pub mod Growing
 pub mod LoadedNodes
 pub mod LoadedFits
 pub mod Checkpoints
+pub mod Filling

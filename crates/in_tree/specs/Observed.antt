@@ -8,6 +8,7 @@ use Rattle.record_tree.specs.declared.tree_change.TreeChange.{TreeChange}
 use Rattle.record_tree.specs.declared.tree_err.TreeErr.{TreeErr}
 use Rattle.in_tree.specs.declared.logged_trees.LogTrees.{LogTrees}
 use Rattle.in_tree.specs.Forest.{cells_seen, is_there}
+use Rattle.in_tree.specs.Filling.{limit_filling}
 use Rattle.in_tree.specs.Fitting.{fitting_tried}
 use Rattle.in_tree.specs.Growing.{trees_at, TreesGrew, trees_grew_none, trees_grew_then}
 use Rattle.in_tree.specs.Limits.{limit_of, TriedFitting}
@@ -26,6 +27,10 @@ module _ {D : Type 0} where
   -- the limit that changes, with so many Commits owed, would meet
   abbrev pub limit_in : LogTrees D → List TreeChange → ℕ → Option TreeErr
   limit_in x changes owed = limit_of x.log x.trees.fanout x.trees.last_node (shapes_of x.trees.forest) changes owed
+
+  -- the limit that changes that make a database and fill it would meet
+  abbrev pub limit_filling_in : LogTrees D → List TreeChange → ℕ → Option TreeErr
+  limit_filling_in x changes owed = limit_filling x.log x.trees.fanout x.trees.last_node (shapes_of x.trees.forest) changes owed
 
   -- how many nodes wait to be logged
   abbrev pub waits_of : LogTrees D → ℕ

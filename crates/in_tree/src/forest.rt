@@ -1,5 +1,5 @@
 // The trees of all databases, by their numbers.
-ghost use Rattle.std.specs.Prelude.{◌≡◌, ◌≤◌, ◌<◌, ◌⊎◌, ◌+◌, ◌*◌, ℕ, true, false, [], Option, None, Some, IsSome, IfOk, IfErr, OnOk, OnErr, option_map, if◌then◌else◌, ◌==◌};
+ghost use Rattle.std.specs.Prelude.{◌≡◌, ◌≤◌, ◌<◌, ◌⊎◌, ◌+◌, ◌*◌, ◌^◌, ℕ, true, false, [], Option, None, Some, IsSome, IfOk, IfErr, OnOk, OnErr, option_map, if◌then◌else◌, ◌==◌};
 ghost use Rattle.std.specs.Ordering.{is_eq, nat_cmp};
 ghost use Rattle.je_order.specs.Order.{name_cmp};
 ghost use Rattle.std.specs.BTreeMap.{get};
@@ -16,7 +16,7 @@ ghost use Rattle.db_tree.specs.Splits.{passes_top};
 ghost use Rattle.db_tree.specs.declared.tree.DbTree.{DbTree as Kept};
 ghost use Rattle.tree_images.specs.RedoSteps.{IsSplitFor, HasRedone};
 ghost use Rattle.tree_images.specs.TreeSteps.{HasWritten, HasCommitted, HasGivenUp, HasSlot, IsNewTree};
-ghost use Rattle.in_tree.specs.Forest.{Forest, cells_at, cells_seen, is_there, HasChange, HasSameTrees, IsSameForest, IsStepIn, MayStepIn, KeepsCells, HasOne};
+ghost use Rattle.in_tree.specs.Forest.{Forest, Replaces, cells_at, cells_seen, is_there, HasChange, HasSameTrees, IsSameForest, IsStepIn, MayStepIn, KeepsCells, HasOne};
 ghost use Rattle.tree_nodes.specs.Levels.{AreParts};
 ghost use Rattle.db_tree.specs.Images.{Placed as Entries};
 ghost use Rattle.db_tree.specs.Trees.{IsTree};
@@ -168,6 +168,20 @@ pub(crate) fn make(
 {
     let tree = DbTree::new(alloc, number)?;
     let _height = tree.levels.height();
+    drop(trees.insert(db, tree)?);
+    Ok(())
+}
+
+// Puts a tree in, for a database that has none.
+pub(crate) fn put_new(
+    trees: &mut BTreeMap<u32, DbTree>,
+    db: u32,
+    tree: DbTree,
+) -> Result<(), AllocError>
+    ensures has { OnOk result (Replaces trees.old trees.new db (Some tree)) }
+    ensures within { db < 2 ^ 32 }
+    ensures err { OnErr result (IsSameForest trees.old trees.new) }
+{
     drop(trees.insert(db, tree)?);
     Ok(())
 }

@@ -5,12 +5,15 @@
 #![tactic(auto)]
 
 pub mod checkpointing;
+mod filled;
+mod filling;
 mod forest;
 pub mod laws;
 pub mod loaded_trees;
 mod loading;
 pub mod logged_trees;
 mod logging_checkpoints;
+pub mod making_new;
 mod making_ready;
 pub mod observed;
 mod placed;

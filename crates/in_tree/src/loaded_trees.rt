@@ -12,7 +12,7 @@ use je_lsn::Lsn;
 use je_order::{Name, Octets, copy_of};
 use node_core::Node;
 use record_map::SortKey;
-use record_tree::{LoadErr, Loads, StoredRecord};
+use record_tree::{LoadErr, Loads, RecordRef, StoredRecord};
 use std::alloc::{AllocError, Global};
 use std::marker::Model;
 
@@ -228,6 +228,10 @@ impl Loads for LoadedTrees {
 
     fn records(&self, alloc: Global, db: u32) -> Result<Vec<StoredRecord>, AllocError> {
         stored::records(&self.trees.forest, alloc, db)
+    }
+
+    fn lend_records(&self, alloc: Global, db: u32) -> Result<Vec<RecordRef<'_>>, AllocError> {
+        stored::lend_records(&self.trees.forest, alloc, db)
     }
 
     fn first_with_dup(&self, db: u32) -> Option<&SortKey> {

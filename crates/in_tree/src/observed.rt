@@ -1,21 +1,39 @@
 // What the crates above ask of the trees of an environment.
-ghost use Rattle.std.specs.Prelude.{◌≡◌, ◌++◌, ℕ, true, false, length, IfOk};
+ghost use Rattle.std.specs.Prelude.{◌≡◌, ◌++◌, ◌∷◌, ℕ, Some, true, false, length, IfOk};
 ghost use Rattle.std.specs.List.{AllByRecursion};
 ghost use Rattle.log_entry.specs.Body.{IsEntry};
 ghost use Rattle.log_buffer.specs.Buffer.{has_failed, IsUnchanged};
 ghost use Rattle.record_map.specs.Cells.{IsRising};
-ghost use Rattle.record_tree.specs.Logged.{entry_for};
+ghost use Rattle.record_tree.specs.Logged.{entry_for, IsLimit};
 ghost use Rattle.record_tree.specs.Occupied.{AreSame};
+ghost use Rattle.in_tree.specs.Filling.{limit_filled, limit_filling, AreIdle};
+ghost use Rattle.in_tree.specs.Forest.{is_there, IsSameForest};
 ghost use Rattle.in_tree.specs.Limits.{commit_sizes, limit_behind};
-ghost use Rattle.in_tree.specs.Observed.{cells_of, has_tree_of, last_node_of, limit_in, trees_of, waits_of};
+ghost use Rattle.in_tree.specs.Observed.{cells_of, has_tree_of, last_node_of, limit_filling_in, limit_in, trees_of, waits_of};
 ghost use Rattle.in_tree.specs.Placing.{placed_sizes, AreLoggable};
+ghost use Rattle.in_tree.specs.Shapes.{shapes_of};
 
-use crate::preparing::{place_all, take_back_all};
-use crate::{LogTrees, Placed};
+use crate::filled::Filled;
+use crate::filling::{fill, idle_rooms};
+use crate::loading::has_tree;
+use crate::preparing::{last_behind, place_all, take_back_all};
+use crate::{LogTrees, Placed, forest};
 use je_disk::Disk;
 use je_order::TxnId;
 use record_tree::{TreeChange, TreeErr};
 use std::alloc::{AllocError, Global};
+
+// The limit that a call ended with. Another end is out of memory.
+fn limit_of_end(error: TreeErr) -> Result<Option<TreeErr>, AllocError>
+    ensures { IfOk result (λ limit. (limit ≡ Some error) × IsLimit error) }
+{
+    match error {
+        TreeErr::Full => Ok(Some(TreeErr::Full)),
+        TreeErr::IdsEnded => Ok(Some(TreeErr::IdsEnded)),
+        TreeErr::Fault => Err(AllocError),
+        TreeErr::Memory => Err(AllocError),
+    }
+}
 
 impl<D: Disk> LogTrees<D> {
     /// The occupied names of each database are in order. Nothing is done.
@@ -53,6 +71,97 @@ impl<D: Disk> LogTrees<D> {
             Err(TreeErr::IdsEnded) => Ok(Some(TreeErr::IdsEnded)),
             Err(_) => Err(AllocError),
         }
+    }
+
+    /// The same for changes that make a database and fill it: the first one makes it, the others put names into it. The new tree is built
+    /// and dropped again. Where the first one's own database has no tree, it takes no slot.
+    pub fn find_filling_limit(
+        &mut self,
+        alloc: Global,
+        txn: TxnId,
+        changes: &[TreeChange],
+        owed: u32,
+    ) -> Result<Option<TreeErr>, AllocError>
+        requires entries { AllByRecursion (λ c. IsEntry (entry_for txn c.db c.name c.value)) changes.now }
+        requires works { has_failed self.old.log ≡ false }
+        ensures limit { IfOk result (λ limit. limit ≡ limit_filling_in self.old changes.now owed) }
+        ensures same { AreSame (cells_of self.old) (cells_of self.new) × ((d : ℕ) → has_tree_of self.new d ≡ has_tree_of self.old d) × (waits_of self.new ≡ waits_of self.old) × IsUnchanged self.old.log self.new.log }
+        ensures trees { ((d : ℕ) → trees_of self.new d ≡ trees_of self.old d) × (last_node_of self.new ≡ last_node_of self.old) }
+    {
+        let Some((change, rows)) = changes.split_first() else {
+            return Ok(None);
+        };
+        let rooms = idle_rooms(alloc, changes.len())?;
+        let mut placed = Placed {
+            rooms,
+            last: self.trees.last_node,
+        };
+        if has_tree(&self.trees.forest, change.db) {
+            return self.limit_with_slot(alloc, txn, changes, change, rows, &mut placed, owed);
+        }
+        placed.last = last_behind(placed.last, 0, change);
+        self.limit_filled(alloc, txn, changes, rows, &mut placed, owed)
+    }
+
+    // That limit, where the change that makes the database gets its slot: this is taken back.
+    fn limit_with_slot(
+        &mut self,
+        alloc: Global,
+        txn: TxnId,
+        changes: &[TreeChange],
+        change: &TreeChange,
+        rows: &[TreeChange],
+        placed: &mut Placed,
+        owed: u32,
+    ) -> Result<Option<TreeErr>, AllocError>
+        requires split { changes.now ≡ change.now ∷ rows.now }
+        requires there { is_there self.old.trees.forest change.now.db ≡ true }
+        requires entries { AllByRecursion (λ c. IsEntry (entry_for txn c.db c.name c.value)) changes.now }
+        requires idle { AreIdle placed.old.rooms.items }
+        requires paired { length placed.old.rooms.items ≡ length changes.now }
+        requires works { has_failed self.old.log ≡ false }
+        ensures limit { IfOk result (λ limit. limit ≡ limit_filling self.old.log self.old.trees.fanout placed.old.last (shapes_of self.old.trees.forest) changes.now owed) }
+        ensures back { IsSameForest self.old.trees.forest self.new.trees.forest }
+        ensures log { self.new.log ≡ self.old.log }
+        ensures last { self.new.trees.last_node ≡ self.old.trees.last_node }
+    {
+        match self.place_first(alloc, change, placed) {
+            Ok(()) => {
+                let found = self.limit_filled(alloc, txn, changes, rows, placed, owed);
+                let rooms = placed.rooms.as_slice();
+                forest::take_back(&mut self.trees.forest, change.db, &change.name, &rooms[0]);
+                found
+            }
+            Err(error) => limit_of_end(error),
+        }
+    }
+
+    // The limit of a new database that gets slots for the names of changes, behind the slot of the change that makes it.
+    fn limit_filled(
+        &self,
+        alloc: Global,
+        txn: TxnId,
+        changes: &[TreeChange],
+        rows: &[TreeChange],
+        placed: &mut Placed,
+        owed: u32,
+    ) -> Result<Option<TreeErr>, AllocError>
+        requires entries { AllByRecursion (λ c. IsEntry (entry_for txn c.db c.name c.value)) changes.now }
+        requires loggable { AreLoggable placed.old.rooms.items }
+        requires paired { length placed.old.rooms.items ≡ length changes.now }
+        ensures limit { IfOk result (λ limit. limit ≡ limit_filled self.now.log self.now.trees.fanout changes.now rows.now placed.old.rooms.items placed.old.last owed) }
+        ensures rooms { placed.new.rooms.items ≡ placed.old.rooms.items }
+    {
+        let fanout = self.trees.fanout;
+        let mark = self.log.end();
+        let filled = match fill(alloc, fanout, rows, placed.last, mark) {
+            Ok(filled) => filled,
+            Err(error) => return limit_of_end(error),
+        };
+        let Filled { tree, last } = filled;
+        drop(tree);
+        placed.last = last;
+        self.limit_behind(alloc, txn, changes, placed, owed)
     }
 
     // The limit that changes which have their slots would meet: the log's, and then that of numbers.

@@ -62,7 +62,7 @@ pub(crate) fn writes_for(
 }
 
 // The node number that is allocated last for a change: behind those of its slot comes that of the root of the database that it makes.
-fn last_behind(last: u64, made: u64, change: &TreeChange) -> u64
+pub(crate) fn last_behind(last: u64, made: u64, change: &TreeChange) -> u64
     ensures { result ≡ min (last + (made + one_made change.now.makes)) 0xffffffffffffffff }
 {
     let roots = match change.makes {

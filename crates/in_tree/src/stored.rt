@@ -4,6 +4,7 @@ ghost use Rattle.std.specs.BTreeMap.{keys};
 ghost use Rattle.record_map.specs.Cells.{value_at, IsRising};
 ghost use Rattle.in_tree.specs.Forest.{cells_at, is_there};
 ghost use Rattle.db_tree.specs.Stored.{stored_by, stored_in, stored_under, with_name};
+ghost use Rattle.record_tree.specs.Stored.{lent, values_of};
 ghost use Rattle.in_tree.specs.Stored.{stored_of};
 ghost use Rattle.std.specs.List.{list_any};
 
@@ -12,7 +13,7 @@ use je_lsn::Lsn;
 use je_order::Octets;
 use node_core::Version;
 use record_map::{Cell, EdgeRef, SortKey};
-use record_tree::StoredRecord;
+use record_tree::{RecordRef, StoredRecord};
 use std::alloc::{AllocError, Global};
 use std::collections::BTreeMap;
 use std::collections::btree_map::Range;
@@ -71,6 +72,35 @@ fn copy_stored(
     let mut records = Vec::new(alloc);
     for (name, cell) in cells {
         push_stored(&mut records, alloc, name, cell)?;
+    }
+    Ok(records)
+}
+
+// Puts the cell's record, if it has one, behind the others.
+fn push_lent<'a>(
+    records: &mut Vec<RecordRef<'a>>,
+    name: &'a SortKey,
+    cell: &'a Cell,
+) -> Result<(), AllocError>
+    ensures { OnOk result (lent records.new.items ≡ lent records.old.items ++ values_of (with_name name.entry.now (stored_by cell.entry.now.version cell.entry.now.«data»))) }
+{
+    let Some((_at, value)) = stored_cell(cell) else {
+        return Ok(());
+    };
+    records.push(RecordRef { name, value })?;
+    Ok(())
+}
+
+// The records of the cells, where they lie.
+fn lend_stored<'a>(
+    alloc: Global,
+    cells: Range<'a, SortKey, Cell>,
+) -> Result<Vec<RecordRef<'a>>, AllocError>
+    ensures { IfOk result (λ records. lent records.items ≡ values_of (stored_in cells.entry)) }
+{
+    let mut records = Vec::new(alloc);
+    for (name, cell) in cells {
+        push_lent(&mut records, name, cell)?;
     }
     Ok(records)
 }
@@ -181,6 +211,20 @@ pub(crate) fn records(
 {
     match cells_of(trees, db) {
         Some((cells, _limit)) => copy_stored(alloc, cells),
+        None => Ok(Vec::new(alloc)),
+    }
+}
+
+// The records of a database, where they lie.
+pub(crate) fn lend_records<'a>(
+    trees: &'a BTreeMap<u32, DbTree>,
+    alloc: Global,
+    db: u32,
+) -> Result<Vec<RecordRef<'a>>, AllocError>
+    ensures { IfOk result (λ records. lent records.items ≡ values_of (stored_of trees.entry.now db)) }
+{
+    match cells_of(trees, db) {
+        Some((cells, _limit)) => lend_stored(alloc, cells),
         None => Ok(Vec::new(alloc)),
     }
 }

@@ -15,7 +15,7 @@ use Rattle.je_answers.specs.After.{after_event}
 use Rattle.je_answers.specs.Journal.{has_answer, durability_of, AllAcknowledged, AreSyncedAtOnce, ComesLater, IsFollowed, IsSyncedAtOnce, IsSyncedBy, IsWrittenOutBy}
 use Rattle.log_replay.specs.declared.corruption.Corruption.{Corruption}
 use Rattle.je_program.specs.declared.cause.Cause.{Cause}
-use Rattle.je_program.specs.declared.cause.Cause.TheVariants.{Done, Disk, Unreadable, Memory, LogFull, IdsEnded}
+use Rattle.je_program.specs.declared.cause.Cause.TheVariants.{Done, Disk, Unreadable, WrongIndex, Memory, LogFull, IdsEnded}
 use Rattle.engine.proofs.Counts.{rose_earlier, rose_later}
 use Rattle.je_program.specs.Program.{cause_closed, ClosesBy, ClosesRun, EndsBy, RunsIf, is_before_disk}
 use Rattle.script_run.specs.UnderWay.{IsCaused}
@@ -168,6 +168,9 @@ ran_after_reading cause ran = absurd ran
 
 pub ran_not_unreadable : (cause : Cause) (corruption : Corruption) → IsRanCause cause → cause ≡ Unreadable corruption → ⊥
 ran_not_unreadable cause corruption ran is = subst (λ (c : Cause). IsRanCause c) is ran
+
+pub ran_not_wrong : (cause : Cause) (name : List ℕ) → IsRanCause cause → cause ≡ WrongIndex name → ⊥
+ran_not_wrong cause name ran is = subst (λ (c : Cause). IsRanCause c) is ran
 
 -- with memory for all lines a run ends by its journal
 pub ends_by : (journal : List Event) (memory_ended : Bool) (cause : Cause) → (memory_ended ≡ true → cause ≡ Memory) → (memory_ended ≡ false → EndsBy journal cause) →

@@ -1,21 +1,23 @@
--- The transactions of a run replay, and none of them wait in a cycle.
-use Rattle.std.proofs.Common.{ℕ, Bool, List, Option, sym, ◌∙◌, subst}
+-- The transactions of a run replay, none of them wait in a cycle, and each index keeps up, whatever a crash leaves.
+use Rattle.std.proofs.Common.{ℕ, Bool, take, refl, List, Option, sym, ◌∙◌, subst}
 use Rattle.je_disk.specs.States.{Files}
 use Rattle.store_model.specs.declared.answer.Answer.{Answer}
 use Rattle.store_model.specs.declared.event.Event.{Event}
 use Rattle.store_model.specs.declared.store.Store.{Store}
-use Rattle.store_model.specs.Indexes.{HasNoIndex}
-use Rattle.store_model.specs.Store.{IsStore}
+use Rattle.store_model.specs.Indexes.{AreIndexed}
+use Rattle.store_model.specs.Store.{IsStore, store_after}
 use Rattle.je_answers.specs.Standing.{Standing}
 use Rattle.je_answers.specs.Alone.{alone}
 use Rattle.je_answers.specs.After.{AnswersAsModel}
+use Rattle.je_answers.specs.Journal.{attempts_of}
 use Rattle.engine.specs.Opening.{AreNumbers, StartsAt}
 use Rattle.serial_replay.specs.Replay.{ReplaysSerially}
 use Rattle.serial_replay.specs.Cycles.{NeverWaitInCycle}
-use Rattle.serial_replay.specs.Laws.{HaveNumbers}
-use Rattle.serial_replay.proofs.Replaying.{journals-replay, none_is-indexed}
+use Rattle.serial_replay.specs.Laws.{HaveNumbers, StaysIndexed}
+use Rattle.serial_replay.proofs.Replaying.{journals-replay, indexes-stay}
+use Rattle.serial_replay.proofs.Attempts.{fronts_are-indexed}
 use Rattle.serial_replay.proofs.CycleEvents.{cycles_never-stand}
-use Rattle.je_program.proofs.RightStores.{meaning_has_no_index, meaning_right}
+use Rattle.je_program.proofs.RightStores.{meaning_right}
 
 opening_numbers : (store : Store) (last_db : ℕ) (numbers : List ℕ → ℕ) → AreNumbers store last_db numbers → HaveNumbers store last_db numbers
 opening_numbers store last_db numbers k = record { none = k.none; allocated = k.allocated; apart = k.apart }
@@ -30,11 +32,19 @@ module _ (observable : Bool) (files : Files) (opening : Store) (st : Standing) (
   numbers : HaveNumbers starts.alone_at.store starts.alone_at.last_db starts.alone_at.numbers
   numbers = subst (λ (s : Store). HaveNumbers s starts.alone_at.last_db starts.alone_at.numbers) (sym starts.store) (opening_numbers opening starts.alone_at.last_db starts.alone_at.numbers starts.numbers)
 
-  plain : HasNoIndex starts.alone_at.store
-  plain = subst HasNoIndex (starts.means_store ∙ sym starts.store) (meaning_has_no_index starts.held starts.meaning starts.means)
+  indexed : AreIndexed starts.alone_at.store
+  indexed = subst AreIndexed (sym starts.store) (starts.indexed.indexed refl)
 
   pub run_replays : ReplaysSerially st journal
-  run_replays = subst (λ (s : Standing). ReplaysSerially s journal) (sym starts.st_is) (journals-replay starts.alone_at limits journal right numbers (none_is-indexed starts.alone_at.store plain) model)
+  run_replays = subst (λ (s : Standing). ReplaysSerially s journal) (sym starts.st_is) (journals-replay starts.alone_at limits journal right numbers indexed model)
+
+  pub run_stays_indexed : StaysIndexed st journal
+  run_stays_indexed = subst (λ (s : Standing). StaysIndexed s journal) (sym starts.st_is) (indexes-stay starts.alone_at limits journal right numbers indexed model)
+
+  pub run_fronts_indexed : (k : ℕ) → AreIndexed (store_after st.store (take k (attempts_of st journal)))
+  run_fronts_indexed k =
+      subst (λ (s : Standing). AreIndexed (store_after s.store (take k (attempts_of s journal)))) (sym starts.st_is)
+      (fronts_are-indexed starts.alone_at limits journal (record { store = right; numbers = numbers; indexed = indexed }) model k)
 
   pub run_never_cycles : NeverWaitInCycle st journal
   run_never_cycles = subst (λ (s : Standing). NeverWaitInCycle s journal) (sym starts.st_is) (cycles_never-stand starts.alone_at limits journal model)

@@ -7,13 +7,14 @@ use Rattle.std.proofs.lemmas.Bool.{and_parts, eqb-true}
 use Rattle.je_order.specs.Order.{bytes_cmp, name_cmp}
 use Rattle.je_order.specs.Words.{is_word}
 use Rattle.store_model.specs.declared.store.Database.{Database}
-use Rattle.store_model.specs.Indexes.{HasNoIndex}
+use Rattle.store_model.specs.Indexes.{AreIndexed}
 use Rattle.store_model.specs.Store.{HasRisingNames, IsStore}
 use Rattle.log_file.specs.Log.{log_in}
 use Rattle.log_replay.specs.Reading.{corruption_in}
 use Rattle.log_replay.specs.Rows.{Row, Rows, IsRising, catalog_number, catalog_kind, is_catalog_row, is_environment, rows_of_row, database_in, store_of}
 use Rattle.log_replay.specs.Wrong.{wrong_record}
-use Rattle.log_replay.proofs.LoggedLaws.{store_has_no_index}
+use Rattle.log_replay.specs.Indexed.{wrong_index}
+use Rattle.log_replay.proofs.IndexedLaws.{indexes_are_judged}
 use Rattle.log_replay.proofs.PlanViews.{rising_pairs}
 use Rattle.log_replay.proofs.RowLaws.{name_cmp-plain, plain_name-key}
 use Rattle.log_replay.proofs.StoreLaws.{environment_parts, is_right_under}
@@ -91,6 +92,8 @@ reads_rows held meaning h =
 pub meaning_right : (held : List (ℕ × List ℕ)) (meaning : Meaning) → reading_of held ≡ Ok meaning → IsStore meaning.store
 meaning_right held meaning h = let read = reads_rows held meaning h in subst IsStore read.store (store_right (rows_of read.redo) read.right (λ d. listed_in_order read.redo.done d))
 
--- and has no index
-pub meaning_has_no_index : (held : List (ℕ × List ℕ)) (meaning : Meaning) → reading_of held ≡ Ok meaning → HasNoIndex meaning.store
-meaning_has_no_index held meaning h = let read = reads_rows held meaning h in subst HasNoIndex read.store (store_has_no_index (rows_of read.redo))
+-- and where each index has the pairs of its primary's records, none is wrong
+pub none_wrong : (held : List (ℕ × List ℕ)) (meaning : Meaning) → reading_of held ≡ Ok meaning → AreIndexed meaning.store → wrong_index meaning.store ≡ None
+none_wrong held meaning h indexed =
+    let read = reads_rows held meaning h in
+    ap wrong_index (sym read.store) ∙ (indexes_are_judged (rows_of read.redo) read.right (listed_in_order read.redo.done 0)).1 (subst AreIndexed (sym read.store) indexed)

@@ -7,11 +7,11 @@ use Rattle.store_model.specs.Journal.{is_disk_fault}
 use Rattle.je_answers.specs.Journal.{has_answer}
 use Rattle.log_replay.specs.declared.corruption.Corruption.{Corruption}
 use Rattle.engine.specs.declared.open_err.OpenErr.{OpenErr}
-use Rattle.engine.specs.declared.open_err.OpenErr.TheVariants.{Disk as NoDisk, Memory as NoMemory, IdsEnded as NoNumbers, Unreadable as CannotRead}
-use Rattle.engine.specs.Files.{HasCorruption}
+use Rattle.engine.specs.declared.open_err.OpenErr.TheVariants.{Disk as NoDisk, Memory as NoMemory, IdsEnded as NoNumbers, Unreadable as CannotRead, WrongIndex as FoundWrong}
+use Rattle.engine.specs.Files.{HasCorruption, HasWrongIndex}
 use Rattle.engine.specs.Opening.{HasNoNumbers, StopsBy}
 use Rattle.je_program.specs.declared.cause.Cause.{Cause}
-use Rattle.je_program.specs.declared.cause.Cause.TheVariants.{Disk, IdsEnded, Unreadable}
+use Rattle.je_program.specs.declared.cause.Cause.TheVariants.{Disk, IdsEnded, Unreadable, WrongIndex}
 use Rattle.je_program.specs.Program.{ClosesRun, RunsIf, cause_of_opening, is_before_disk}
 
 pub stopped_runs : (error : OpenErr) (opened : Bool) → opened ≡ false → RunsIf (cause_of_opening error) opened
@@ -19,22 +19,37 @@ stopped_runs NoDisk opened is = tt
 stopped_runs NoMemory opened is = tt
 stopped_runs NoNumbers opened is = tt
 stopped_runs (CannotRead corruption) opened is = is
+stopped_runs (FoundWrong name) opened is = is
 
 pub stopped_after_reading : (error : OpenErr) → is_before_disk (cause_of_opening error) ≡ false
 stopped_after_reading NoDisk = refl
 stopped_after_reading NoMemory = refl
 stopped_after_reading NoNumbers = refl
 stopped_after_reading (CannotRead corruption) = refl
+stopped_after_reading (FoundWrong name) = refl
 
 pub stopped_unreadable : (observable : Bool) (files : Files) (before after : ℕ) (error : OpenErr) (corruption : Corruption) → StopsBy observable files before after error →
     cause_of_opening error ≡ Unreadable corruption → observable ≡ true → HasCorruption files corruption
 stopped_unreadable observable files before after NoDisk corruption stops is observed = cc
 stopped_unreadable observable files before after NoMemory corruption stops is observed = cc
 stopped_unreadable observable files before after NoNumbers corruption stops is observed = cc
+stopped_unreadable observable files before after (FoundWrong name) corruption stops is observed = cc
 stopped_unreadable observable files before after (CannotRead found) corruption stops is observed =
     subst (λ (c : Corruption). HasCorruption files c) (same found corruption is) (stops observed)
   where
     same : (a b : Corruption) → Unreadable a ≡ Unreadable b → a ≡ b
+    same a b e = cc
+
+pub stopped_wrong : (observable : Bool) (files : Files) (before after : ℕ) (error : OpenErr) (name : List ℕ) → StopsBy observable files before after error →
+    cause_of_opening error ≡ WrongIndex name → observable ≡ true → HasWrongIndex files name
+stopped_wrong observable files before after NoDisk name stops is observed = cc
+stopped_wrong observable files before after NoMemory name stops is observed = cc
+stopped_wrong observable files before after NoNumbers name stops is observed = cc
+stopped_wrong observable files before after (CannotRead found) name stops is observed = cc
+stopped_wrong observable files before after (FoundWrong found) name stops is observed =
+    subst (λ (n : List ℕ). HasWrongIndex files n) (same found name is) (stops observed)
+  where
+    same : (a b : List ℕ) → WrongIndex a ≡ WrongIndex b → a ≡ b
     same a b e = cc
 
 pub stopped_failed : (observable : Bool) (files : Files) (before after : ℕ) (error : OpenErr) → StopsBy observable files before after error → cause_of_opening error ≡ Disk → HasRisen before after
@@ -42,6 +57,7 @@ stopped_failed observable files before after NoDisk stops is = stops
 stopped_failed observable files before after NoMemory stops is = cc
 stopped_failed observable files before after NoNumbers stops is = cc
 stopped_failed observable files before after (CannotRead corruption) stops is = cc
+stopped_failed observable files before after (FoundWrong name) stops is = cc
 
 -- a program without a journal, whose disk failed only where its count rose
 pub stopped_caused : (before mid after : ℕ) (journal : List Event) (cause : Cause) → after ≡ mid → journal ≡ [] → before ≤ mid → (cause ≡ Disk → HasRisen before mid) → ClosesRun before after journal cause
@@ -57,3 +73,4 @@ stopped_numbers observable files before after NoDisk stops is = cc
 stopped_numbers observable files before after NoMemory stops is = cc
 stopped_numbers observable files before after NoNumbers stops is = stops
 stopped_numbers observable files before after (CannotRead corruption) stops is = cc
+stopped_numbers observable files before after (FoundWrong name) stops is = cc

@@ -16,13 +16,13 @@ use Rattle.script_text.specs.Grammar.{plan_of}
 use Rattle.script_text.specs.Report.{report_text}
 use Rattle.je_program.specs.declared.reading.TheConstants.{MOST_INPUT}
 use Rattle.je_program.specs.declared.cause.Cause.{Cause}
-use Rattle.je_program.specs.declared.cause.Cause.TheVariants.{Done, Usage, BadScript, Disk, Unreadable, Memory, Input, InputTooLong, LogFull, IdsEnded}
+use Rattle.je_program.specs.declared.cause.Cause.TheVariants.{Done, Usage, BadScript, Disk, Unreadable, WrongIndex, Memory, Input, InputTooLong, LogFull, IdsEnded}
 use Rattle.std.specs.Fmt.{digits}
 use Rattle.je_lsn.specs.Naming.{name_of}
 use Rattle.log_replay.specs.declared.corruption.Corruption.{Corruption}
 use Rattle.log_replay.specs.declared.corruption.Corruption.TheVariants.{Damaged, Missing, Tree, VersionUnknown}
 use Rattle.engine.specs.declared.open_err.OpenErr.{OpenErr}
-use Rattle.engine.specs.declared.open_err.OpenErr.TheVariants.{Disk as NoDisk, Memory as NoMemory, IdsEnded as NoNumbers, Unreadable as CannotRead}
+use Rattle.engine.specs.declared.open_err.OpenErr.TheVariants.{Disk as NoDisk, Memory as NoMemory, IdsEnded as NoNumbers, Unreadable as CannotRead, WrongIndex as FoundWrong}
 use Rattle.engine.specs.Files.{MeanStore}
 use Rattle.environment.specs.Limits.{AreBounded}
 use Rattle.engine.specs.Opening.{StartsAt, reach_in}
@@ -31,6 +31,7 @@ use Rattle.je_program.specs.Crash.{IsSafeProgram}
 use Rattle.script_run.specs.Ends.{AreEndsInPlace}
 use Rattle.serial_replay.specs.Replay.{ReplaysSerially}
 use Rattle.serial_replay.specs.Cycles.{NeverWaitInCycle}
+use Rattle.serial_replay.specs.Laws.{StaysIndexed}
 use Rattle.script_run.specs.Events.{final_store}
 use Rattle.script_run.specs.Maintenance.{AreStepsInPlace}
 use Rattle.script_run.specs.Lines.{AreFirstLines, of_maintenance, of_session}
@@ -95,7 +96,7 @@ EndsBy journal cause = (cause ≡ cause_of_journal journal) ⊎ (cause ≡ Disk)
 
 -- A run from one history of the disk to another, with log files of at most so many bytes. It begins where the files at entry are opened: each event
 -- of the journal answers what the model lets it from there on, within the limits of the log; its transactions are as their levels promise, and after no
--- event do any wait in a cycle; each commit is followed at once by what its durability asks
+-- event do any wait in a cycle; each index has the pairs of its primary's records, and each transaction sees it so; each commit is followed at once by what its durability asks
 -- for; the calls that waited go on in the order in which they began to wait, before the next line; each step of maintenance was given by a line, and a
 -- sync that a line asks for has made all commits so far durable where it is done. A session ends behind the
 -- last line, or where it was stopped since a call of it found no memory. At every moment the disk is safe. Unless memory ran out none was stopped, and at
@@ -107,6 +108,7 @@ pub record IsRunOf (file_max : ℕ) (observable : Bool) (old new : History) (ope
   pub answers : AnswersAsModel st limits journal
   pub replays : ReplaysSerially st journal
   pub no_cycle : NeverWaitInCycle st journal
+  pub indexes : StaysIndexed st journal
   pub bounded : AreBounded (reach_in starts.held starts.meaning) st journal limits
   pub synced_at_once : AreSyncedAtOnce st journal
   pub in_order : AreResumedInOrder st journal
@@ -139,6 +141,7 @@ fault_text Usage = codes "fault usage\n"
 fault_text (BadScript line) = codes "fault script line " ++ decimal line ++ codes "\n"
 fault_text Disk = codes "fault disk\n"
 fault_text (Unreadable corruption) = corruption_text corruption
+fault_text (WrongIndex name) = codes "fault index " ++ name ++ codes "\n"
 fault_text Memory = codes "fault memory\n"
 fault_text Input = codes "fault input\n"
 fault_text InputTooLong = codes "fault input too long\n"
@@ -166,6 +169,7 @@ cause_of_opening NoDisk = Disk
 cause_of_opening NoMemory = Memory
 cause_of_opening NoNumbers = IdsEnded
 cause_of_opening (CannotRead corruption) = Unreadable corruption
+cause_of_opening (FoundWrong name) = WrongIndex name
 
 -- the cause of a run's end once it is closed: a fault of the disk, unless there was no memory before
 abbrev pub cause_closed : Bool → Cause → Cause

@@ -2,9 +2,10 @@
 use Rattle.je_disk.specs.Moments.{History}
 use Rattle.engine.specs.Untouched.{IsUntouched}
 use Rattle.je_program.specs.declared.cause.Cause.{Cause}
-use Rattle.je_program.specs.declared.cause.Cause.TheVariants.{Unreadable}
+use Rattle.je_program.specs.declared.cause.Cause.TheVariants.{Unreadable, WrongIndex}
 
--- where the cause is that the files cannot be opened, the disk is untouched
+-- where the cause is that the files cannot be opened or an index is wrong, the disk is untouched
 abbrev pub LeavesUnreadable : Cause → History → History → Type 0
 LeavesUnreadable (Unreadable corruption) old new = IsUntouched old new
+LeavesUnreadable (WrongIndex name) old new = IsUntouched old new
 LeavesUnreadable cause old new = Unit {0}

@@ -2,12 +2,13 @@
 ghost use Rattle.std.specs.Prelude.{◌≡◌};
 ghost use Rattle.je_program.specs.Run.{status_of, unwritten_status_of};
 
+use je_order::Word;
 use log_replay::Corruption;
 use std::alloc::AllocError;
 
 /// Why a program ended as it did, before its output was written. Each has a status and a fault line of
 /// its own (docs/ANSWERS.md).
-#[derive(Clone, Copy, PartialEq, Eq)]
+#[derive(Drop, PartialEq, Eq)]
 pub enum Cause {
     /// All was done: 0, and no fault line.
     Done,
@@ -20,6 +21,9 @@ pub enum Cause {
     /// The files at entry cannot be opened; this is the first corruption in the order of reading:
     /// 5.
     Unreadable(Corruption),
+    /// The files at entry can be read, but the index of that name, the first in name order, has not the pairs of
+    /// its primary's records: 5.
+    WrongIndex(Word),
     /// Out of memory: 6.
     Memory,
     /// The input failed: 7.
@@ -42,7 +46,7 @@ impl Cause {
             Cause::Usage => 2,
             Cause::BadScript { .. } => 3,
             Cause::Disk => 4,
-            Cause::Unreadable(_) => 5,
+            Cause::Unreadable(_) | Cause::WrongIndex(_) => 5,
             Cause::Memory => 6,
             Cause::Input => 7,
             Cause::InputTooLong => 11,

@@ -9,11 +9,12 @@ use crate::hexadecimal::write_hexadecimal;
 use arrayvec::ArrayVec;
 use itoa::Buffer;
 use je_lsn::{FileNo, Lsn, file_name};
+use je_order::Word;
 use log_replay::Corruption;
 
 // Puts bytes at the end of a line that has room for them.
-fn put(line: &mut ArrayVec<u8, 64>, bytes: &[u8])
-    requires room { array_vec_len line.old + length bytes.now ≤ 64 }
+fn put(line: &mut ArrayVec<u8, 80>, bytes: &[u8])
+    requires room { array_vec_len line.old + length bytes.now ≤ 80 }
     ensures items { line.new.items ≡ line.old.items ++ bytes.now }
     ensures len { array_vec_len line.new ≡ array_vec_len line.old + length bytes.now }
 {
@@ -21,8 +22,8 @@ fn put(line: &mut ArrayVec<u8, 64>, bytes: &[u8])
 }
 
 // Puts a number in decimal digits.
-fn put_decimal(line: &mut ArrayVec<u8, 64>, number: u32)
-    requires room { array_vec_len line.old + 10 ≤ 64 }
+fn put_decimal(line: &mut ArrayVec<u8, 80>, number: u32)
+    requires room { array_vec_len line.old + 10 ≤ 80 }
     ensures items { line.new.items ≡ line.old.items ++ decimal number }
     ensures len { array_vec_len line.new ≤ array_vec_len line.old + 10 }
 {
@@ -31,8 +32,8 @@ fn put_decimal(line: &mut ArrayVec<u8, 64>, number: u32)
 }
 
 // Puts a number in hexadecimal digits.
-fn put_hexadecimal(line: &mut ArrayVec<u8, 64>, number: u32)
-    requires room { array_vec_len line.old + 8 ≤ 64 }
+fn put_hexadecimal(line: &mut ArrayVec<u8, 80>, number: u32)
+    requires room { array_vec_len line.old + 8 ≤ 80 }
     ensures items { line.new.items ≡ line.old.items ++ digits 16 false number }
     ensures len { array_vec_len line.new ≤ array_vec_len line.old + 8 }
 {
@@ -42,8 +43,8 @@ fn put_hexadecimal(line: &mut ArrayVec<u8, 64>, number: u32)
 }
 
 // Puts an LSN.
-fn put_lsn(line: &mut ArrayVec<u8, 64>, at: Lsn)
-    requires room { array_vec_len line.old + 21 ≤ 64 }
+fn put_lsn(line: &mut ArrayVec<u8, 80>, at: Lsn)
+    requires room { array_vec_len line.old + 21 ≤ 80 }
     ensures items { line.new.items ≡ line.old.items ++ lsn_text at }
     ensures len { array_vec_len line.new ≤ array_vec_len line.old + 21 }
 {
@@ -54,7 +55,7 @@ fn put_lsn(line: &mut ArrayVec<u8, 64>, at: Lsn)
 }
 
 // A line of a text, an LSN and the line's end.
-fn line_with_lsn(text: &[u8], at: Lsn) -> ArrayVec<u8, 64>
+fn line_with_lsn(text: &[u8], at: Lsn) -> ArrayVec<u8, 80>
     requires { length text.now ≤ 32 }
     ensures { result.items ≡ text.now ++ lsn_text at ++ codes "\n" }
 {
@@ -66,7 +67,7 @@ fn line_with_lsn(text: &[u8], at: Lsn) -> ArrayVec<u8, 64>
 }
 
 // The line of a version that is not known.
-fn line_of_version(file: FileNo, version: u32) -> ArrayVec<u8, 64>
+fn line_of_version(file: FileNo, version: u32) -> ArrayVec<u8, 80>
     ensures { result.items ≡ corruption_text (Corruption.VersionUnknown file version) }
 {
     let mut line = ArrayVec::new();
@@ -79,7 +80,7 @@ fn line_of_version(file: FileNo, version: u32) -> ArrayVec<u8, 64>
 }
 
 // The line of files that cannot be opened.
-fn line_of_corruption(corruption: &Corruption) -> ArrayVec<u8, 64>
+fn line_of_corruption(corruption: &Corruption) -> ArrayVec<u8, 80>
     ensures { result.items ≡ corruption_text corruption.now }
 {
     match corruption {
@@ -91,7 +92,7 @@ fn line_of_corruption(corruption: &Corruption) -> ArrayVec<u8, 64>
 }
 
 // The line of a script's bad line.
-fn line_of_bad_line(number: u32) -> ArrayVec<u8, 64>
+fn line_of_bad_line(number: u32) -> ArrayVec<u8, 80>
     ensures { result.items ≡ fault_text (Cause.BadScript number) }
 {
     let mut line = ArrayVec::new();
@@ -101,9 +102,20 @@ fn line_of_bad_line(number: u32) -> ArrayVec<u8, 64>
     line
 }
 
+// The line of an index that has not the pairs of its primary's records.
+fn line_of_index(name: &Word) -> ArrayVec<u8, 80>
+    ensures { result.items ≡ fault_text (Cause.WrongIndex name.now) }
+{
+    let mut line = ArrayVec::new();
+    put(&mut line, b"fault index ");
+    put(&mut line, name.as_slice());
+    put(&mut line, b"\n");
+    line
+}
+
 // A line that is this text.
-fn plain_line(text: &[u8]) -> ArrayVec<u8, 64>
-    requires { length text.now ≤ 64 }
+fn plain_line(text: &[u8]) -> ArrayVec<u8, 80>
+    requires { length text.now ≤ 80 }
     ensures { result.items ≡ text.now }
 {
     let mut line = ArrayVec::new();
@@ -112,7 +124,7 @@ fn plain_line(text: &[u8]) -> ArrayVec<u8, 64>
 }
 
 /// The line that tells why a program ended, and nothing where all was done. It takes no memory.
-pub fn fault_line(cause: &Cause) -> ArrayVec<u8, 64>
+pub fn fault_line(cause: &Cause) -> ArrayVec<u8, 80>
     ensures { result.items ≡ fault_text cause.now }
 {
     match cause {
@@ -121,6 +133,7 @@ pub fn fault_line(cause: &Cause) -> ArrayVec<u8, 64>
         Cause::BadScript { line } => line_of_bad_line(*line),
         Cause::Disk => plain_line(b"fault disk\n"),
         Cause::Unreadable(corruption) => line_of_corruption(corruption),
+        Cause::WrongIndex(name) => line_of_index(name),
         Cause::Memory => plain_line(b"fault memory\n"),
         Cause::Input => plain_line(b"fault input\n"),
         Cause::InputTooLong => plain_line(b"fault input too long\n"),

@@ -3,6 +3,7 @@ ghost use Rattle.std.specs.Prelude.{◌≡◌, ◌≢◌, ◌≤◌, ◌<◌, �
 ghost use Rattle.je_order.specs.Counts.{HasRisen, HasRisen as Failing};
 ghost use Rattle.je_disk.specs.Moments.{now};
 ghost use Rattle.store_model.specs.declared.plan.RunPlan.{RunPlan};
+ghost use Rattle.store_model.specs.Indexes.{AreIndexed};
 ghost use Rattle.store_model.specs.Journal.{is_disk_fault};
 ghost use Rattle.store_model.specs.Store.{no_databases};
 ghost use Rattle.je_answers.specs.Standing.{Standing};
@@ -14,7 +15,7 @@ ghost use Rattle.je_program.specs.declared.cause.Cause.{Cause as Why};
 ghost use Rattle.je_program.specs.declared.reading.TheConstants.{MOST_INPUT};
 ghost use Rattle.engine.specs.Crash.{KeepsEntry};
 ghost use Rattle.engine.specs.Untouched.{IsUntouched};
-ghost use Rattle.engine.specs.Files.{HasCorruption, Means};
+ghost use Rattle.engine.specs.Files.{HasCorruption, HasWrongIndex, Means};
 ghost use Rattle.engine.specs.Opening.{HasNoNumbers};
 ghost use Rattle.je_program.specs.Program.{EndsBy, IsGivenTo, IsOutputWritten, IsRunOf, ReadsPlan, RunsIf, is_before_disk, output_text};
 ghost use Rattle.je_program.specs.Run.{cause_of_room};
@@ -74,20 +75,24 @@ pub fn run_je<D: Disk, S: Source, K: Sink>(
     ensures read_whole { is_before_disk result.cause ≡ false → result.cause ≢ Why.Memory → (plan : RunPlan) × ReadsPlan (S.left input.old) (S.left input.new) plan }
 
     // The disk failed only where its count of faults rose; the files at entry cannot be opened, with this
-    // corruption first, exactly where that is the cause of the end.
+    // corruption first, or this index the first whose pairs are not those of its primary's records, exactly where
+    // that is the cause of the end.
     ensures disk_failed { result.cause ≡ Why.Disk → HasRisen (D.faults disk) (D.faults result.disk) }
     ensures unreadable { (corruption : Wrong) → result.cause ≡ Why.Unreadable corruption → D.observable ≡ true → HasCorruption (now (D.history disk)).reads corruption }
+    ensures wrong_index { (name : List ℕ) → result.cause ≡ Why.WrongIndex name → D.observable ≡ true → HasWrongIndex (now (D.history disk)).reads name }
 
     // Where no script was run, no number is left only if those of the files' nodes may pass the last one.
     ensures ids_ended { result.cause ≡ Why.IdsEnded → result.opened ≡ false → D.observable ≡ true → HasNoNumbers (now (D.history disk)).reads }
 
     // Where the files at entry cannot be opened, the disk's state is at each moment what it was.
     ensures unreadable_untouched { (corruption : Wrong) → result.cause ≡ Why.Unreadable corruption → D.observable ≡ true → IsUntouched (D.history disk) (D.history result.disk) }
+    ensures wrong_index_untouched { (name : List ℕ) → result.cause ≡ Why.WrongIndex name → D.observable ≡ true → IsUntouched (D.history disk) (D.history result.disk) }
 
     // A run: its journal holds the script's lines. Each answer is the model's, from what the files at entry mean on;
     // each commit is followed at once by its sync or its write-out, as its durability asks; the calls that waited go on
     // in the order in which they began to wait, before the next line; a step of maintenance is taken where a line asks
-    // for it, and a sync among them has made all commits so far durable; where all was done, each commit that waits is
+    // for it, and a sync among them has made all commits so far durable; each index has the pairs of its primary's
+    // records, and each transaction sees it so; where all was done, each commit that waits is
     // acknowledged, and the files mean the opening store changed by the commits in order. Over an observable disk, at
     // each moment from the end of the opening's own sync on, what the disk reads means the opening store changed by the
     // first of the attempted commits, at least the written ones, and each image of the disk in which no checksum matches
@@ -105,15 +110,19 @@ pub fn run_je<D: Disk, S: Source, K: Sink>(
     // too, if nothing was pending at entry; and each image at the end does, if nothing is pending then.
     ensures crash_unopened { D.observable ≡ true → result.opened ≡ false → KeepsEntry (D.history disk) (D.history result.disk) }
 
-    // Valid arguments, a script and files with a meaning end in a run, unless memory ran out or a count
-    // rose.
+    // Valid arguments, a script and files with a meaning, in which each index has the pairs of its primary's records,
+    // end in a run, unless memory ran out or a count rose.
     ensures complete { (bytes : List ℕ) (plan : RunPlan) (meaning : Meaning) → is_taken (map string_bytes args.now) ≡ true → S.left input.old ≡ Some bytes
-        → length bytes ≤ MOST_INPUT → plan_of bytes ≡ Ok plan → D.observable ≡ true → Means (now (D.history disk)).reads meaning
+        → length bytes ≤ MOST_INPUT → plan_of bytes ≡ Ok plan → D.observable ≡ true → Means (now (D.history disk)).reads meaning → AreIndexed meaning.store
         → ((result.opened ≡ true) × (result.cause ≡ cause_of_room result.journal.items)) ⊎ ((result.opened ≡ false) × (result.cause ≡ Why.IdsEnded)) ⊎ (result.cause ≡ Why.Memory)
         ⊎ Failing (S.faults input.old) (S.faults input.new) ⊎ HasRisen (D.faults disk) (D.faults result.disk) }
     ensures unreadable_found { (bytes : List ℕ) (plan : RunPlan) (corruption : Wrong) → is_taken (map string_bytes args.now) ≡ true → S.left input.old ≡ Some bytes
         → length bytes ≤ MOST_INPUT → plan_of bytes ≡ Ok plan → D.observable ≡ true → HasCorruption (now (D.history disk)).reads corruption
         → (result.cause ≡ Why.Unreadable corruption) ⊎ (result.cause ≡ Why.Memory)
+        ⊎ Failing (S.faults input.old) (S.faults input.new) ⊎ HasRisen (D.faults disk) (D.faults result.disk) }
+    ensures wrong_index_found { (bytes : List ℕ) (plan : RunPlan) (name : List ℕ) → is_taken (map string_bytes args.now) ≡ true → S.left input.old ≡ Some bytes
+        → length bytes ≤ MOST_INPUT → plan_of bytes ≡ Ok plan → D.observable ≡ true → HasWrongIndex (now (D.history disk)).reads name
+        → (result.cause ≡ Why.WrongIndex name) ⊎ (result.cause ≡ Why.Memory)
         ⊎ Failing (S.faults input.old) (S.faults input.new) ⊎ HasRisen (D.faults disk) (D.faults result.disk) }
 
     // What was written, and the status: the cause's, unless the output failed.

@@ -1,5 +1,5 @@
 // A program's work, up to its output.
-ghost use Rattle.std.specs.Prelude.{◌≡◌, ◌≢◌, ◌≤◌, ◌^◌, ◌⊎◌, [], ℕ, true, false, map, string_bytes, Some};
+ghost use Rattle.std.specs.Prelude.{◌≡◌, ◌≢◌, ◌≤◌, ◌^◌, ◌⊎◌, [], ℕ, List, true, false, map, string_bytes, Some};
 ghost use Rattle.std.specs.List.{list_all};
 ghost use Rattle.store_model.specs.declared.plan.RunPlan.{RunPlan};
 ghost use Rattle.script_text.specs.Grammar.{is_line};
@@ -17,7 +17,7 @@ ghost use Rattle.script_run.specs.UnderWay.{Beginning, IsCaused, IsUnderWay};
 ghost use Rattle.je_program.specs.declared.cause.Cause.{Cause as Why};
 ghost use Rattle.engine.specs.Crash.{ImagesMean, IsSafeRun, KeepsEntry};
 ghost use Rattle.je_program.specs.Untouched.{LeavesUnreadable};
-ghost use Rattle.engine.specs.Files.{HasCorruption, MeanStore};
+ghost use Rattle.engine.specs.Files.{HasCorruption, HasWrongIndex, MeanStore};
 ghost use Rattle.engine.specs.Opening.{HasNoNumbers};
 ghost use Rattle.txn_core.specs.Totals.{totals_of};
 ghost use Rattle.je_program.specs.Program.{ClosesRun, EndsBy, IsGivenTo, IsRunOf, IsStopped, ReadsPlan, RunsIf, is_before_disk, cause_closed, cause_of_opening};
@@ -105,6 +105,7 @@ fn opening_cause(error: OpenErr) -> Cause
         OpenErr::Memory => Cause::Memory,
         OpenErr::IdsEnded => Cause::IdsEnded,
         OpenErr::Unreadable(corruption) => Cause::Unreadable(corruption),
+        OpenErr::WrongIndex(name) => Cause::WrongIndex(name),
     }
 }
 
@@ -166,6 +167,7 @@ pub fn run_plan<D: Disk>(alloc: Global, disk: D, config: Config, plan: RunPlan) 
     ensures crash_unopened { D.observable ≡ true → result.opened ≡ false → KeepsEntry (D.history disk) (D.history result.disk) }
     ensures unopened { result.opened ≡ false → (result.opening ≡ no_databases) × (result.journal.items ≡ []) }
     ensures unreadable { (corruption : Wrong) → result.cause ≡ Why.Unreadable corruption → D.observable ≡ true → HasCorruption (now (D.history disk)).reads corruption }
+    ensures wrong_index { (name : List ℕ) → result.cause ≡ Why.WrongIndex name → D.observable ≡ true → HasWrongIndex (now (D.history disk)).reads name }
     ensures ids_ended { result.cause ≡ Why.IdsEnded → result.opened ≡ false → D.observable ≡ true → HasNoNumbers (now (D.history disk)).reads }
     ensures lines { result.opened ≡ true → result.cause ≢ Why.Memory → lines_of result.journal.items ≡ plan.lines }
     ensures front { result.opened ≡ true → (session : ℕ) → AreFirstLines (of_session session (lines_of result.journal.items)) (of_session session plan.lines) }
@@ -209,6 +211,7 @@ pub fn run_unprinted<D: Disk, S: Source>(
     ensures crash_unopened { D.observable ≡ true → result.opened ≡ false → KeepsEntry (D.history disk) (D.history result.disk) }
     ensures unopened { result.opened ≡ false → (result.opening ≡ no_databases) × (result.journal.items ≡ []) }
     ensures unreadable { (corruption : Wrong) → result.cause ≡ Why.Unreadable corruption → D.observable ≡ true → HasCorruption (now (D.history disk)).reads corruption }
+    ensures wrong_index { (name : List ℕ) → result.cause ≡ Why.WrongIndex name → D.observable ≡ true → HasWrongIndex (now (D.history disk)).reads name }
     ensures ids_ended { result.cause ≡ Why.IdsEnded → result.opened ≡ false → D.observable ≡ true → HasNoNumbers (now (D.history disk)).reads }
     ensures ends { result.opened ≡ true → result.cause ≢ Why.Memory → EndsBy result.journal.items result.cause }
     ensures caused { ClosesRun (D.faults disk) (D.faults result.disk) result.journal.items result.cause }

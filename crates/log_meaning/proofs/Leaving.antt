@@ -10,7 +10,7 @@ use Rattle.store_model.specs.declared.store.Store.{Store}
 use Rattle.store_model.specs.declared.store.Database.{Database}
 use Rattle.store_model.specs.declared.store.TheConstants.{MOST_DATABASES}
 use Rattle.store_model.specs.Store.{store_after}
-use Rattle.log_replay.specs.Rows.{Row, Rows, catalog_number, catalog_kind, numbers_of, is_catalog_row, are_distinct, are_right, rows_of_row, is_environment, database_in, store_of, no_rows}
+use Rattle.log_replay.specs.Rows.{Row, Rows, catalog_number, catalog_kind, catalog_index, has_primary, numbers_of, is_catalog_row, are_distinct, are_right, rows_of_row, is_environment, database_by, database_in, store_of, no_rows}
 use Rattle.log_replay.proofs.MapRows.{lookup_is_data}
 use Rattle.log_replay.proofs.LoadedRows.{same_rows}
 use Rattle.log_replay.proofs.StoreLaws.{same_database}
@@ -33,12 +33,12 @@ all_same p q (n ∷ ns) all = ap₂ (λ a b. a && b) all.0 (all_same p q ns all.
 abbrev environment_with : List Row → Rows → Bool
 environment_with catalog rows =
     list_all is_catalog_row catalog && are_distinct (map (λ r. catalog_number r.1) catalog) && list_all (λ r. are_right (catalog_kind r.1) (rows_of_row rows r)) catalog
-    && nat_le (length catalog) MOST_DATABASES
+    && nat_le (length catalog) MOST_DATABASES && list_all (λ r. has_primary catalog (catalog_index r.1)) catalog
 
 pub same_environment : (a b : Rows) → a 0 ≡ b 0 → AllByRecursion (λ n. a n ≡ b n) (numbers_of b) → is_environment a ≡ is_environment b
 same_environment a b zero_same each =
     ap (λ (catalog : List Row). environment_with catalog a) zero_same
-    ∙ ap (λ (t : Bool). list_all is_catalog_row (b 0) && are_distinct (numbers_of b) && t && nat_le (length (b 0)) MOST_DATABASES)
+    ∙ ap (λ (t : Bool). list_all is_catalog_row (b 0) && are_distinct (numbers_of b) && t && nat_le (length (b 0)) MOST_DATABASES && list_all (λ r. has_primary (b 0) (catalog_index r.1)) (b 0))
     (all_same (λ r. are_right (catalog_kind r.1) (rows_of_row a r)) (λ r. are_right (catalog_kind r.1) (rows_of_row b r)) (b 0)
     (all_weaker (λ (r : Row). a (catalog_number r.1) ≡ b (catalog_number r.1)) (λ r. are_right (catalog_kind r.1) (rows_of_row a r) ≡ are_right (catalog_kind r.1) (rows_of_row b r))
     (λ r h. ap (are_right (catalog_kind r.1)) h) (b 0) (all_of_map (λ (r : Row). catalog_number r.1) (λ n. a n ≡ b n) (b 0) each)))
@@ -46,9 +46,9 @@ same_environment a b zero_same each =
 pub same_store : (a b : Rows) → a 0 ≡ b 0 → AllByRecursion (λ n. a n ≡ b n) (numbers_of b) → store_of a ≡ store_of b
 same_store a b zero_same each =
     let make : List Database → Store = λ l. record { databases = l } in
-    ap (λ (catalog : List Row). make (map (database_in a) catalog)) zero_same
-    ∙ ap make (map_same (database_in a) (database_in b) (b 0)
-    (all_weaker (λ (r : Row). a (catalog_number r.1) ≡ b (catalog_number r.1)) (λ r. database_in a r ≡ database_in b r) (λ r h. same_database a b r h) (b 0)
+    ap (λ (catalog : List Row). make (map (database_by catalog a) catalog)) zero_same
+    ∙ ap make (map_same (database_by (b 0) a) (database_in b) (b 0)
+    (all_weaker (λ (r : Row). a (catalog_number r.1) ≡ b (catalog_number r.1)) (λ r. database_by (b 0) a r ≡ database_in b r) (λ r h. same_database (b 0) a b r h) (b 0)
     (all_of_map (λ (r : Row). catalog_number r.1) (λ n. a n ≡ b n) (b 0) each)))
 
 pub stands_leaves : StandsLeaves

@@ -16,6 +16,8 @@ pub mod LogLaws
 pub mod ReplayLaws
 -- What a name finds in records after a change.
 pub mod NameLaws
+-- Which catalog record has a number after a change of the catalog.
+pub mod IndexRows
 -- What a transaction's changes of records leave: the records of an environment, their store and the databases' numbers.
 pub mod LoggedLaws
 -- What one more transaction in a log leaves.
@@ -36,5 +38,7 @@ pub mod ListedLaws
 pub mod AgainLaws
 -- Records that go in many at a time.
 pub mod LoadedRows
+-- No index is wrong exactly where each has the pairs of its primary's records.
+pub mod IndexedLaws
 -- What plans read of the records of an environment.
 pub mod PlanViews

@@ -12,23 +12,11 @@ use Rattle.store_model.specs.Evaluation.{plain_name}
 use Rattle.log_replay.specs.Rows.{Row, Rows, row_at, is_environment, are_right, IsRising, pair_of, catalog_number, database_in, store_of}
 use Rattle.log_replay.specs.Logging.{record_in, record_named}
 use Rattle.log_replay.proofs.RowLaws.{each_right}
-use Rattle.log_replay.proofs.LoggedLaws.{record-again}
-use Rattle.log_replay.proofs.StoreLaws.{environment_parts, database_of-store_of, named-above}
+use Rattle.log_replay.proofs.LoggedLaws.{catalogs_are_of_stores}
 
 -- a catalog's record is that of its database
-pub catalog_of : (rows : Rows) → is_environment rows ≡ true → IsCatalogOf (store_of rows) (record_named rows)
-catalog_of rows env name = by_row (row_at (plain_name name) (rows 0)) refl
-  where
-    by_row : (o : Option Row) → row_at (plain_name name) (rows 0) ≡ o → IsRecordOf (database_of name (store_of rows)) (record_named rows name)
-    by_row None e =
-        subst (λ (d : Option Database). IsRecordOf d (record_named rows name)) (sym (database_of-store_of rows name env ∙ ap (option_map (database_in rows)) e))
-        (ap (λ (o : Option Row). record_in (option_map (λ (r : Row). r.1) o)) e)
-    by_row (Some row) e =
-        subst (λ (d : Option Database). IsRecordOf d (record_named rows name)) (sym (database_of-store_of rows name env ∙ ap (option_map (database_in rows)) e)) (
-          catalog_number row.1,
-          ap (λ (o : Option Row). record_in (option_map (λ (r : Row). r.1) o)) e
-              ∙ record-again (record_in (Some row.1)) (named-above rows name row (environment_parts rows env) e),
-        )
+pub catalog_of : (rows : Rows) → is_environment rows ≡ true → IsRising (rows 0) → IsCatalogOf (store_of rows) (record_named rows)
+catalog_of rows env up = catalogs_are_of_stores rows env up
 
 -- names that stand behind a name do so in the pairs
 behind : (kind : Kind) (n : Name) (rows : List Row) → AllByRecursion (λ r. name_of kind (pair_of kind r) ≡ r.0) rows → AllByRecursion (λ (r : Row). name_cmp n r.0 ≡ Less) rows →

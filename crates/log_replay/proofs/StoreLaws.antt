@@ -10,12 +10,13 @@ use Rattle.je_order.specs.Words.{is_word}
 use Rattle.je_order.specs.declared.name.Name.{Name}
 use Rattle.store_model.specs.declared.store.Store.{Store}
 use Rattle.store_model.specs.declared.store.Database.{Database}
+use Rattle.store_model.specs.declared.extract.Extract.{Extract}
 use Rattle.store_model.specs.declared.kind.Kind.{Kind}
 use Rattle.store_model.specs.declared.store.TheConstants.{MOST_DATABASES}
 use Rattle.store_model.specs.Store.{Pair, database_of, with_pairs, in_database, databases_with, databases_without}
 use Rattle.store_model.specs.Evaluation.{plain_name}
-use Rattle.log_replay.specs.Rows.{Row, Rows, RowChange, row_changed, rows_with, row_at, number_or_0, kind_or_plain, catalog_number, catalog_kind, is_catalog_row, are_distinct, are_right, rows_of_row, numbers_of, is_environment, IsRising, pair_of, database_in, store_of}
-use Rattle.log_replay.specs.Logging.{record_in, number_named, kind_named}
+use Rattle.log_replay.specs.Rows.{Row, Rows, RowChange, row_changed, rows_with, row_at, number_or_0, kind_or_plain, catalog_number, catalog_kind, is_catalog_row, are_distinct, are_right, rows_of_row, numbers_of, is_environment, IsRising, pair_of, index_or_none, catalog_index, has_primary, row_numbered, index_in, database_by, store_by, database_in, store_of}
+use Rattle.log_replay.specs.Logging.{record_in, record_named, number_named, kind_named, index_named}
 use Rattle.log_replay.proofs.ListLaws.{all_true, all_from_true, all_both, all_parts, all_of_map, all_to_map, map_same, map-map, find-map, filter-map, found, any_found, list_any-map}
 use Rattle.je_order.proofs.Lists.{none_each, each_none, all_weaker, all_append, all_kept}
 use Rattle.log_replay.proofs.RowLaws.{name_cmp-plain, rising-changed, rising_tail, split_where_none, others_after, replaced}
@@ -35,42 +36,61 @@ number_of_row row = catalog_number row.1
 abbrev pub is_right_under : Rows → Row → Bool
 is_right_under rows row = are_right (catalog_kind row.1) (rows_of_row rows row)
 
--- what `is_environment` says, part by part
+-- what `is_environment` says, part by part; the primaries of indexes stand alone
 pub record IsEnvironment (rows : Rows) : Type 0 where
   pub catalog : AllByRecursion (λ r. is_catalog_row r ≡ true) (rows 0)
   pub distinct : are_distinct (numbers_of rows) ≡ true
   pub right : AllByRecursion (λ r. is_right_under rows r ≡ true) (rows 0)
   pub few : length (rows 0) ≤ MOST_DATABASES
 
+abbrev pub HasPrimary : List Row → Row → Type 0
+HasPrimary catalog row = has_primary catalog (catalog_index row.1) ≡ true
+
+abbrev pub HavePrimaries : Rows → Type 0
+HavePrimaries rows = AllByRecursion (HasPrimary (rows 0)) (rows 0)
+
 -- from the test
-pub environment_parts : (rows : Rows) → is_environment rows ≡ true → IsEnvironment rows
-environment_parts rows h =
+all_parts_of : (rows : Rows) → is_environment rows ≡ true → IsEnvironment rows × HavePrimaries rows
+all_parts_of rows h =
     let catalog = list_all is_catalog_row (rows 0) in
     let distinct = are_distinct (numbers_of rows) in
     let right = list_all (is_right_under rows) (rows 0) in
     let few = nat_le (length (rows 0)) MOST_DATABASES in
-    let a = and_parts (catalog && distinct && right) few h in
+    let own : Row → Bool = λ r. has_primary (rows 0) (catalog_index r.1) in
+    let z = and_parts (catalog && distinct && right && few) (list_all own (rows 0)) h in
+    let a = and_parts (catalog && distinct && right) few z.0 in
     let b = and_parts (catalog && distinct) right a.0 in
-    let c = and_parts catalog distinct b.0 in
-    record {
-      catalog = all_true is_catalog_row (rows 0) c.0;
-      distinct = c.1;
-      right = all_true (is_right_under rows) (rows 0) b.1;
-      few = leb-true (length (rows 0)) MOST_DATABASES a.1;
-    }
+    let c = and_parts catalog distinct b.0 in (
+      record {
+        catalog = all_true is_catalog_row (rows 0) c.0;
+        distinct = c.1;
+        right = all_true (is_right_under rows) (rows 0) b.1;
+        few = leb-true (length (rows 0)) MOST_DATABASES a.1;
+      },
+      all_true own (rows 0) z.1,
+    )
+
+pub environment_parts : (rows : Rows) → is_environment rows ≡ true → IsEnvironment rows
+environment_parts rows h = (all_parts_of rows h).0
+
+pub primaries_in : (rows : Rows) → is_environment rows ≡ true → HavePrimaries rows
+primaries_in rows h = (all_parts_of rows h).1
 
 -- and back to it
-pub environment_from : (rows : Rows) → IsEnvironment rows → is_environment rows ≡ true
-environment_from rows h =
+pub environment_from : (rows : Rows) → IsEnvironment rows → HavePrimaries rows → is_environment rows ≡ true
+environment_from rows h primaries =
     let catalog = list_all is_catalog_row (rows 0) in
     let distinct = are_distinct (numbers_of rows) in
     let right = list_all (is_right_under rows) (rows 0) in
     let few = nat_le (length (rows 0)) MOST_DATABASES in
-    and_from (catalog && distinct && right) few
+    let own : Row → Bool = λ r. has_primary (rows 0) (catalog_index r.1) in
+    and_from (catalog && distinct && right && few) (list_all own (rows 0))
+    (and_from (catalog && distinct && right) few
     (and_from (catalog && distinct) right
     (and_from catalog distinct (all_from_true is_catalog_row (rows 0) h.catalog) h.distinct)
     (all_from_true (is_right_under rows) (rows 0) h.right))
-    (le-leb (length (rows 0)) MOST_DATABASES h.few)
+    (le-leb (length (rows 0)) MOST_DATABASES h.few))
+    (all_from_true own (rows 0) primaries)
 
 -- what `is_catalog_row` says of a record
 catalog_parts : (row : Row) → is_catalog_row row ≡ true → (row.0.dup ≡ []) × (catalog_number row.1 ≢ 0)
@@ -101,9 +121,9 @@ pub is_environment-same : (a b : Rows) → ((db : ℕ) → a db ≡ b db) → is
 is_environment-same a b h = ap is_environment (fun_ext h)
 
 -- a catalog record names the same database where the records under its number are the same
-pub same_database : (a b : Rows) (r : Row) → a (catalog_number r.1) ≡ b (catalog_number r.1) → database_in a r ≡ database_in b r
-same_database a b r h =
-    let with_records : List Row → Database = λ l. record { name = r.0.key; kind = catalog_kind r.1; index = None; pairs = map (pair_of (catalog_kind r.1)) l } in ap with_records h
+pub same_database : (c : List Row) (a b : Rows) (r : Row) → a (catalog_number r.1) ≡ b (catalog_number r.1) → database_by c a r ≡ database_by c b r
+same_database c a b r h =
+    let with_records : List Row → Database = λ l. record { name = r.0.key; kind = catalog_kind r.1; index = index_in c (catalog_index r.1); pairs = map (pair_of (catalog_kind r.1)) l } in ap with_records h
 
 -- ---- databases by their names
 
@@ -122,15 +142,20 @@ number_by o = number_or_0 (record_in (option_map (λ (r : Row). r.1) o))
 abbrev kind_by : Option Row → Kind
 kind_by o = kind_or_plain (record_in (option_map (λ (r : Row). r.1) o))
 
+abbrev made_by_row : Option Row → Option (ℕ × Extract)
+made_by_row o = index_or_none (record_in (option_map (λ (r : Row). r.1) o))
+
 -- a name that has a number has a record of that number and kind
 pub row_named : (rows : Rows) (name : List ℕ) → number_named rows name ≢ 0 →
     (row : Row) × (row_at (plain_name name) (rows 0) ≡ Some row) × (catalog_number row.1 ≡ number_named rows name) × (catalog_kind row.1 ≡ kind_named rows name)
+    × (catalog_index row.1 ≡ index_or_none (record_named rows name))
 row_named rows name has = by_row (row_at (plain_name name) (rows 0)) refl
   where
     by_row : (o : Option Row) → row_at (plain_name name) (rows 0) ≡ o →
         (row : Row) × (row_at (plain_name name) (rows 0) ≡ Some row) × (catalog_number row.1 ≡ number_named rows name) × (catalog_kind row.1 ≡ kind_named rows name)
+        × (catalog_index row.1 ≡ index_or_none (record_named rows name))
     by_row None e = absurd (has (ap number_by e))
-    by_row (Some row) e = (row, e, sym (ap number_by e), sym (ap kind_by e))
+    by_row (Some row) e = (row, e, sym (ap number_by e), sym (ap kind_by e), sym (ap made_by_row e))
 
 -- a name without a number has none
 pub no_row_named : (rows : Rows) (name : List ℕ) → IsEnvironment rows → number_named rows name ≡ 0 → row_at (plain_name name) (rows 0) ≡ None
@@ -149,14 +174,20 @@ key_of_row rows name row catalog there =
 
 -- a name that has a number is that of a database
 pub database_of-numbered : (rows : Rows) (name : List ℕ) → is_environment rows ≡ true → number_named rows name ≢ 0 →
-    database_of name (store_of rows) ≡ Some (record { name = name; kind = kind_named rows name; index = None; pairs = map (pair_of (kind_named rows name)) (rows (number_named rows name)) })
+    database_of name (store_of rows) ≡ Some (record {
+      name = name;
+      kind = kind_named rows name;
+      index = index_named rows name;
+      pairs = map (pair_of (kind_named rows name)) (rows (number_named rows name));
+    })
 database_of-numbered rows name h has =
     let row = row_named rows name has in
     let key : row.0.0.key ≡ name = key_of_row (rows 0) name row.0 (environment_parts rows h).catalog row.1 in
-    let make : List ℕ → Kind → ℕ → Option Database = λ n k d. Some (record { name = n; kind = k; index = None; pairs = map (pair_of k) (rows d) }) in
+    let make : List ℕ → Kind → Option (ℕ × Extract) → ℕ → Option Database = λ n k m d. Some (record { name = n; kind = k; index = index_in (rows 0) m; pairs = map (pair_of k) (rows d) }) in
     database_of-store_of rows name h ∙ ap (option_map (database_in rows)) row.1
-    ∙ ap (λ (n : List ℕ). make n (catalog_kind row.0.1) (catalog_number row.0.1)) key
-    ∙ ap₂ (λ (k : Kind) (d : ℕ). make name k d) row.3 row.2
+    ∙ ap (λ (n : List ℕ). make n (catalog_kind row.0.1) (catalog_index row.0.1) (catalog_number row.0.1)) key
+    ∙ ap₂ (λ (k : Kind) (d : ℕ). make name k (catalog_index row.0.1) d) row.3 row.2
+    ∙ ap (λ (m : Option (ℕ × Extract)). make name (kind_named rows name) m (number_named rows name)) row.4
 
 -- a name without a number is no database's
 pub database_of-absent : (rows : Rows) (name : List ℕ) → is_environment rows ≡ true → number_named rows name ≡ 0 → database_of name (store_of rows) ≡ None
@@ -234,23 +265,23 @@ catalog_cases rows name row env up there =
     (catalog_numbers (rows 0) env.catalog) (one_or_other name row (rows 0) env.catalog env.distinct up there)
 
 -- one database of a list changes, with its catalog record
-in_place : (a b : Rows) (name : List ℕ) (row : Row) (g : Row → Row) (change : Database → Database) (rows : List Row) → AllByRecursion (IsCase name row) rows →
-    (is_eq (name_cmp row.0 (plain_name name)) ≡ true → database_in b (g row) ≡ change (database_in a row)) →
-    ((r : Row) → is_eq (name_cmp r.0 (plain_name name)) ≡ false → catalog_number r.1 ≢ 0 → catalog_number r.1 ≢ catalog_number row.1 → database_in b (g r) ≡ database_in a r) →
-    map (λ (r : Row). database_in b (g r)) rows ≡ in_database name change (map (database_in a) rows)
-in_place a b name row g change [] each here there = refl
-in_place a b name row g change (r ∷ rows) each here there =
-    let before : Database = database_in a r in
-    let first : database_in b (g r) ≡ cond (is_same_bytes r.0.key name) (change before) before =
+in_place : (c : List Row) (a b : Rows) (name : List ℕ) (row : Row) (g : Row → Row) (change : Database → Database) (rows : List Row) → AllByRecursion (IsCase name row) rows →
+    (is_eq (name_cmp row.0 (plain_name name)) ≡ true → database_by c b (g row) ≡ change (database_by c a row)) →
+    ((r : Row) → is_eq (name_cmp r.0 (plain_name name)) ≡ false → catalog_number r.1 ≢ 0 → catalog_number r.1 ≢ catalog_number row.1 → database_by c b (g r) ≡ database_by c a r) →
+    map (λ (r : Row). database_by c b (g r)) rows ≡ in_database name change (map (database_by c a) rows)
+in_place c a b name row g change [] each here there = refl
+in_place c a b name row g change (r ∷ rows) each here there =
+    let before : Database = database_by c a r in
+    let first : database_by c b (g r) ≡ cond (is_same_bytes r.0.key name) (change before) before =
     ⊎_elim
     (λ (one : (r ≡ row) × (is_same_bytes r.0.key name ≡ true) × (is_eq (name_cmp r.0 (plain_name name)) ≡ true)).
-    ap (λ (x : Row). database_in b (g x)) one.0 ∙ here (ap (λ (x : Row). is_eq (name_cmp x.0 (plain_name name))) (sym one.0) ∙ one.2)
-    ∙ sym (ap (λ (x : Row). change (database_in a x)) one.0)
+    ap (λ (x : Row). database_by c b (g x)) one.0 ∙ here (ap (λ (x : Row). is_eq (name_cmp x.0 (plain_name name))) (sym one.0) ∙ one.2)
+    ∙ sym (ap (λ (x : Row). change (database_by c a x)) one.0)
     ∙ sym (cond-true (is_same_bytes r.0.key name) (change before) before one.1))
     (λ (other : (catalog_number r.1 ≢ catalog_number row.1) × (is_same_bytes r.0.key name ≡ false) × (is_eq (name_cmp r.0 (plain_name name)) ≡ false)).
     there r other.2 each.0.0 other.0 ∙ sym (cond-false (is_same_bytes r.0.key name) (change before) before other.1))
     each.0.1 in
-    ap₂ (λ (d : Database) (l : List Database). d ∷ l) first (in_place a b name row g change rows each.1 here there)
+    ap₂ (λ (d : Database) (l : List Database). d ∷ l) first (in_place c a b name row g change rows each.1 here there)
 
 -- ---- a change of one database's records
 
@@ -283,7 +314,7 @@ record_changed rows name row c f env up there at right pairs =
     let elsewhere : (r : Row) → catalog_number r.1 ≢ catalog_number row.1 → after (catalog_number r.1) ≡ rows (catalog_number r.1) =
     λ r h. row_changed-there c rows (catalog_number r.1) (λ e. h (e ∙ sym at)) in
     let right_row : is_right_under after row ≡ true = ap (are_right kind) at_row ∙ right in
-    let with_records : List Pair → Database = λ l. record { name = row.0.key; kind = kind; index = None; pairs = l } in
+    let with_records : List Pair → Database = λ l. record { name = row.0.key; kind = kind; index = index_in (rows 0) (catalog_index row.1); pairs = l } in
     let make : List Database → Store = λ l. record { databases = l } in (
       record {
         catalog = subst (λ l. AllByRecursion (λ (r : Row). is_catalog_row r ≡ true) l) same env.catalog;
@@ -297,10 +328,10 @@ record_changed rows name row c f env up there at right pairs =
             one.1) (rows 0) cases env.right);
         few = subst (λ (l : List Row). length l ≤ MOST_DATABASES) same env.few;
       },
-      ap make (ap (λ l. map (database_in after) l) (sym same)
-          ∙ in_place rows after name row (λ r. r) (λ d. with_pairs d (f d.kind d.pairs)) (rows 0) cases
+      ap make (ap (λ (l : List Row). map (database_by l after) l) (sym same)
+          ∙ in_place (rows 0) rows after name row (λ r. r) (λ d. with_pairs d (f d.kind d.pairs)) (rows 0) cases
           (λ e. ap with_records (ap (map (pair_of kind)) at_row ∙ pairs ∙ ap (λ n. f kind (map (pair_of kind) (rows n))) (sym at)))
-          (λ r e above_ h. same_database after rows r (elsewhere r h))),
+          (λ r e above_ h. same_database (rows 0) after rows r (elsewhere r h))),
     )
 
 -- ---- a database more
@@ -342,21 +373,25 @@ elsewhere txn name value rows catalog above =
     (λ r h. row_changed-there (catalog_change txn name value) rows (catalog_number r.1) h) catalog above
 
 -- a test of databases' names is one of the catalog's records
-as_databases : (rows : Rows) (name : List ℕ) (test : Ordering → Bool) → AllByRecursion (λ r. r.0.dup ≡ []) (rows 0) →
-    filter (λ (d : Database). test (bytes_cmp d.name name)) (map (database_in rows) (rows 0)) ≡ map (database_in rows) (filter (λ (r : Row). test (name_cmp r.0 (plain_name name))) (rows 0))
-as_databases rows name test empty =
-    filter-map (database_in rows) (λ d. test (bytes_cmp d.name name)) (λ r. test (name_cmp r.0 (plain_name name))) (rows 0)
+as_databases : (c : List Row) (rows : Rows) (name : List ℕ) (test : Ordering → Bool) → AllByRecursion (λ r. r.0.dup ≡ []) (rows 0) →
+    filter (λ (d : Database). test (bytes_cmp d.name name)) (map (database_by c rows) (rows 0)) ≡ map (database_by c rows) (filter (λ (r : Row). test (name_cmp r.0 (plain_name name))) (rows 0))
+as_databases c rows name test empty =
+    filter-map (database_by c rows) (λ d. test (bytes_cmp d.name name)) (λ r. test (name_cmp r.0 (plain_name name))) (rows 0)
     (all_weaker (λ (r : Row). r.0.dup ≡ []) (λ r. test (bytes_cmp r.0.key name) ≡ test (name_cmp r.0 (plain_name name)))
     (λ r e. ap test (sym (name_cmp-plain r.0 name e))) (rows 0) empty)
 
 -- a catalog record with a new name and a number that no other has, under which records are right for its kind, makes a database of them
-pub row_put : (rows : Rows) (txn : ℕ) (name bytes : List ℕ) → IsEnvironment rows → IsRising (rows 0) → is_word name ≡ true → row_at (plain_name name) (rows 0) ≡ None →
+pub row_put : (base : List Row) (rows : Rows) (txn : ℕ) (name bytes : List ℕ) → IsEnvironment rows → IsRising (rows 0) → is_word name ≡ true → row_at (plain_name name) (rows 0) ≡ None →
     length (rows 0) < MOST_DATABASES → catalog_number bytes ≢ 0 → AllByRecursion (λ r. catalog_number r.1 ≢ catalog_number bytes) (rows 0) →
     are_right (catalog_kind bytes) (rows (catalog_number bytes)) ≡ true →
     IsEnvironment (row_changed (catalog_change txn name (Some bytes)) rows)
-    × (store_of (row_changed (catalog_change txn name (Some bytes)) rows)
-    ≡ record { databases = databases_with (record { name = name; kind = catalog_kind bytes; index = None; pairs = map (pair_of (catalog_kind bytes)) (rows (catalog_number bytes)) }) (store_of rows).databases })
-row_put rows txn name bytes env up word absent room above differ right_new =
+    × (store_by base (row_changed (catalog_change txn name (Some bytes)) rows)
+    ≡ record {
+      databases = databases_with
+          (record { name = name; kind = catalog_kind bytes; index = index_in base (catalog_index bytes); pairs = map (pair_of (catalog_kind bytes)) (rows (catalog_number bytes)) })
+          (store_by base rows).databases;
+    })
+row_put base rows txn name bytes env up word absent room above differ right_new =
     let at : Name = plain_name name in
     let c : RowChange = catalog_change txn name (Some bytes) in
     let after : Rows = row_changed c rows in
@@ -377,9 +412,9 @@ row_put rows txn name bytes env up word absent room above differ right_new =
     let under : AllByRecursion Under (rows 0) =
     all_both (λ (r : Row). after (catalog_number r.1) ≡ rows (catalog_number r.1)) (λ (r : Row). is_right_under rows r ≡ true) Under
     (λ r k h. ap (are_right (catalog_kind r.1)) k ∙ h) (rows 0) kept env.right in
-    let Same : Row → Type 0 = λ r. database_in after r ≡ database_in rows r in
+    let Same : Row → Type 0 = λ r. database_by base after r ≡ database_by base rows r in
     let same : AllByRecursion Same (rows 0) =
-    all_weaker (λ (r : Row). after (catalog_number r.1) ≡ rows (catalog_number r.1)) Same (λ r k. same_database after rows r k) (rows 0) kept in
+    all_weaker (λ (r : Row). after (catalog_number r.1) ≡ rows (catalog_number r.1)) Same (λ r k. same_database base after rows r k) (rows 0) kept in
     let empty_dups = catalog_plain (rows 0) env.catalog in
     let make : List Database → Store = λ l. record { databases = l } in (
       record {
@@ -391,12 +426,12 @@ row_put rows txn name bytes env up word absent room above differ right_new =
         few = omega (arith, length-append lower (new ∷ higher), length-append lower higher, ap length split);
       },
       ap make
-          (map-append (database_in after) lower (new ∷ higher)
-          ∙ ap₂ (λ (a b : List Database). a ++ database_in after new ∷ b)
-          (map_same (database_in after) (database_in rows) lower (all_kept Same low (rows 0) same) ∙ sym (as_databases rows name is_lt empty_dups))
-          (map_same (database_in after) (database_in rows) higher (all_kept Same high (rows 0) same) ∙ sym (as_databases rows name is_gt empty_dups))
-          ∙ ap (λ (d : Database). filter (λ (x : Database). is_lt (bytes_cmp x.name name)) (map (database_in rows) (rows 0)) ++ d ∷ filter (λ (x : Database). is_gt (bytes_cmp x.name name)) (map (database_in rows) (rows 0)))
-          (same_database after rows new new_same)),
+          (map-append (database_by base after) lower (new ∷ higher)
+          ∙ ap₂ (λ (a b : List Database). a ++ database_by base after new ∷ b)
+          (map_same (database_by base after) (database_by base rows) lower (all_kept Same low (rows 0) same) ∙ sym (as_databases base rows name is_lt empty_dups))
+          (map_same (database_by base after) (database_by base rows) higher (all_kept Same high (rows 0) same) ∙ sym (as_databases base rows name is_gt empty_dups))
+          ∙ ap (λ (d : Database). filter (λ (x : Database). is_lt (bytes_cmp x.name name)) (map (database_by base rows) (rows 0)) ++ d ∷ filter (λ (x : Database). is_gt (bytes_cmp x.name name)) (map (database_by base rows) (rows 0)))
+          (same_database base after rows new new_same)),
     )
 
 -- ---- a database less
@@ -424,18 +459,18 @@ length-filter p (r ∷ rows) =
     cond_both (p r) (r ∷ filter p rows) (filter p rows) (λ (l : List Row). length l ≤ length (r ∷ rows)) (λ e. omega arith) (λ e. omega arith)
 
 -- a catalog record that is taken out is a database less
-pub row_deleted : (rows : Rows) (txn : ℕ) (name : List ℕ) → IsEnvironment rows →
+pub row_deleted : (base : List Row) (rows : Rows) (txn : ℕ) (name : List ℕ) → IsEnvironment rows →
     IsEnvironment (row_changed (catalog_change txn name None) rows)
-    × (store_of (row_changed (catalog_change txn name None) rows) ≡ record { databases = databases_without name (store_of rows).databases })
-row_deleted rows txn name env =
+    × (store_by base (row_changed (catalog_change txn name None) rows) ≡ record { databases = databases_without name (store_by base rows).databases })
+row_deleted base rows txn name env =
     let after : Rows = row_changed (catalog_change txn name None) rows in
     let other : Row → Bool = λ r. not (is_eq (name_cmp r.0 (plain_name name))) in
     let kept : AllByRecursion (λ (r : Row). after (catalog_number r.1) ≡ rows (catalog_number r.1)) (rows 0) =
     elsewhere txn name None rows (rows 0) (catalog_numbers (rows 0) env.catalog) in
     let Under : Row → Type 0 = λ r. is_right_under after r ≡ true in
-    let Same : Row → Type 0 = λ r. database_in after r ≡ database_in rows r in
+    let Same : Row → Type 0 = λ r. database_by base after r ≡ database_by base rows r in
     let same : AllByRecursion Same (rows 0) =
-    all_weaker (λ (r : Row). after (catalog_number r.1) ≡ rows (catalog_number r.1)) Same (λ r k. same_database after rows r k) (rows 0) kept in
+    all_weaker (λ (r : Row). after (catalog_number r.1) ≡ rows (catalog_number r.1)) Same (λ r k. same_database base after rows r k) (rows 0) kept in
     let make : List Database → Store = λ l. record { databases = l } in (
       record {
         catalog = all_kept (λ r. is_catalog_row r ≡ true) other (rows 0) env.catalog;
@@ -446,31 +481,32 @@ row_deleted rows txn name env =
         few = let fewer = length-filter other (rows 0) in let few = env.few in omega (arith, fewer, few);
       },
       ap make
-          (map_same (database_in after) (database_in rows) (filter other (rows 0)) (all_kept Same other (rows 0) same)
-          ∙ sym (as_databases rows name (λ o. not (is_eq o)) (catalog_plain (rows 0) env.catalog))),
+          (map_same (database_by base after) (database_by base rows) (filter other (rows 0)) (all_kept Same other (rows 0) same)
+          ∙ sym (as_databases base rows name (λ o. not (is_eq o)) (catalog_plain (rows 0) env.catalog))),
     )
 
 -- ---- a database under another number
 
 -- a catalog record that is replaced by one of the same kind, whose number has no records, is an emptied database
-pub row_emptied : (rows : Rows) (txn : ℕ) (name bytes : List ℕ) (row : Row) → IsEnvironment rows → IsRising (rows 0) → row_at (plain_name name) (rows 0) ≡ Some row →
-    catalog_kind bytes ≡ catalog_kind row.1 → catalog_number bytes ≢ 0 → rows (catalog_number bytes) ≡ [] →
-    store_of (row_changed (catalog_change txn name (Some bytes)) rows) ≡ record { databases = in_database name (λ d. with_pairs d []) (store_of rows).databases }
-row_emptied rows txn name bytes row env up there kind above none =
+pub row_emptied : (base : List Row) (rows : Rows) (txn : ℕ) (name bytes : List ℕ) (row : Row) → IsEnvironment rows → IsRising (rows 0) → row_at (plain_name name) (rows 0) ≡ Some row →
+    catalog_kind bytes ≡ catalog_kind row.1 → catalog_index bytes ≡ catalog_index row.1 → catalog_number bytes ≢ 0 → rows (catalog_number bytes) ≡ [] →
+    store_by base (row_changed (catalog_change txn name (Some bytes)) rows) ≡ record { databases = in_database name (λ d. with_pairs d []) (store_by base rows).databases }
+row_emptied base rows txn name bytes row env up there kind made above none =
     let c : RowChange = catalog_change txn name (Some bytes) in
     let after : Rows = row_changed c rows in
     let g : Row → Row = λ y. cond (is_eq (name_cmp y.0 (plain_name name))) (plain_name name, bytes) y in
     let cases = catalog_cases rows name row env up there in
     let key : row.0.key ≡ name = key_of_row (rows 0) name row env.catalog there in
     let empty : after (catalog_number bytes) ≡ [] = row_changed-there c rows (catalog_number bytes) above ∙ none in
-    let with_kind : List ℕ → Kind → List Row → Database = λ n k l. record { name = n; kind = k; index = None; pairs = map (pair_of k) l } in
-    let new_database : database_in after (plain_name name, bytes) ≡ with_pairs (database_in rows row) [] =
-    ap (with_kind name (catalog_kind bytes)) empty ∙ ap₂ (λ (n : List ℕ) (k : Kind). with_kind n k []) (sym key) kind in
+    let with_kind : List ℕ → Kind → Option (ℕ × Extract) → List Row → Database = λ n k m l. record { name = n; kind = k; index = index_in base m; pairs = map (pair_of k) l } in
+    let new_database : database_by base after (plain_name name, bytes) ≡ with_pairs (database_by base rows row) [] =
+    ap (with_kind name (catalog_kind bytes) (catalog_index bytes)) empty ∙ ap₂ (λ (n : List ℕ) (k : Kind). with_kind n k (catalog_index bytes) []) (sym key) kind
+    ∙ ap (λ (m : Option (ℕ × Extract)). with_kind row.0.key (catalog_kind row.1) m []) made in
     let make : List Database → Store = λ l. record { databases = l } in
     ap make
-    (ap (map (database_in after)) (replaced (rows 0) (plain_name name) bytes row up there)
-    ∙ map-map (database_in after) g (rows 0)
-    ∙ in_place rows after name row g (λ d. with_pairs d []) (rows 0) cases
-    (λ e. ap (database_in after) (cond-true (is_eq (name_cmp row.0 (plain_name name))) (plain_name name, bytes) row e) ∙ new_database)
-    (λ r e other h. ap (database_in after) (cond-false (is_eq (name_cmp r.0 (plain_name name))) (plain_name name, bytes) r e)
-    ∙ same_database after rows r (row_changed-there c rows (catalog_number r.1) other)))
+    (ap (map (database_by base after)) (replaced (rows 0) (plain_name name) bytes row up there)
+    ∙ map-map (database_by base after) g (rows 0)
+    ∙ in_place base rows after name row g (λ d. with_pairs d []) (rows 0) cases
+    (λ e. ap (database_by base after) (cond-true (is_eq (name_cmp row.0 (plain_name name))) (plain_name name, bytes) row e) ∙ new_database)
+    (λ r e other h. ap (database_by base after) (cond-false (is_eq (name_cmp r.0 (plain_name name))) (plain_name name, bytes) r e)
+    ∙ same_database base after rows r (row_changed-there c rows (catalog_number r.1) other)))

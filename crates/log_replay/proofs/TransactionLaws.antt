@@ -10,7 +10,9 @@ use Rattle.log_file.specs.Scan.{may_follow}
 use Rattle.log_entry.specs.declared.entry.Entry.TheVariants.{Commit}
 use Rattle.db_catalog.specs.declared.catalog_change.CatalogChange.{CatalogChange}
 use Rattle.db_catalog.specs.declared.catalog_change.CatalogChange.TheVariants.{Put as PutRecord, Delete as DeleteRecord}
-use Rattle.db_catalog.specs.Planning.{logged_as}
+use Rattle.db_catalog.specs.declared.db_record.DbRecord.{DbRecord}
+use Rattle.db_catalog.specs.Catalog.{IsKind, IsRecord}
+use Rattle.db_catalog.specs.Planning.{logged_as, index_in_catalog, renumbered}
 use Rattle.store_model.specs.declared.change.Change.{Change}
 use Rattle.store_model.specs.declared.change.Change.TheVariants.{Set, Unset, Make, MakeIndex, Remove, Rename, Empty}
 use Rattle.store_model.specs.declared.kind.Kind.{Kind}
@@ -25,11 +27,11 @@ use Rattle.log_replay.specs.Laws.{TransactionsAreKept, StoresAreChanged, Numbers
 use Rattle.log_replay.proofs.ListLaws.{all_of_map, all_to_map, filter-all, filter-none}
 use Rattle.je_order.proofs.Lists.{all_weaker, all_append}
 use Rattle.log_replay.proofs.RowLaws.{rising-nil}
-use Rattle.log_replay.proofs.StoreLaws.{row_changed-there, number_of_row, store_of-same, environment_parts, environment_from, rising-row_changed, database_of-numbered, database_of-absent}
+use Rattle.log_replay.proofs.StoreLaws.{row_changed-there, number_of_row, store_of-same, environment_parts, primaries_in, environment_from, rising-row_changed, database_of-numbered, database_of-absent}
 use Rattle.log_replay.proofs.WrongLaws.{environment_is_none}
 use Rattle.log_replay.proofs.LogLaws.{IsWithin, AreWithin, within-all_changed}
 use Rattle.log_replay.proofs.ReplayLaws.{replayed-append}
-use Rattle.log_replay.proofs.LoggedLaws.{IsSound, step, number-within, rename-is, empty-is, catalog_number-record}
+use Rattle.log_replay.proofs.LoggedLaws.{IsSound, step, number-within, record_for, record_fits, record_number, record_there, primary_record, fits-there, put_, rename-is, empty-is, index-is}
 
 -- ---- the transaction's number
 
@@ -114,6 +116,12 @@ pub record IsOwn (txn last_db : ℕ) (c : RowChange) : Type 0 where
   pub by : c.txn ≡ txn
   pub within : IsWithin txn last_db c
 
+put-own : (txn last_db : ℕ) (db : List ℕ) (r : DbRecord) → IsRecord r → r.number ≡ last_db + 1 → AllByRecursion (IsOwn txn (last_db + 1)) (put_ txn db r ∷ [])
+put-own txn last_db db r fits number = (
+  record { by = refl; within = record { txn = omega arith; db = omega arith; number = λ e. let is = record_number r fits in omega (arith, number, is) } },
+  tt,
+)
+
 own-changes : (txn last_db : ℕ) (change : Change) (rows : Rows) → IsSound rows last_db → MayBeLogged rows last_db change →
     AllByRecursion (IsOwn txn (last_db_after last_db change)) (row_changes txn last_db change rows)
 own-changes txn last_db (Set db at value) rows sound may = (
@@ -138,17 +146,17 @@ own-changes txn last_db (Unset db at) rows sound may = (
   },
   tt,
 )
-own-changes txn last_db (Make db kind) rows sound may = (
-  record {
-    by = refl;
-    within = record { txn = omega arith; db = omega arith; number = λ e. let is = catalog_number-record (last_db + 1) kind may.3 in omega (arith, is) };
-  },
-  tt,
-)
-own-changes txn last_db (MakeIndex db index) rows sound may = absurd may
+own-changes txn last_db (Make db kind) rows sound may =
+    put-own txn last_db db (record_for (last_db + 1) kind) (record_fits (last_db + 1) kind may.3) refl
+own-changes txn last_db (MakeIndex db index) rows sound may =
+    let p = primary_record (record_named rows index.primary) may.4 in
+    let r : DbRecord = record { number = last_db + 1; kind = index_in_catalog p.0.number index.extract } in
+    subst (λ (l : List RowChange). AllByRecursion (IsOwn txn (last_db + 1)) l) (sym (index-is txn last_db db index rows p.0 p.1))
+    (put-own txn last_db db r (may.3, subst (λ (n : ℕ). IsKind (index_in_catalog n index.extract)) (ap number_or_0 p.1) may.5) refl)
 own-changes txn last_db (Remove db) rows sound may = (record { by = refl; within = record { txn = omega arith; db = omega arith; number = λ e. tt } }, tt)
 own-changes txn last_db (Rename db to) rows sound may =
-    subst (λ (l : List RowChange). AllByRecursion (IsOwn txn (last_db + 0)) l) (sym (rename-is txn last_db db to rows may.0)) (
+    let r = record_there (record_named rows db) may.0 in
+    subst (λ (l : List RowChange). AllByRecursion (IsOwn txn (last_db + 0)) l) (sym (rename-is txn last_db db to rows r.0 r.1)) (
       record { by = refl; within = record { txn = omega arith; db = omega arith; number = λ e. tt } },
       (
         record {
@@ -156,20 +164,19 @@ own-changes txn last_db (Rename db to) rows sound may =
           within = record {
             txn = omega arith;
             db = omega arith;
-            number = λ e. let low = number-within rows last_db db sound may.0 in let is = catalog_number-record (number_named rows db) (kind_named rows db) may.3 in omega (arith, low, is);
+            number = λ e.
+                let low = number-within rows last_db db sound may.0 in
+                let same : number_named rows db ≡ r.0.number = ap number_or_0 r.1 in
+                let is = record_number r.0 (fits-there (record_named rows db) r.0 r.1 may.3) in omega (arith, low, same, is);
           };
         },
         tt,
       ),
     )
 own-changes txn last_db (Empty db) rows sound may =
-    subst (λ (l : List RowChange). AllByRecursion (IsOwn txn (last_db_after last_db (Empty db))) l) (sym (empty-is txn last_db db rows may.0)) (
-      record {
-        by = refl;
-        within = record { txn = omega arith; db = omega arith; number = λ e. let is = catalog_number-record (last_db + 1) (kind_named rows db) may.1 in omega (arith, is) };
-      },
-      tt,
-    )
+    let r = record_there (record_named rows db) may.0 in
+    subst (λ (l : List RowChange). AllByRecursion (IsOwn txn (last_db + 1)) l) (sym (empty-is txn last_db db rows r.0 r.1))
+    (put-own txn last_db db (renumbered (last_db + 1) r.0) (may.1, (fits-there (record_named rows db) r.0 r.1 may.2).1) refl)
 
 -- ---- several changes
 
@@ -191,6 +198,7 @@ sound-after txn last_db change rows sound may =
     }) in
     record {
       environment = (step txn last_db change rows sound may).environment;
+      primaries = (step txn last_db change rows sound may).primaries;
       rising = rising-changes (row_changes txn last_db change rows) rows sound.rising;
       unused = within.unused;
       numbers = within.numbers;
@@ -351,6 +359,7 @@ replayed-transaction last_txn last_db txn cs replay before later own =
 pub sound-kept : (entries : List Entry) (rows : Rows) (last_txn last_db : ℕ) → IsKept entries rows last_txn last_db → IsSound rows last_db
 sound-kept entries rows last_txn last_db kept = record {
   environment = environment_parts rows kept.environment;
+  primaries = primaries_in rows kept.environment;
   rising = kept.rising;
   unused = kept.unused;
   numbers = all_of_map number_of_row (λ n. n ≤ last_db) (rows 0) kept.numbers;
@@ -371,7 +380,7 @@ transactions_are_kept entries rows new_rows last_txn last_db txn changes kept ma
     record {
       same = λ db. ap (λ (r : Replay). r.rows db) replay ∙ ap (λ (r : Rows). rows_changed cs r db) (fun_ext kept.same)
           ∙ ap (λ (r : Rows). r db) (all_any txn last_db changes rows) ∙ sym (new db);
-      environment = environment_from new_rows sound_then.environment;
+      environment = environment_from new_rows sound_then.environment sound_then.primaries;
       rising = sound_then.rising;
       pending = subst (λ (l : List RowChange). AllByRecursion (IsOfBefore last_txn (last_db + made_by changes)) l) (sym (ap (λ (r : Replay). r.pending) replay))
           (all_weaker (IsOfBefore last_txn last_db) (IsOfBefore last_txn (last_db + made_by changes))

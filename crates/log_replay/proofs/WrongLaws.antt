@@ -2,7 +2,7 @@
 use Rattle.std.proofs.Common.{◌≡◌, ℕ, suc, ◌+◌, ◌<◌, ◌≤◌, List, [], ◌∷◌, ◌++◌, ◌==◌, ◌&&◌, ◌||◌, Bool, true, false, not, cond, refl, ap, sym, ◌∙◌, map, length, Option, Some, None, nat_le, nat_lt, arith, filter, option_map, ◌⊎◌, inl, inr}
 use Rattle.std.specs.Prelude.{find}
 use Rattle.std.proofs.lemmas.Bool.Decides.{nat_tests}
-use Rattle.std.proofs.lemmas.Bool.{cond-true, cond-false}
+use Rattle.std.proofs.lemmas.Bool.{cond-true, cond-false, and_parts, and_from}
 use Rattle.std.proofs.lemmas.Option.{none-some, same_Some}
 use Rattle.std.proofs.lemmas.List.Folds.{list_any-append}
 use Rattle.std.proofs.lemmas.List.{length-append}
@@ -12,7 +12,7 @@ use Rattle.store_model.specs.declared.store.TheConstants.{MOST_DATABASES}
 use Rattle.store_model.specs.declared.kind.Kind.{Kind}
 use Rattle.log_replay.specs.declared.place.Place.{Place}
 use Rattle.log_replay.specs.declared.numbered.Numbered.{Numbered}
-use Rattle.log_replay.specs.Rows.{Row, Rows, is_catalog_row, catalog_number, catalog_kind, are_distinct, is_right_row, are_right, rows_of_row, numbers_of, is_environment}
+use Rattle.log_replay.specs.Rows.{Row, Rows, is_catalog_row, catalog_number, catalog_kind, catalog_index, has_primary, are_distinct, is_right_row, are_right, rows_of_row, numbers_of, is_environment}
 use Rattle.log_replay.specs.Wrong.{or_else, is_right_behind, wrong_in_catalog, wrong_in, numbered_by, lesser, least, wrong_database, wrong_under, wrong_record}
 
 is_none : {A : Type 0} → Option A → Bool
@@ -80,8 +80,13 @@ all_parts_true true true false h = cc
 all_parts_true true false c h = cc
 all_parts_true false b c h = cc
 
+-- the same search, which does not look at primaries
+abbrev first_behind : List ℕ → List Row → Option Name
+first_behind before [] = None
+first_behind before (row ∷ rows) = cond (is_right_behind before row) (first_behind (before ++ catalog_number row.1 ∷ []) rows) (Some row.0)
+
 -- no record of a catalog is wrong exactly where the whole catalog is right
-catalog_none : (before : List ℕ) (rows : List Row) → length before ≤ MOST_DATABASES → is_none (wrong_in_catalog before rows) ≡ is_catalog_behind before rows
+catalog_none : (before : List ℕ) (rows : List Row) → length before ≤ MOST_DATABASES → is_none (first_behind before rows) ≡ is_catalog_behind before rows
 unfolding is_none
 catalog_none before [] few =
     let fits : nat_le (length before + 0) MOST_DATABASES ≡ true = grind (arith, nat_tests) in rw fits refl
@@ -89,16 +94,38 @@ catalog_none before (r ∷ rows) few =
     let n = catalog_number r.1 in
     let ns = map (λ (x : Row). catalog_number x.1) rows in
     let longer : length (before ++ n ∷ []) ≡ length before + 1 = length-append before (n ∷ []) in
-    let behind : nat_lt (length before) MOST_DATABASES ≡ true → is_none (wrong_in_catalog (before ++ n ∷ []) rows) ≡ is_catalog_behind (before ++ n ∷ []) rows =
+    let behind : nat_lt (length before) MOST_DATABASES ≡ true → is_none (first_behind (before ++ n ∷ []) rows) ≡ is_catalog_behind (before ++ n ∷ []) rows =
     λ room. catalog_none (before ++ n ∷ []) rows (let lt : length before < MOST_DATABASES = grind (arith, nat_tests) in omega (arith, longer, lt)) in
     let ends : nat_le (length (before ++ n ∷ []) + length rows) MOST_DATABASES ≡ nat_le (length before + suc (length rows)) MOST_DATABASES =
     ap (λ k. nat_le k MOST_DATABASES) (omega (arith, longer)) in
-    none_of (is_right_behind before r) (wrong_in_catalog (before ++ n ∷ []) rows) r.0
+    none_of (is_right_behind before r) (first_behind (before ++ n ∷ []) rows) r.0
     ∙ row_more (is_catalog_row r) (not (list_any (λ m. m == n) before)) (nat_lt (length before) MOST_DATABASES) (list_all is_catalog_row rows) (are_others before ns)
-    (not (list_any (λ m. m == n) ns)) (are_distinct ns) (nat_le (length before + suc (length rows)) MOST_DATABASES) (is_none (wrong_in_catalog (before ++ n ∷ []) rows))
+    (not (list_any (λ m. m == n) ns)) (are_distinct ns) (nat_le (length before + suc (length rows)) MOST_DATABASES) (is_none (first_behind (before ++ n ∷ []) rows))
     (λ right. behind (all_parts_true (is_catalog_row r) (not (list_any (λ m. m == n) before)) (nat_lt (length before) MOST_DATABASES) right).2
     ∙ rw (others_more before ns n, ends) refl)
     (λ full. grind (arith, nat_tests, full))
+
+-- and where each primary is there
+abbrev with_primary : List Row → Row → Bool
+with_primary catalog r = has_primary catalog (catalog_index r.1)
+
+primaries_none : (catalog : List Row) (before : List ℕ) (rows : List Row) →
+    is_none (wrong_in_catalog catalog before rows) ≡ (is_none (first_behind before rows) && list_all (with_primary catalog) rows)
+unfolding is_none
+primaries_none catalog before [] = refl
+primaries_none catalog before (r ∷ rows) =
+    by_tests (is_right_behind before r) (with_primary catalog r) (wrong_in_catalog catalog (before ++ catalog_number r.1 ∷ []) rows)
+    (first_behind (before ++ catalog_number r.1 ∷ []) rows) (list_all (with_primary catalog) rows) (primaries_none catalog (before ++ catalog_number r.1 ∷ []) rows)
+  where
+    either_no : (o : Option Name) (b : Bool) → false ≡ (is_none o && (false && b))
+    either_no None b = refl
+    either_no (Some name) b = refl
+
+    by_tests : (a p : Bool) (now old : Option Name) (all : Bool) → is_none now ≡ (is_none old && all) →
+        is_none (cond (a && p) now (Some r.0)) ≡ (is_none (cond a old (Some r.0)) && (p && all))
+    by_tests true true now old all same = same
+    by_tests true false now old all same = either_no old all
+    by_tests false p now old all same = refl
 
 -- ---- the databases
 
@@ -189,28 +216,41 @@ four_of true true false d h = cc
 four_of true false c d h = cc
 four_of false b c d h = cc
 
+-- the tests of an environment
+abbrev four_tests : Rows → Bool
+four_tests rows =
+    list_all is_catalog_row (rows 0) && are_distinct (numbers_of rows) && list_all (λ (r : Row). are_right (catalog_kind r.1) (rows_of_row rows r)) (rows 0)
+    && nat_le (length (rows 0)) MOST_DATABASES
+
 -- where no record is wrong, the records are those of an environment
 pub none_is_environment : (rows : Rows) → wrong_record rows ≡ None → is_environment rows ≡ true
 unfolding is_none
 none_is_environment rows h =
-    let both = neither (option_map (λ (name : Name). let p : Place = record { db = 0; name = name } in p) (wrong_in_catalog [] (rows 0))) (wrong_under rows (wrong_database rows)) h in
-    let none : wrong_in_catalog [] (rows 0) ≡ None = mapped_none (λ (name : Name). let p : Place = record { db = 0; name = name } in p) (wrong_in_catalog [] (rows 0)) both.0 in
-    let catalog : is_catalog_behind [] (rows 0) ≡ true = sym (catalog_none [] (rows 0) (omega arith)) ∙ ap is_none none in
+    let both = neither (option_map (λ (name : Name). let p : Place = record { db = 0; name = name } in p) (wrong_in_catalog (rows 0) [] (rows 0))) (wrong_under rows (wrong_database rows)) h in
+    let none : wrong_in_catalog (rows 0) [] (rows 0) ≡ None = mapped_none (λ (name : Name). let p : Place = record { db = 0; name = name } in p) (wrong_in_catalog (rows 0) [] (rows 0)) both.0 in
+    let two = and_parts (is_none (first_behind [] (rows 0))) (list_all (with_primary (rows 0)) (rows 0)) (sym (primaries_none (rows 0) [] (rows 0)) ∙ ap is_none none) in
+    let catalog : is_catalog_behind [] (rows 0) ≡ true = sym (catalog_none [] (rows 0) (omega arith)) ∙ two.0 in
     let parts = four_of (list_all is_catalog_row (rows 0)) (are_others [] (numbers_of rows)) (are_distinct (numbers_of rows)) (nat_le (0 + length (rows 0)) MOST_DATABASES) catalog in
     let few : nat_le (length (rows 0)) MOST_DATABASES ≡ true = ap (λ n. nat_le n MOST_DATABASES) (omega arith) ∙ parts.3 in
-    of_four (list_all is_catalog_row (rows 0)) (are_distinct (numbers_of rows)) (list_all (λ (r : Row). are_right (catalog_kind r.1) (rows_of_row rows r)) (rows 0)) (nat_le (length (rows 0)) MOST_DATABASES)
-    parts.0 parts.2 (sym (all_numbered (is_right_database rows) (rows 0)) ∙ under_none rows (wrong_database rows) refl both.1) few
+    and_from (four_tests rows) (list_all (with_primary (rows 0)) (rows 0))
+    (of_four (list_all is_catalog_row (rows 0)) (are_distinct (numbers_of rows)) (list_all (λ (r : Row). are_right (catalog_kind r.1) (rows_of_row rows r)) (rows 0)) (nat_le (length (rows 0)) MOST_DATABASES)
+    parts.0 parts.2 (sym (all_numbered (is_right_database rows) (rows 0)) ∙ under_none rows (wrong_database rows) refl both.1) few)
+    two.1
 
 -- and the other way round
 pub environment_is_none : (rows : Rows) → is_environment rows ≡ true → wrong_record rows ≡ None
 unfolding is_none
 environment_is_none rows h =
-    let parts = four_of (list_all is_catalog_row (rows 0)) (are_distinct (numbers_of rows)) (list_all (λ (r : Row). are_right (catalog_kind r.1) (rows_of_row rows r)) (rows 0)) (nat_le (length (rows 0)) MOST_DATABASES) h in
+    let two = and_parts (four_tests rows) (list_all (with_primary (rows 0)) (rows 0)) h in
+    let parts = four_of (list_all is_catalog_row (rows 0)) (are_distinct (numbers_of rows)) (list_all (λ (r : Row). are_right (catalog_kind r.1) (rows_of_row rows r)) (rows 0)) (nat_le (length (rows 0)) MOST_DATABASES) two.0 in
     let few : nat_le (0 + length (rows 0)) MOST_DATABASES ≡ true = ap (λ n. nat_le n MOST_DATABASES) (omega arith) ∙ parts.3 in
     let catalog : is_catalog_behind [] (rows 0) ≡ true =
     of_four (list_all is_catalog_row (rows 0)) (are_others [] (numbers_of rows)) (are_distinct (numbers_of rows)) (nat_le (0 + length (rows 0)) MOST_DATABASES)
     parts.0 (no_others (numbers_of rows)) parts.1 few in
-    let none : wrong_in_catalog [] (rows 0) ≡ None = none_is (wrong_in_catalog [] (rows 0)) (catalog_none [] (rows 0) (omega arith) ∙ catalog) in
+    let none : wrong_in_catalog (rows 0) [] (rows 0) ≡ None =
+    none_is (wrong_in_catalog (rows 0) [] (rows 0))
+    (primaries_none (rows 0) [] (rows 0)
+    ∙ and_from (is_none (first_behind [] (rows 0))) (list_all (with_primary (rows 0)) (rows 0)) (catalog_none [] (rows 0) (omega arith) ∙ catalog) two.1) in
     let databases : wrong_database rows ≡ None = least_of_none (is_right_database rows) (map numbered_by (rows 0)) (all_numbered (is_right_database rows) (rows 0) ∙ parts.2) in
     rw (none, databases) refl
 
@@ -218,7 +258,7 @@ environment_is_none rows h =
 pub none_is_catalog : (rows : Rows) → wrong_record rows ≡ None → list_all is_catalog_row (rows 0) ≡ true
 none_is_catalog rows h =
     (four_of (list_all is_catalog_row (rows 0)) (are_distinct (numbers_of rows)) (list_all (λ (r : Row). are_right (catalog_kind r.1) (rows_of_row rows r)) (rows 0)) (nat_le (length (rows 0)) MOST_DATABASES)
-    (none_is_environment rows h)).0
+    (and_parts (four_tests rows) (list_all (with_primary (rows 0)) (rows 0)) (none_is_environment rows h)).0).0
 
 -- ---- the search for the least
 

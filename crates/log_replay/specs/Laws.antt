@@ -13,9 +13,9 @@ use Rattle.store_model.specs.declared.change.Change.TheVariants.{Set, Unset, Mak
 use Rattle.store_model.specs.declared.store.Store.{Store}
 use Rattle.store_model.specs.Store.{database_of, record_count, changed, all_changed}
 use Rattle.store_model.specs.Refusals.{made_by}
-use Rattle.log_replay.specs.Rows.{Rows, RowChange, rows_changed, data_at, pair_of, is_environment, store_of}
+use Rattle.log_replay.specs.Rows.{Rows, RowChange, rows_changed, data_at, pair_of, is_environment, IsRising, store_of}
 use Rattle.log_replay.specs.Wrong.{wrong_record}
-use Rattle.log_replay.specs.Logging.{number_named, kind_named, record_named, row_changes, all_row_changes, row_entry, transaction_entries, entries_with, entries_of, number_for}
+use Rattle.log_replay.specs.Logging.{number_named, kind_named, record_named, index_named, row_changes, all_row_changes, row_entry, transaction_entries, entries_with, entries_of, number_for}
 use Rattle.log_replay.specs.Kept.{IsKept, IsRecordChange, MayBeLogged, AllMayBeLogged, all_numbered}
 use Rattle.log_replay.specs.Reading.{gap_in, validated, reading_of}
 
@@ -86,11 +86,11 @@ abbrev pub DatabasesByNumber : Type 0
 DatabasesByNumber = (rows : Rows) (name : List ℕ) → is_environment rows ≡ true
     → (number_named rows name ≡ 0 → database_of name (store_of rows) ≡ None)
     × (number_named rows name ≢ 0
-    → database_of name (store_of rows) ≡ Some (record { name = name; kind = kind_named rows name; index = None; pairs = map (pair_of (kind_named rows name)) (rows (number_named rows name)) }))
+    → database_of name (store_of rows) ≡ Some (record { name = name; kind = kind_named rows name; index = index_named rows name; pairs = map (pair_of (kind_named rows name)) (rows (number_named rows name)) }))
 
 -- the catalog has a record for each of the store's databases, of its kind, and no other; what it tells of one is its number and kind
 abbrev pub CatalogsAreOfStores : Type 0
-CatalogsAreOfStores = (rows : Rows) → is_environment rows ≡ true → IsCatalogOf (store_of rows) (record_named rows)
+CatalogsAreOfStores = (rows : Rows) → is_environment rows ≡ true → IsRising (rows 0) → IsCatalogOf (store_of rows) (record_named rows)
 
 abbrev pub FoundByNumber : Type 0
 FoundByNumber = (rows : Rows) (name : List ℕ) → number_named rows name ≢ 0

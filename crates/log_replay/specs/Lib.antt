@@ -4,6 +4,7 @@ pub mod Meaning
 pub mod Logging
 pub mod Kept
 pub mod Wrong
+pub mod Indexed
 pub mod Reading
 pub mod UnderWay
 pub mod Laws

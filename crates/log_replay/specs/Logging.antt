@@ -10,10 +10,11 @@ use Rattle.db_catalog.specs.Catalog.{record_bytes, db_record_in}
 use Rattle.db_catalog.specs.Planning.{logged_as}
 use Rattle.store_model.specs.declared.change.Change.{Change}
 use Rattle.store_model.specs.declared.change.Change.TheVariants.{Set, Unset, Make, MakeIndex, Remove, Rename, Empty}
+use Rattle.store_model.specs.declared.index.Index.{Index}
 use Rattle.store_model.specs.declared.kind.Kind.{Kind}
 use Rattle.store_model.specs.Evaluation.{plain_name}
 use Rattle.store_model.specs.Refusals.{made_by}
-use Rattle.log_replay.specs.Rows.{Rows, RowChange, rows_changed, data_at, number_or_0, kind_or_plain}
+use Rattle.log_replay.specs.Rows.{Rows, RowChange, rows_changed, data_at, number_or_0, kind_or_plain, index_or_none, index_in}
 
 -- ---- what the catalog has for a name
 
@@ -32,6 +33,10 @@ number_named rows name = number_or_0 (record_named rows name)
 -- its kind, where there is one
 abbrev pub kind_named : Rows → List ℕ → Kind
 kind_named rows name = kind_or_plain (record_named rows name)
+
+-- what it is an index of, if it is one
+abbrev pub index_named : Rows → List ℕ → Option Index
+index_named rows name = index_in (rows 0) (index_or_none (record_named rows name))
 
 -- ---- changes of records
 

@@ -7,7 +7,7 @@ use Rattle.store_model.specs.declared.store.TheConstants.{MOST_DATABASES}
 use Rattle.store_model.specs.declared.kind.Kind.{Kind}
 use Rattle.log_replay.specs.declared.place.Place.{Place}
 use Rattle.log_replay.specs.declared.numbered.Numbered.{Numbered}
-use Rattle.log_replay.specs.Rows.{Row, Rows, catalog_number, catalog_kind, is_catalog_row, is_right_row, are_right}
+use Rattle.log_replay.specs.Rows.{Row, Rows, catalog_number, catalog_kind, catalog_index, has_primary, is_catalog_row, is_right_row, are_right}
 
 -- the first of two that is there
 abbrev pub or_else : {A : Type 0} → Option A → Option A → Option A
@@ -20,11 +20,12 @@ abbrev pub is_right_behind : List ℕ → Row → Bool
 is_right_behind before row =
     is_catalog_row row && not (list_any (λ n. n == catalog_number row.1) before) && nat_lt (length before) MOST_DATABASES
 
--- the name of the first record of a catalog that is wrong, where records of these numbers stand before it
-abbrev pub wrong_in_catalog : List ℕ → List Row → Option Name
-wrong_in_catalog before [] = None
-wrong_in_catalog before (row ∷ rows) =
-    if is_right_behind before row then wrong_in_catalog (before ++ catalog_number row.1 ∷ []) rows else Some row.0
+-- the name of the first record of a catalog that is wrong, where records of these numbers stand before it; the primary of an index stands anywhere in
+-- the catalog
+abbrev pub wrong_in_catalog : List Row → List ℕ → List Row → Option Name
+wrong_in_catalog catalog before [] = None
+wrong_in_catalog catalog before (row ∷ rows) =
+    if is_right_behind before row && has_primary catalog (catalog_index row.1) then wrong_in_catalog catalog (before ++ catalog_number row.1 ∷ []) rows else Some row.0
 
 -- the name of the first record that is wrong in a database of a kind
 abbrev pub wrong_in : Kind → List Row → Option Name
@@ -55,4 +56,4 @@ wrong_under rows (Some d) = option_map (λ name. record { db = d.number; name = 
 -- the place of the first record that is wrong
 abbrev pub wrong_record : Rows → Option Place
 wrong_record rows =
-    or_else (option_map (λ name. record { db = 0; name = name }) (wrong_in_catalog [] (rows 0))) (wrong_under rows (wrong_database rows))
+    or_else (option_map (λ name. record { db = 0; name = name }) (wrong_in_catalog (rows 0) [] (rows 0))) (wrong_under rows (wrong_database rows))

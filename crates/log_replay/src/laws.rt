@@ -1,4 +1,5 @@
 // What holds of all logs.
+ghost use Rattle.log_replay.specs.Indexed.{IndexesAreJudged};
 ghost use Rattle.log_replay.specs.Laws.{AreReadAgain, TransactionsAreKept, StoresAreChanged, NumbersAreChanged, CountsAreChanged, KeptIsRight, KeptForLater, DatabasesByNumber, CatalogsAreOfStores, FoundByNumber, ChangedByAnyTransaction, LoggedAsEntries, RecordsMayBeLogged, RecordsAreLogged, EntriesFollow, SizesOfAnyNumbers};
 
 /// A log whose files are there whole, with no gap between their numbers, is read again.
@@ -22,6 +23,11 @@ pub fn kept_is_right()
     ensures databases { DatabasesByNumber }
     ensures catalog { CatalogsAreOfStores }
     ensures found { FoundByNumber }
+{}
+
+/// No index is wrong exactly where each has the pairs of its primary's records.
+pub fn indexes_are_judged()
+    ensures { IndexesAreJudged }
 {}
 
 /// A change is logged by its changes of records, which do the same by any transaction.

@@ -14,5 +14,7 @@ mod place;
 
 pub use corruption::Corruption;
 pub use last_file::LastFile;
-pub use laws::{changes_are_logged, kept_is_right, logs_are_read, transactions_are_kept};
-pub use numbers::{kind_of, number_of};
+pub use laws::{
+    changes_are_logged, indexes_are_judged, kept_is_right, logs_are_read, transactions_are_kept,
+};
+pub use numbers::{index_of, is_plain, kind_of, number_of};

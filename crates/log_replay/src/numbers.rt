@@ -1,47 +1,50 @@
-// The numbers and the kinds of databases.
+// The numbers and the kinds of databases, and what indexes are made of.
 ghost use Rattle.std.specs.Prelude.{◌≡◌};
-ghost use Rattle.log_replay.specs.Rows.{catalog_number, catalog_kind, database_number as number_in_record, database_kind as kind_in_record};
+ghost use Rattle.db_catalog.specs.Catalog.{db_record_in};
+ghost use Rattle.db_catalog.specs.Planning.{is_primary_record};
+ghost use Rattle.log_replay.specs.Rows.{catalog_number, catalog_kind, catalog_index};
 
-use db_catalog::{DbKind, DbRecord};
-use store_model::Kind;
+use db_catalog::{DbKind, DbRecord, index_of as index_in_record, kind_of as kind_in_record};
+use store_model::{Extract, Kind};
 
-// The number of a database that keeps records of its own, 0 for an index.
-fn database_number(kind: DbKind, number: u32) -> u32
-    ensures { result ≡ number_in_record kind number }
-{
-    match kind {
-        DbKind::Plain | DbKind::Dup => number,
-        DbKind::SliceIndex { .. } | DbKind::FieldIndex { .. } => 0,
-    }
-}
-
-// How such a database keeps its records.
-fn database_kind(kind: DbKind) -> Kind
-    ensures { result ≡ kind_in_record kind }
-{
-    match kind {
-        DbKind::Dup => Kind::Dup,
-        DbKind::Plain | DbKind::SliceIndex { .. } | DbKind::FieldIndex { .. } => Kind::Plain,
-    }
-}
-
-/// The number in the catalog record of a database of either kind, and 0, which is no database's, where
-/// the data is no such record.
+/// The number in the catalog record of a database, and 0, which is no database's, where the data is no
+/// such record.
 pub fn number_of(bytes: &[u8]) -> u32
     ensures { result ≡ catalog_number bytes.now }
 {
     match DbRecord::from_bytes(bytes) {
-        Some(found) => database_number(found.kind, found.number),
+        Some(found) => found.number,
         None => 0,
     }
 }
 
-/// The kind in such a record, and `Plain` where the data is none.
+/// The kind in such a record, which is `Dup` for an index, and `Plain` where the data is none.
 pub fn kind_of(bytes: &[u8]) -> Kind
     ensures { result ≡ catalog_kind bytes.now }
 {
     match DbRecord::from_bytes(bytes) {
-        Some(found) => database_kind(found.kind),
+        Some(found) => kind_in_record(&found.kind),
         None => Kind::Plain,
+    }
+}
+
+/// Whether an index may be of such a record's database: it is a plain one.
+pub fn is_plain(bytes: &[u8]) -> bool
+    ensures { result ≡ is_primary_record (db_record_in bytes.now) }
+{
+    match DbRecord::from_bytes(bytes) {
+        Some(found) => matches!(found.kind, DbKind::Plain),
+        None => false,
+    }
+}
+
+/// What such a record makes an index of: the number of its primary and the key; None where the data is
+/// no index's record.
+pub fn index_of(bytes: &[u8]) -> Option<(u32, Extract)>
+    ensures { result ≡ catalog_index bytes.now }
+{
+    match DbRecord::from_bytes(bytes) {
+        Some(found) => index_in_record(&found.kind),
+        None => None,
     }
 }

@@ -30,6 +30,8 @@ mod folder;
 #[cfg(test)]
 mod images;
 #[cfg(test)]
+mod indexed;
+#[cfg(test)]
 mod keys;
 #[cfg(test)]
 mod manager;

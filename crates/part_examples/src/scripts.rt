@@ -3,7 +3,7 @@ use crate::rows::first_wrong;
 use je_order::{Octets, Word};
 use script_text::{ParseErr, parse};
 use std::alloc::{AllocError, Global};
-use store_model::{Call, Durability, Isolation, Kind, PutMode, ScriptLine, Step};
+use store_model::{Call, Durability, Extract, Index, Isolation, Kind, PutMode, ScriptLine, Step};
 
 // A call on the database t, at a line of the script below.
 fn catalog_call(alloc: Global, line: u32) -> Result<Call, AllocError> {
@@ -106,12 +106,45 @@ fn txn_call(line: u32) -> Call {
     }
 }
 
+// Indexes of that database: by the last slice that is one, and by the last field.
+fn index_by_slice(primary: Word) -> Index {
+    Index {
+        primary,
+        extract: Extract::ByteSlice {
+            offset: 65_535,
+            length: 4_096,
+        },
+    }
+}
+
+fn index_by_field(primary: Word) -> Index {
+    Index {
+        primary,
+        extract: Extract::Field {
+            number: 4_294_967_295,
+            separator: 0x2c,
+        },
+    }
+}
+
+// A call that makes one of them.
+fn index_call(alloc: Global, line: u32) -> Result<Call, AllocError> {
+    let db = Word::from_slice(alloc, b"u")?;
+    let primary = Word::from_slice(alloc, b"t")?;
+    let index = match line {
+        23 => index_by_slice(primary),
+        _ => index_by_field(primary),
+    };
+    Ok(Call::CreateIndex { db, index })
+}
+
 // The calls of the script below, which starts with line 3.
 fn call_at(alloc: Global, line: u32) -> Result<Call, AllocError> {
     match line {
         3 | 9 | 10 | 11 | 19 => catalog_call(alloc, line),
         12 => Ok(Call::List),
         13..=18 => Ok(txn_call(line)),
+        23 | 24 => index_call(alloc, line),
         _ => record_call(alloc, line),
     }
 }
@@ -128,7 +161,7 @@ fn is_given(alloc: Global, given: &ScriptLine, session: u8, line: u32) -> Result
 }
 
 // The lines that have a call, and the session of each.
-static LINES: [(u8, u32); 20] = [
+static LINES: [(u8, u32); 22] = [
     (1, 3),
     (64, 4),
     (9, 5),
@@ -149,6 +182,8 @@ static LINES: [(u8, u32); 20] = [
     (14, 20),
     (15, 21),
     (16, 22),
+    (17, 23),
+    (18, 24),
 ];
 
 // Whether those are the calls.
@@ -163,7 +198,7 @@ fn are_given(alloc: Global, lines: &[ScriptLine]) -> Result<bool, AllocError> {
 // Each form, in a script with a comment, an empty line and no feed at its end.
 fn reads_forms(alloc: Global) -> Result<bool, ParseErr> {
     let text =
-        b"# a test\n\ns1 create t plain\ns64 put t 00fF -\ns9 get t 0a\ns10 get t - rmw\ns2 delete t aB\ns2 putno t ab -\ns3 remove t\ns4 truncate t\ns5 rename t u\ns6 list\ns7 begin ru sync wait\ns8 begin rc wsync nowait\ns9 begin rr nosync wait\ns10 begin ser sync nowait\ns11 commit\ns12 abort\ns13 create t dup\ns14 putnodup t ab -\ns15 getboth t ab -\ns16 getboth t ab - rmw";
+        b"# a test\n\ns1 create t plain\ns64 put t 00fF -\ns9 get t 0a\ns10 get t - rmw\ns2 delete t aB\ns2 putno t ab -\ns3 remove t\ns4 truncate t\ns5 rename t u\ns6 list\ns7 begin ru sync wait\ns8 begin rc wsync nowait\ns9 begin rr nosync wait\ns10 begin ser sync nowait\ns11 commit\ns12 abort\ns13 create t dup\ns14 putnodup t ab -\ns15 getboth t ab -\ns16 getboth t ab - rmw\ns17 create u index t slice 65535 4096\ns18 create u index t field 4294967295 2C";
     let plan = parse(alloc, text)?;
     let same = are_given(alloc, plan.lines.as_slice());
     drop(plan);
@@ -210,7 +245,7 @@ fn reads_each_step(rt: HostRuntime) {
 }
 
 // Scripts with a bad line, and the number of the first one.
-static BAD: [(&[u8], u32); 45] = [
+static BAD: [(&[u8], u32); 67] = [
     (b" ", 1),
     (b"\n\ns1 lists", 3),
     (b"s1 list t", 1),
@@ -256,6 +291,28 @@ static BAD: [(&[u8], u32); 45] = [
     (b"m commit", 1),
     (b"M begin", 1),
     (b"m begin\ns1 flush", 2),
+    (b"s1 create u index", 1),
+    (b"s1 create u index t", 1),
+    (b"s1 create u index t slice", 1),
+    (b"s1 create u index t slice 0", 1),
+    (b"s1 create u index t slice 0 1 2", 1),
+    (b"s1 create u index t slice 0 0", 1),
+    (b"s1 create u index t slice 0 4097", 1),
+    (b"s1 create u index t slice 65536 1", 1),
+    (b"s1 create u index t slice 01 1", 1),
+    (b"s1 create u index t slice 0 01", 1),
+    (b"s1 create u index t slice 0 +1", 1),
+    (b"s1 create u index t slice 4294967296 1", 1),
+    (b"s1 create u index t field", 1),
+    (b"s1 create u index t field 0", 1),
+    (b"s1 create u index t field 0 2c 2c", 1),
+    (b"s1 create u index t field 4294967296 2c", 1),
+    (b"s1 create u index t field 00 2c", 1),
+    (b"s1 create u index t field 0 2", 1),
+    (b"s1 create u index t field 0 -", 1),
+    (b"s1 create u index t field 0 2c2c", 1),
+    (b"s1 create u index t fields 2c", 1),
+    (b"s1 create u index T slice 0 1", 1),
 ];
 
 // The first bad line, and what makes it bad.

@@ -5,9 +5,9 @@ ghost use Rattle.je_order.specs.declared.name.Name.{Name as Named};
 ghost use Rattle.log_entry.specs.declared.entry.Entry.{Entry};
 ghost use Rattle.record_map.specs.Cells.{IsRising, value_at};
 ghost use Rattle.record_tree.specs.LoadedNodes.{AllNodes, node_read, HasPutNode, AreNodesStill, IsLoggedAt};
-ghost use Rattle.record_tree.specs.Stored.{AllStored, stored_at, HasStored, AreStoredStill};
+ghost use Rattle.record_tree.specs.Stored.{AllStored, stored_at, HasStored, AreStoredStill, lent, values_of};
 
-use crate::{LoadErr, StoredRecord};
+use crate::{LoadErr, RecordRef, StoredRecord};
 use je_lsn::Lsn;
 use je_order::{Name, Octets};
 use node_core::Node;
@@ -122,6 +122,11 @@ pub trait Loads {
     /// Copies of the records of the database, in order.
     fn records(&self, alloc: Global, db: u32) -> Result<Vec<StoredRecord>, AllocError>
         ensures records { IfOk result (λ records. records.items ≡ stored self.now db) }
+        ensures rising { (d : ℕ) → IsRising (stored self.now d) };
+
+    /// The records of the database, in order, where they lie.
+    fn lend_records(&self, alloc: Global, db: u32) -> Result<Vec<RecordRef<'_>>, AllocError>
+        ensures records { IfOk result (λ records. lent records.items ≡ values_of (stored self.now db)) }
         ensures rising { (d : ℕ) → IsRising (stored self.now d) };
 
     /// The name of the first record whose dup is not empty, if there is one.

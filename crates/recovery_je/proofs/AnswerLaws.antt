@@ -1,5 +1,5 @@
 -- What reading the files of an environment answers.
-use Rattle.std.proofs.Common.{◌≡◌, ◌≤◌, ◌+◌, ℕ, Bool, true, List, [], ◌∷◌, Option, None, Result, Ok, Err, map, length, refl, sym, ap, ap₂, subst, arith, ◌∙◌, ◌<◌, ◌^◌}
+use Rattle.std.proofs.Common.{◌≡◌, ◌≤◌, ◌+◌, ℕ, Bool, true, List, [], ◌∷◌, Option, None, Some, Result, Ok, Err, map, length, refl, sym, ap, ap₂, subst, arith, ◌∙◌, ◌<◌, ◌^◌}
 use Rattle.std.specs.Prelude.{IsErrAnd, IfOk, IfErr, OnOk}
 use Rattle.std.proofs.lemmas.List.{append-nil}
 use Rattle.std.specs.List.{AllByRecursion}
@@ -37,10 +37,13 @@ use Rattle.record_tree.specs.Stored.{AllStored}
 use Rattle.recovery_je.specs.declared.read_err.ReadErr.{ReadErr}
 use Rattle.recovery_je.specs.declared.read_err.ReadErr.TheVariants.{Memory as ReadMemory, Found}
 use Rattle.recovery_je.specs.declared.recover_err.RecoverErr.{RecoverErr}
-use Rattle.recovery_je.specs.declared.recover_err.RecoverErr.TheVariants.{Disk, Memory, Corrupt}
+use Rattle.recovery_je.specs.declared.recover_err.RecoverErr.TheVariants.{Disk, Memory, Corrupt, WrongIndex}
 use Rattle.recovery_je.specs.Files.{IsReading, AreRead, AreSound}
 use Rattle.recovery_je.specs.Recovering.{HasTrees, IsMeant, IsFoundBy}
-use Rattle.recovery_je.specs.Answer.{read_error, IsCorruptBy, HasCauseOf, IsReadingOf, HasFiles, IsRecoveredFrom}
+use Rattle.store_model.specs.declared.store.Store.{Store}
+use Rattle.log_replay.specs.Indexed.{wrong_index}
+use Rattle.recovery_je.specs.Indexing.{IsIndexCheck}
+use Rattle.recovery_je.specs.Answer.{read_error, IsCorruptBy, IsFirstWrong, IsIndexBy, IsNoDiskErr, HasCauseOf, IsReadingOf, HasFiles, HasWrongIndex, IsRecoveredFrom}
 
 -- ---- entries of files that were read
 
@@ -108,9 +111,9 @@ by_entries observable reads files es tail all =
     ∙ ap₂ meaning_in are_of.numbers (sym all.entries_are)
 
 pub recovered : (observable : Bool) (reads : Files) (files : List FileNo) (es : List Placed) (tail : Option LastFile) (meaning : Meaning) (has : ℕ → Bool) (stored : AllStored) (databases records entries : ℕ) (fits : List Placed → Type 0) →
-    AreRisingNumbers files → IsReading observable reads files [] es tail → entries ≡ length es → IsMeant (map (λ f. f.0) files) es meaning has stored databases records → fits es →
+    AreRisingNumbers files → IsReading observable reads files [] es tail → entries ≡ length es → IsMeant (map (λ f. f.0) files) es meaning has stored databases records → fits es → IsIndexCheck meaning.store None →
     IsReadingOf observable reads files (IsRecoveredFrom meaning has stored databases records entries tail fits)
-recovered observable reads files es tail meaning has stored databases records entries fits rising all count meant fit =
+recovered observable reads files es tail meaning has stored databases records entries fits rising all count meant fit indexed =
     let c = last_checkpoint es in
     let each : AllByRecursion (λ (p : Placed). IsEntry p.1) es = subst (AllByRecursion (λ (p : Placed). IsEntry p.1)) (sym all.entries_are) (all_entries all.held all.bytes) in
     let right = read_trees_are_right (map (λ f. f.0) files) es c.at c.roots meant.walk each meant.walked in
@@ -126,6 +129,18 @@ recovered observable reads files es tail meaning has stored databases records en
       entries_are = count ∙ ap (λ (l : List Placed). length l) all.entries_are;
       tail_is = all.last;
       fit = subst fits all.entries_are fit;
+      indexed = indexed;
+    })
+
+-- and a wrong index of it
+pub wrong : (observable : Bool) (reads : Files) (files : List FileNo) (es : List Placed) (tail : Option LastFile) (meaning : Meaning) (has : ℕ → Bool) (stored : AllStored) (databases records : ℕ) (name : List ℕ) →
+    AreRisingNumbers files → IsReading observable reads files [] es tail → IsMeant (map (λ f. f.0) files) es meaning has stored databases records → Some name ≡ wrong_index meaning.store →
+    IsReadingOf observable reads files (HasWrongIndex name)
+wrong observable reads files es tail meaning has stored databases records name rising all meant is =
+    all_read observable reads files es tail (HasWrongIndex name) rising all (record {
+      meaning = meaning;
+      reads = by_entries observable reads files es tail all ∙ meant.meaning_is;
+      wrong = sym is;
     })
 
 pub corrupt : (observable : Bool) (reads : Files) (files : List FileNo) (es : List Placed) (tail : Option LastFile) (corruption : Corruption) → AreRisingNumbers files →
@@ -166,6 +181,36 @@ corrupt_weaker P Q (Err e) weaker holds = by_error e holds
     by_error Disk h = tt
     by_error Memory h = tt
     by_error (Corrupt c) h = weaker c h
+    by_error (WrongIndex name) h = tt
+
+pub index_weaker : {T : Type 0} (P Q : List ℕ → Type 0) (r : Result T RecoverErr) → ((name : List ℕ) → P name → Q name) → IfErr r (λ e. IsIndexBy e P) → IfErr r (λ e. IsIndexBy e Q)
+index_weaker P Q (Ok x) weaker holds = tt
+index_weaker P Q (Err e) weaker holds = by_error e holds
+  where
+    by_error : (y : RecoverErr) → IsIndexBy y P → IsIndexBy y Q
+    by_error Disk h = tt
+    by_error Memory h = tt
+    by_error (Corrupt c) h = tt
+    by_error (WrongIndex name) h = weaker name h
+
+-- an error of reading tells no index
+pub no_index : {T : Type 0} (P : List ℕ → Type 0) (r : Result T RecoverErr) (e : ReadErr) → IsErrAnd r (λ x. x ≡ read_error e) → IfErr r (λ x. IsIndexBy x P)
+no_index P (Ok v) e is = absurd is
+no_index P (Err x) e is = subst (λ (y : RecoverErr). IsIndexBy y P) (sym is) (by_error e)
+  where
+    by_error : (y : ReadErr) → IsIndexBy (read_error y) P
+    by_error ReadMemory = tt
+    by_error (Found c) = tt
+
+-- and one that tells a wrong index tells no corruption, and is not the disk's
+pub wrong_alone : {T : Type 0} (first : Option (List ℕ)) (P : Corruption → Type 0) (Q : List ℕ → Type 0) (r : Result T RecoverErr) → IfErr r (λ e. IsFirstWrong first e) →
+    ((name : List ℕ) → first ≡ Some name → Q name) → IfErr r (λ e. IsCorruptBy e P) × IfErr r (λ e. IsIndexBy e Q) × IfErr r IsNoDiskErr
+wrong_alone first P Q (Ok x) is holds = (tt, tt, tt)
+wrong_alone first P Q (Err e) is holds = (
+  subst (λ (y : RecoverErr). IsCorruptBy y P) (sym is.1) tt,
+  subst (λ (y : RecoverErr). IsIndexBy y Q) (sym is.1) (holds is.0 is.2),
+  subst IsNoDiskErr (sym is.1) tt,
+)
 
 pub on_ok_to : {T E : Type 0} {P Q : Type 0} (r : Result T E) → (P → Q) → P → OnOk r Q
 on_ok_to (Ok x) f h = f h

@@ -5,11 +5,11 @@ use Rattle.std.proofs.lemmas.Option.{none-some, same_Some}
 use Rattle.je_order.specs.declared.name.Name.{Name}
 use Rattle.record_tree.specs.Stored.{Stored, AllStored}
 use Rattle.store_model.specs.declared.kind.Kind.{Kind}
-use Rattle.log_replay.specs.Rows.{Row, is_right_row, are_right}
-use Rattle.log_replay.specs.Wrong.{wrong_in, wrong_in_catalog, numbered_by, lesser}
-use Rattle.log_replay.proofs.WrongLaws.{lesser_of_both, wrong_met, right_met}
+use Rattle.log_replay.specs.Rows.{Row, is_right_row, are_right, is_environment}
+use Rattle.log_replay.specs.Wrong.{wrong_in, wrong_in_catalog, wrong_record, numbered_by, lesser}
+use Rattle.log_replay.proofs.WrongLaws.{lesser_of_both, wrong_met, right_met, none_is_environment}
 use Rattle.recovery_je.specs.declared.numbered.Numbered.{Numbered}
-use Rattle.recovery_je.specs.Checking.{values_of, lsn_of, numbered_of, Found, as_found, wrong_among, wrong_lsn_of, wrong_lsn_under, wrong_lsn_in}
+use Rattle.recovery_je.specs.Checking.{values_of, values_in, lsn_of, numbered_of, Found, as_found, wrong_among, wrong_lsn_of, wrong_lsn_under, wrong_lsn_in}
 
 -- the first record of a database that fails a test of its name and data
 first_name : (p : Row → Bool) (records : List (Name × Stored)) →
@@ -68,10 +68,10 @@ pub under_named : (stored : AllStored) (rows : List Row) (databases : List Numbe
 under_named stored rows databases wrong are is = is ∙ ap (λ (l : List Found). wrong_lsn_under stored l) (ap (λ (l : List Numbered). map as_found l) are ∙ found_in rows)
 
 -- where the catalog is right, the first wrong record is one of the databases'
-pub wrong_behind : {E : Type 0} (stored : AllStored) (rows named : List (Name × Stored)) (r : Result (Option ℕ) E) → wrong_in_catalog [] (values_of rows) ≡ None → rows ≡ stored 0 → named ≡ stored 0 →
+pub wrong_behind : {E : Type 0} (stored : AllStored) (rows named : List (Name × Stored)) (r : Result (Option ℕ) E) → wrong_in_catalog (values_of rows) [] (values_of rows) ≡ None → rows ≡ stored 0 → named ≡ stored 0 →
     IfOk r (λ w. w ≡ wrong_lsn_under stored (map numbered_by (values_of named))) → IfOk r (λ w. w ≡ wrong_lsn_in stored)
 wrong_behind stored rows named (Ok w) none are named_are is =
-    let here : wrong_in_catalog [] (values_of (stored 0)) ≡ None = ap (λ (l : List (Name × Stored)). wrong_in_catalog [] (values_of l)) (sym are) ∙ none in
+    let here : wrong_in_catalog (values_of (stored 0)) [] (values_of (stored 0)) ≡ None = ap (λ (l : List (Name × Stored)). wrong_in_catalog (values_of l) [] (values_of l)) (sym are) ∙ none in
     let whole : wrong_lsn_under stored (map numbered_by (values_of (stored 0))) ≡ wrong_lsn_in stored = rw here refl in
     is ∙ ap (λ (l : List (Name × Stored)). wrong_lsn_under stored (map numbered_by (values_of l))) named_are ∙ whole
 wrong_behind stored rows named (Err e) none are named_are is = tt
@@ -104,3 +104,11 @@ pub right_next : (stored : AllStored) (d : Numbered) (left rest : List Numbered)
 right_next stored d left rest found next parts right is =
     right_met (λ (x : Found). are_right x.kind (values_of (stored x.number))) (as_found d) (map as_found left) (map as_found rest) (option_map as_found found) (option_map as_found next)
     (ap (λ (l : List Numbered). map as_found l) parts) right (ap (λ (o : Option Numbered). option_map as_found o) is)
+
+unmapped : {A B : Type 0} (f : A → B) (o : Option A) → option_map f o ≡ None → o ≡ None
+unmapped f None h = refl
+unmapped f (Some x) h = absurd cc
+
+-- records none of which is wrong are those of an environment
+pub right_rows : (stored : AllStored) → wrong_lsn_in stored ≡ None → is_environment (values_in stored) ≡ true
+right_rows stored none = none_is_environment (values_in stored) (unmapped (λ place. lsn_of stored place.db place.name) (wrong_record (values_in stored)) none)

@@ -10,6 +10,8 @@ pub mod FitLaws
 pub mod NumberLaws
 -- Records without their LSNs, and which of them is wrong.
 pub mod CheckLaws
+-- Which index is the first without the pairs of its primary's records.
+pub mod IndexChecks
 -- The trees of the databases that the catalog names.
 pub mod FinishLaws
 -- Records in trees are those of a redo.

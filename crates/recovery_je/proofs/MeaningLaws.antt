@@ -67,7 +67,7 @@ keys_same : (records : List (Name × Stored)) → keys_of (values_of records) �
 keys_same [] = refl
 keys_same (r ∷ records) = ap (λ (l : List Name). r.0 ∷ l) (keys_same records)
 
-values_rise : (records : List (Name × Stored)) → AreRising records → IsRising (values_of records)
+pub values_rise : (records : List (Name × Stored)) → AreRising records → IsRising (values_of records)
 values_rise records up = rising_from_keys (values_of records) (subst (IsStrictlySortedBy name_cmp) (sym (keys_same records)) up)
 
 -- records of a database that are those of a redo, name by name, are the redo's

@@ -3,14 +3,12 @@ use Rattle.std.specs.Prelude.{ℕ, List, Option, map, filter, not, unwrap_or, op
 use Rattle.je_order.specs.declared.name.Name.{Name}
 use Rattle.record_map.specs.Cells.{value_at}
 use Rattle.record_tree.specs.Stored.{Stored, AllStored}
+pub use Rattle.record_tree.specs.Stored.{values_of}
 use Rattle.log_replay.specs.Rows.{Row, Rows, catalog_number, catalog_kind, are_right}
 use Rattle.recovery_je.specs.declared.numbered.Numbered.{Numbered}
 use Rattle.log_replay.specs.Wrong.{least, numbered_by, wrong_under, wrong_record}
 
 -- records without their LSNs
-abbrev pub values_of : List (Name × Stored) → List Row
-values_of records = map (λ r. (r.0, r.1.value)) records
-
 abbrev pub values_in : AllStored → Rows
 values_in stored d = values_of (stored d)
 

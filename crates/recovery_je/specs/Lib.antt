@@ -2,6 +2,7 @@ pub mod Files
 pub mod Redoing
 pub mod Numbers
 pub mod Checking
+pub mod Indexing
 pub mod Finishing
 pub mod Recovering
 pub mod Answer

@@ -1,6 +1,6 @@
 // The first record that breaks a rule of environments.
-ghost use Rattle.std.specs.Prelude.{◌≡◌, ◌==◌, ℕ, List as Items, [], None, Some, IfOk, map, filter, not, option_map, if◌then◌else◌};
-ghost use Rattle.log_replay.specs.Rows.{catalog_number, are_right};
+ghost use Rattle.std.specs.Prelude.{◌≡◌, ◌==◌, ◌&&◌, ℕ, List as Items, [], None, Some, IfOk, map, filter, not, option_map, if◌then◌else◌};
+ghost use Rattle.log_replay.specs.Rows.{catalog_number, catalog_index, is_plain_row, row_numbered, has_primary as has_primary_in, are_right};
 ghost use Rattle.log_replay.specs.Wrong.{is_right_behind, wrong_in_catalog as wrong_in_rows, wrong_in, numbered_by, lesser as lesser_of};
 ghost use Rattle.record_map.specs.Cells.{IsRising};
 ghost use Rattle.recovery_je.specs.Checking.{values_of, numbered_of, as_found, wrong_among, wrong_lsn_in, wrong_lsn_under, lsn_of as lsn_of_name};
@@ -9,11 +9,11 @@ ghost use Rattle.recovery_je.specs.declared.numbered.Numbered.{Numbered as Datab
 use crate::numbered::Numbered;
 use je_lsn::Lsn;
 use je_order::{Name, Word, copy_of};
-use log_replay::{kind_of, number_of};
+use log_replay::{index_of, is_plain, kind_of, number_of};
 use record_map::SortKey;
 use record_tree::{Loads, StoredRecord};
 use std::alloc::{AllocError, Global};
-use store_model::{DUP_LIMIT, Kind, MOST_DATABASES};
+use store_model::{DUP_LIMIT, Extract, Kind, MOST_DATABASES};
 
 /// The number of the catalog.
 const CATALOG: u32 = 0;
@@ -29,17 +29,45 @@ fn is_right(name: &Name, number: u32, before: &[u32]) -> bool
         && before.len() < MOST_DATABASES as usize
 }
 
+// Whether the catalog's record of a number is one of a plain database.
+fn is_plain_at(records: &[StoredRecord], number: u32) -> bool
+    ensures { result ≡ is_plain_row (row_numbered number (values_of records.now)) }
+{
+    for record in records {
+        if number_of(record.value.as_slice()) == number {
+            return is_plain(record.value.as_slice());
+        }
+    }
+    false
+}
+
+// Whether the primary of what a record makes an index of is among the catalog's records, a plain database.
+fn has_primary(records: &[StoredRecord], made: Option<(u32, Extract)>) -> bool
+    ensures { result ≡ has_primary_in (values_of records.now) made }
+{
+    match made {
+        Some((primary, _)) => is_plain_at(records, primary),
+        None => true,
+    }
+}
+
+// Whether a catalog record of this name and data is right behind records of other numbers.
+fn is_right_in(records: &[StoredRecord], name: &Name, value: &[u8], before: &[u32]) -> bool
+    ensures { result ≡ (is_right_behind before.now (name.now, value.now) && has_primary_in (values_of records.now) (catalog_index value.now)) }
+{
+    is_right(name, number_of(value), before) && has_primary(records, index_of(value))
+}
+
 // The name of the first of the catalog's records that is wrong.
 fn wrong_in_catalog(alloc: Global, records: &[StoredRecord]) -> Result<Option<Name>, AllocError>
-    ensures { IfOk result (λ wrong. wrong ≡ wrong_in_rows [] (values_of records.now)) }
+    ensures { IfOk result (λ wrong. wrong ≡ wrong_in_rows (values_of records.now) [] (values_of records.now)) }
 {
     let mut before = Vec::new(alloc);
     for record in records {
-        let number = number_of(record.value.as_slice());
-        if !is_right(&record.name, number, &before) {
+        if !is_right_in(records, &record.name, record.value.as_slice(), &before) {
             return Ok(Some(copy_of(&record.name)?));
         }
-        before.push(number)?;
+        before.push(number_of(record.value.as_slice()))?;
     }
     Ok(None)
 }

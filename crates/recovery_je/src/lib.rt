@@ -10,6 +10,7 @@ mod descending;
 mod finishing;
 mod gaps;
 mod images;
+mod indexes;
 mod lookup;
 mod numbered;
 mod numbers;

@@ -1,10 +1,11 @@
 // Why an environment was not recovered.
 use crate::read_err::ReadErr;
 use je_disk::DiskErr;
+use je_order::Word;
 use log_replay::Corruption;
 
 /// Why an environment was not recovered. Its files are as they were.
-#[derive(Clone, Copy, Debug, PartialEq, Eq)]
+#[derive(Debug, Drop)]
 pub enum RecoverErr {
     /// The disk failed.
     Disk,
@@ -12,6 +13,9 @@ pub enum RecoverErr {
     Memory,
     /// The first corruption in the order of reading.
     Corrupt(Corruption),
+    /// There is no corruption, but the pairs of the index of that name, the first one in name order, are not those of its
+    /// primary's records.
+    WrongIndex(Word),
 }
 
 impl From<DiskErr> for RecoverErr {

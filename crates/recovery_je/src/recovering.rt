@@ -10,6 +10,7 @@ ghost use Rattle.log_meaning.specs.Redo.{redone};
 ghost use Rattle.log_meaning.specs.Checkpoint.{behind};
 ghost use Rattle.log_meaning.specs.Meaning.{most};
 ghost use Rattle.log_meaning.specs.Reading.{redo_corruption as redo_corruption_of, unless, meaning_in};
+ghost use Rattle.recovery_je.specs.Indexing.{IsIndexCheck};
 ghost use Rattle.recovery_je.specs.Putting.{AreRootsPut, HasReadAgain};
 ghost use Rattle.recovery_je.specs.Recovering.{HoldsChanges, HoldsRedo, IsWalked, IsMeant, IsFoundBy};
 
@@ -136,6 +137,7 @@ pub(crate) fn recover_entries<T: Loads + Drop>(
     requires entries { AllByRecursion (λ p. IsEntry p.1) entries.items }
     ensures meant { IfOk result (λ m. IsMeant (map (λ f. f.0) files.now) entries.items (record { store = m.settled.opening; last_txn = m.last_txn; last_node = m.last_node; last_db = m.last_db; checkpoint = m.checkpoint }) (T.has_tree m.settled.trees) (T.stored m.settled.trees) m.settled.databases m.settled.records) }
     ensures fits { IfOk result (λ m. HasReadAgain T.well_formed T.nodes T.stored T.last_number T.fits m.settled.trees m.redo entries.items) }
+    ensures index { IfOk result (λ m. IsIndexCheck m.settled.opening m.settled.wrong_index) }
     ensures found { IfErr result (λ e. IsFoundBy e (λ c. meaning_in (map (λ f. f.0) files.now) entries.items ≡ Err c)) }
 {
     let end = last_end(alloc, &entries)?;

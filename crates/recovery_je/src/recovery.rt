@@ -6,7 +6,7 @@ ghost use Rattle.je_disk.specs.States.{Files, IsListing, AreRisingNumbers};
 ghost use Rattle.log_meaning.specs.Reading.{reading_of};
 ghost use Rattle.recovery_je.specs.Files.{AreRead, AreSound};
 ghost use Rattle.recovery_je.specs.Putting.{HasReadAgain};
-ghost use Rattle.recovery_je.specs.Answer.{IsReadingOf, IsRecoveredFrom, IsCorruptBy, IsNoDiskErr, HasCauseOf, HasFiles};
+ghost use Rattle.recovery_je.specs.Answer.{IsReadingOf, IsRecoveredFrom, IsCorruptBy, IsFirstWrong, IsIndexBy, IsNoDiskErr, HasCauseOf, HasFiles, HasWrongIndex, recovered_with};
 
 use crate::reading::{FilesRead, read_files};
 use crate::recover_err::RecoverErr;
@@ -15,8 +15,52 @@ use crate::recovering::{Meant, recover_entries};
 use crate::settling::Settled;
 use je_disk::{Disk, DiskErr};
 use je_lsn::FileNo;
+use log_replay::LastFile;
 use record_tree::Loads;
 use std::alloc::Global;
+
+// What a log of so many entries means, if each index has the pairs of its primary's records.
+fn check_index<T: Loads + Drop>(
+    meant: Meant<T>,
+    entries: u64,
+    tail: Option<LastFile>,
+) -> Result<Recovered<T>, RecoverErr>
+    ensures recovered { IfOk result (λ r. (meant.settled.wrong_index ≡ None) × (r ≡ recovered_with meant entries tail)) }
+    ensures wrong { IfErr result (λ e. IsFirstWrong meant.settled.wrong_index e) }
+{
+    let Meant {
+        settled,
+        last_txn,
+        last_node,
+        last_db,
+        checkpoint,
+        redo,
+    } = meant;
+    let Settled {
+        trees,
+        opening,
+        databases,
+        records,
+        wrong_index,
+    } = settled;
+    if let Some(name) = wrong_index {
+        drop(trees);
+        return Err(RecoverErr::WrongIndex(name));
+    }
+    Ok(Recovered {
+        trees,
+        opening,
+        databases,
+        records,
+        last_txn,
+        last_node,
+        last_db,
+        checkpoint,
+        redo,
+        entries,
+        tail,
+    })
+}
 
 // What files come to that were read.
 fn recover_files<T: Loads + Drop>(
@@ -30,6 +74,7 @@ fn recover_files<T: Loads + Drop>(
     requires sound { AreSound read }
     ensures recovered { (observable : Bool) (reads : Files) → AreRead observable reads files.now read → IfOk result (λ r. IsReadingOf observable reads files.now (IsRecoveredFrom (record { store = r.opening; last_txn = r.last_txn; last_node = r.last_node; last_db = r.last_db; checkpoint = r.checkpoint }) (T.has_tree r.trees) (T.stored r.trees) r.databases r.records r.entries r.tail (HasReadAgain T.well_formed T.nodes T.stored T.last_number T.fits r.trees r.redo))) }
     ensures corrupt { (observable : Bool) (reads : Files) → AreRead observable reads files.now read → IfErr result (λ e. IsCorruptBy e (λ corruption. IsReadingOf observable reads files.now (λ held. reading_of held ≡ Err corruption))) }
+    ensures index { (observable : Bool) (reads : Files) → AreRead observable reads files.now read → IfErr result (λ e. IsIndexBy e (λ name. IsReadingOf observable reads files.now (HasWrongIndex name))) }
     ensures other { IfErr result IsNoDiskErr }
 {
     match read {
@@ -40,40 +85,15 @@ fn recover_files<T: Loads + Drop>(
         FilesRead::All(entries, tail) => {
             let count = entries.len() as u64;
             let meant = recover_entries(alloc, files, entries, trees)?;
-            let Meant {
-                settled,
-                last_txn,
-                last_node,
-                last_db,
-                checkpoint,
-                redo,
-            } = meant;
-            let Settled {
-                trees,
-                opening,
-                databases,
-                records,
-            } = settled;
-            Ok(Recovered {
-                trees,
-                opening,
-                databases,
-                records,
-                last_txn,
-                last_node,
-                last_db,
-                checkpoint,
-                redo,
-                entries: count,
-                tail,
-            })
+            check_index(meant, count, tail)
         }
     }
 }
 
 /// Reads the files of a log whose numbers these are, rising, each once and whole, and makes the trees that
 /// they mean of trees that are empty. If the disk is observable, and these are all its files, they mean the
-/// store that the trees hold, with these numbers, or the corruption is their first. The disk's state stays
+/// store that the trees hold, with these numbers, in which each index has the pairs of its primary's records; or the
+/// corruption is their first; or they mean a store in which the index is the first without its pairs. The disk's state stays
 /// the same, and so do the jobs that are out. `Disk` comes only where the disk counted a fault; Memory
 /// is free, and comes for a count of records beyond a u64's too.
 pub fn recover<D: Disk, T: Loads + Drop>(
@@ -86,6 +106,7 @@ pub fn recover<D: Disk, T: Loads + Drop>(
     requires empty { (d : ℕ) → T.has_tree trees d ≡ false }
     ensures recovered { IfOk result (λ r. IsReadingOf D.observable (now (D.history disk.old)).reads files.now (IsRecoveredFrom (record { store = r.opening; last_txn = r.last_txn; last_node = r.last_node; last_db = r.last_db; checkpoint = r.checkpoint }) (T.has_tree r.trees) (T.stored r.trees) r.databases r.records r.entries r.tail (HasReadAgain T.well_formed T.nodes T.stored T.last_number T.fits r.trees r.redo))) }
     ensures corrupt { IfErr result (λ e. IsCorruptBy e (λ corruption. IsReadingOf D.observable (now (D.history disk.old)).reads files.now (λ held. reading_of held ≡ Err corruption))) }
+    ensures index { IfErr result (λ e. IsIndexBy e (λ name. IsReadingOf D.observable (now (D.history disk.old)).reads files.now (HasWrongIndex name))) }
     ensures same { D.observable ≡ true → now (D.history disk.new) ≡ now (D.history disk.old) }
     ensures moments { D.observable ≡ true → Passes (D.history disk.old) (D.history disk.new) (λ s. s ≡ now (D.history disk.old)) }
     ensures jobs { (D.sync_out disk.new ≡ D.sync_out disk.old) × (D.read_out disk.new ≡ D.read_out disk.old) × (D.read_of disk.new ≡ D.read_of disk.old) × (D.last_job disk.new ≡ D.last_job disk.old) }
@@ -118,6 +139,7 @@ pub fn recover_disk<D: Disk, T: Loads + Drop>(
     requires { (d : ℕ) → T.has_tree trees d ≡ false }
     ensures recovered { IfOk result (λ r. HasFiles D.observable (now (D.history disk.old)).reads (IsRecoveredFrom (record { store = r.opening; last_txn = r.last_txn; last_node = r.last_node; last_db = r.last_db; checkpoint = r.checkpoint }) (T.has_tree r.trees) (T.stored r.trees) r.databases r.records r.entries r.tail (HasReadAgain T.well_formed T.nodes T.stored T.last_number T.fits r.trees r.redo))) }
     ensures corrupt { IfErr result (λ e. IsCorruptBy e (λ corruption. HasFiles D.observable (now (D.history disk.old)).reads (λ held. reading_of held ≡ Err corruption))) }
+    ensures index { IfErr result (λ e. IsIndexBy e (λ name. HasFiles D.observable (now (D.history disk.old)).reads (HasWrongIndex name))) }
     ensures same { D.observable ≡ true → now (D.history disk.new) ≡ now (D.history disk.old) }
     ensures moments { D.observable ≡ true → Passes (D.history disk.old) (D.history disk.new) (λ s. s ≡ now (D.history disk.old)) }
     ensures none_out { OnOk result (D.sync_out disk.new ≡ None) }

@@ -5,22 +5,27 @@ ghost use Rattle.log_trees.specs.Placed.{Placed};
 ghost use Rattle.log_meaning.specs.Redo.{Redo};
 ghost use Rattle.recovery_je.specs.Recovering.{HoldsRedo, IsSettled, IsFoundBy, IsOtherErr, IsWrong};
 ghost use Rattle.recovery_je.specs.Checking.{wrong_lsn_in};
+ghost use Rattle.recovery_je.specs.Indexing.{IsIndexCheck};
 
 use crate::OpeningStore;
 use crate::checking::{catalog_numbers, wrong_lsn};
 use crate::finishing::{count_records, finish};
+use crate::indexes::wrong_index;
 use crate::read_err::ReadErr;
+use je_order::Word;
 use log_replay::Corruption;
 use record_tree::Loads;
 use std::alloc::Global;
 
-/// The trees of an environment, its store, and how many databases and records it has.
+/// The trees of an environment, its store, how many databases and records it has, and the first index, if there is
+/// one, without the pairs of its primary's records.
 #[derive(Drop)]
 pub(crate) struct Settled<T: Loads> {
     pub(crate) trees: T,
     pub(crate) opening: OpeningStore<T>,
     pub(crate) databases: u64,
     pub(crate) records: u64,
+    pub(crate) wrong_index: Option<Word>,
 }
 
 // The environment that right records make.
@@ -29,8 +34,10 @@ fn settle_right<T: Loads + Drop>(alloc: Global, trees: T) -> Result<Settled<T>, 
     requires rising { (d : ℕ) → IsRising (T.stored trees d) }
     ensures settled { (redo : Redo) → HoldsRedo redo (T.stored trees) → IfOk result (λ s. IsSettled redo (T.has_tree s.trees) (T.stored s.trees) s.opening s.databases s.records) }
     ensures fits { (es : Items Placed) (base : ℕ) → T.fits trees es base → IfOk result (λ s. T.fits s.trees es base) }
+    ensures index { IfOk result (λ s. IsIndexCheck s.opening s.wrong_index) }
     ensures other { IfErr result IsOtherErr }
 {
+    let wrong_index = wrong_index(alloc, &trees)?;
     let opening = OpeningStore::of(&trees);
     let numbers = catalog_numbers(alloc, &trees)?;
     let databases = numbers.len() as u64;
@@ -42,6 +49,7 @@ fn settle_right<T: Loads + Drop>(alloc: Global, trees: T) -> Result<Settled<T>, 
         opening,
         databases,
         records,
+        wrong_index,
     })
 }
 
@@ -49,6 +57,7 @@ fn settle_right<T: Loads + Drop>(alloc: Global, trees: T) -> Result<Settled<T>, 
 pub(crate) fn settle<T: Loads + Drop>(alloc: Global, trees: T) -> Result<Settled<T>, ReadErr>
     ensures settled { (redo : Redo) → HoldsRedo redo (T.stored trees) → IfOk result (λ s. IsSettled redo (T.has_tree s.trees) (T.stored s.trees) s.opening s.databases s.records) }
     ensures fits { (es : Items Placed) (base : ℕ) → T.fits trees es base → IfOk result (λ s. T.fits s.trees es base) }
+    ensures index { IfOk result (λ s. IsIndexCheck s.opening s.wrong_index) }
     ensures found { (redo : Redo) → HoldsRedo redo (T.stored trees) → IfErr result (λ e. IsFoundBy e (IsWrong redo)) }
 {
     if let Some(lsn) = wrong_lsn(alloc, &trees)? {

@@ -4,9 +4,7 @@ mod TextCuts
 mod HexDigits
 -- What the lines of a script give, one line after another.
 mod ScriptLines
--- Each call that the words of a line give is one that the grammar has a line for.
-mod CallLines
--- A script's plan has only calls that the grammar has lines for, and steps with the numbers of lines.
+-- The steps of a script's plan have the numbers of lines.
 mod PlanCalls
 -- Texts sent through a buffer.
 mod BufferedText

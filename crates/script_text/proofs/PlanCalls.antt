@@ -1,4 +1,4 @@
--- A script's plan has only calls that the grammar has lines for, and steps with the numbers of lines.
+-- The steps of a script's plan have the numbers of lines.
 use Rattle.std.proofs.Common.{◌≡◌, ◌+◌, ◌&&◌, ◌==◌, ℕ, List, [], ◌∷◌, ◌++◌, Bool, true, false, cond, not, nat_lt, Option, Some, None, Result, Ok, Err, option_to_list, refl, subst, arith}
 use Rattle.std.specs.Prelude.{IfOk, codes, ◌||◌}
 use Rattle.std.specs.Str.{bytes_eq}
@@ -13,10 +13,7 @@ use Rattle.store_model.specs.declared.plan.RunPlan.{RunPlan}
 use Rattle.script_text.specs.declared.parsing.TheConstants.{MOST_LINES}
 use Rattle.script_text.specs.declared.parsing.ParseErr.{ParseErr}
 use Rattle.script_text.specs.Words.{words_of}
-use Rattle.script_text.specs.Grammar.{text_lines, session_of, call_of, step_of, maintained_by, maintenance_of, given_by, session_line, given_of, is_skipped, good_or_bad, line_gives, and_then, lines_give, as_plan, plan_of, Gives, has_line, is_line}
-use Rattle.script_text.proofs.CallLines.{each_line}
-
--- ---- calls
+use Rattle.script_text.specs.Grammar.{text_lines, session_of, call_of, step_of, maintained_by, maintenance_of, given_by, session_line, given_of, is_skipped, good_or_bad, line_gives, and_then, lines_give, as_plan, plan_of, Gives, is_line}
 
 some_is : {A : Type 0} (x y : A) → (let o : Option A = Some x in o) ≡ Some y → x ≡ y
 some_is x y e = cc
@@ -27,15 +24,14 @@ some_is x y e = cc
 abbrev AreLines : List ScriptLine → Type 0
 AreLines given = list_all is_line given ≡ true
 
-given_by_scripted : (line : ℕ) (session : Option ℕ) (call : Option Call) (given : ScriptLine) → ((c : Call) → call ≡ Some c → has_line c ≡ true) → given_by line session call ≡ Some given → AreLines (given ∷ [])
-given_by_scripted line (Some session) (Some call) given h e =
-    subst (λ (g : ScriptLine). AreLines (g ∷ [])) (some_is (Session session line call) given e) (and_from (has_line call) true (h call refl) refl)
-given_by_scripted line (Some session) None given h e = cc
-given_by_scripted line None call given h e = cc
+given_by_scripted : (line : ℕ) (session : Option ℕ) (call : Option Call) (given : ScriptLine) → given_by line session call ≡ Some given → AreLines (given ∷ [])
+given_by_scripted line (Some session) (Some call) given e = subst (λ (g : ScriptLine). AreLines (g ∷ [])) (some_is (Session session line call) given e) refl
+given_by_scripted line (Some session) None given e = cc
+given_by_scripted line None call given e = cc
 
 session_scripted : (line : ℕ) (session : List ℕ) (words : List (List ℕ)) (given : ScriptLine) → session_line line session words ≡ Some given → AreLines (given ∷ [])
 session_scripted line session [] given e = cc
-session_scripted line session (verb ∷ words) given e = given_by_scripted line (session_of session) (call_of verb words) given (λ c s. each_line verb words c s) e
+session_scripted line session (verb ∷ words) given e = given_by_scripted line (session_of session) (call_of verb words) given e
 
 -- a line's number is not 0
 abbrev IsNumber : ℕ → Type 0

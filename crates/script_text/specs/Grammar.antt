@@ -21,6 +21,7 @@ use Rattle.store_model.specs.declared.plan.RunPlan.{RunPlan}
 use Rattle.script_text.specs.Words.{words_of}
 use Rattle.script_text.specs.Bytes.{bytes_of}
 use Rattle.script_text.specs.Cursors.{rmw_of, cursor_call_of}
+use Rattle.script_text.specs.Indexes.{is_digit, index_of}
 use Rattle.script_text.specs.declared.parsing.TheConstants.{MOST_LINES}
 use Rattle.script_text.specs.declared.parsing.ParseErr.{ParseErr}
 use Rattle.script_text.specs.declared.parsing.ParseErr.TheVariants.{BadScript, Memory}
@@ -31,9 +32,6 @@ text_lines [] = []
 text_lines (c ∷ rest) = if c == 10 then [] ∷ text_lines rest else onto_first c (text_lines rest)
 
 -- a session is s1 to s64, its number without a leading zero
-abbrev pub is_digit : ℕ → Bool
-is_digit c = nat_le 48 c && nat_le c 57
-
 abbrev pub one_digit : ℕ → ℕ → Option ℕ
 one_digit s a = if (s == 115) && is_digit a && not (a == 48) then Some (a - 48) else None
 
@@ -92,7 +90,7 @@ abbrev pub list_of : List (List ℕ) → Option Call
 list_of [] = Some Lists
 list_of words = None
 
--- `create DB plain` and `create DB dup`
+-- `create DB plain`, `create DB dup`, and lines that make an index
 abbrev pub kind_of : List ℕ → Option Kind
 kind_of word =
     if bytes_eq word (codes "plain") then Some Plain
@@ -105,6 +103,7 @@ create_call db None = None
 
 abbrev pub create_of : List (List ℕ) → Option Call
 create_of (db ∷ kind ∷ []) = if is_word db then create_call db (kind_of kind) else None
+create_of (db ∷ kind ∷ primary ∷ words) = index_of db kind primary words
 create_of words = None
 
 -- `remove DB`
@@ -225,33 +224,9 @@ line_gives line text =
     else if is_skipped text then Ok None
     else good_or_bad line (given_of line (words_of text))
 
--- whether the grammar has a line for a call: it has none that makes an index
-abbrev pub has_line : Call → Bool
-has_line (Begin level durability wait) = true
-has_line Commit = true
-has_line Abort = true
-has_line Lists = true
-has_line (Create db kind) = true
-has_line (CreateIndex db index) = false
-has_line (Remove db) = true
-has_line (Rename db to) = true
-has_line (Truncate db) = true
-has_line (Put db key value mode) = true
-has_line (Get db key rmw) = true
-has_line (GetBoth db key value rmw) = true
-has_line (Delete db key) = true
-has_line (Open cursor db) = true
-has_line (Close cursor) = true
-has_line (Duplicate cursor to) = true
-has_line (Count cursor) = true
-has_line (Cur cursor motion rmw) = true
-has_line (CPutCur cursor value) = true
-has_line (CDel cursor) = true
-has_line (CPut cursor key value mode) = true
-
--- whether it has a line of a script; these are numbered from 1
+-- the lines of a script are numbered from 1
 abbrev pub is_line : ScriptLine → Bool
-is_line (Session session line call) = has_line call
+is_line (Session session line call) = true
 is_line (Maintenance line step) = not (line == 0)
 
 -- what a line gives and then what the lines behind it give; the first bad line counts

@@ -7,6 +7,7 @@ ghost use Rattle.script_text.specs.Cursors.{rmw_of};
 
 use crate::bytes::bytes_of;
 use crate::cursor_calls::cursor_call_of;
+use crate::index_calls::index_of;
 use crate::words::Words;
 use je_order::Word;
 use std::alloc::{AllocError, Global};
@@ -158,7 +159,10 @@ fn create_of(alloc: Global, mut words: Words) -> Result<Option<Call>, AllocError
     let Some(kind) = words.next() else {
         return Ok(None);
     };
-    if words.next().is_some() || !Word::is_word(db) {
+    if let Some(primary) = words.next() {
+        return index_of(alloc, db, kind, primary, words);
+    }
+    if !Word::is_word(db) {
         return Ok(None);
     }
     create_call(alloc, db, kind_of(kind))

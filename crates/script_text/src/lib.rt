@@ -11,6 +11,7 @@ mod counting;
 mod cursor_calls;
 mod cutting;
 mod event_lines;
+mod index_calls;
 mod lines;
 mod logged_call;
 mod out_buffer;

@@ -1,6 +1,7 @@
 // A session's name.
 ghost use Rattle.std.specs.Prelude.{◌≡◌};
-ghost use Rattle.script_text.specs.Grammar.{session_of, one_digit, two_digits, is_digit};
+ghost use Rattle.script_text.specs.Grammar.{session_of, one_digit, two_digits};
+ghost use Rattle.script_text.specs.Indexes.{is_digit};
 
 // The greatest number of a session.
 const MOST_SESSION: u8 = 64;
@@ -16,7 +17,8 @@ pub fn session_number(word: &[u8]) -> Option<u8>
     }
 }
 
-fn is_digit(c: u8) -> bool
+// Whether a byte is a decimal digit.
+pub(crate) fn is_digit(c: u8) -> bool
     ensures { result ≡ is_digit c }
 {
     matches!(c, b'0'..=b'9')

@@ -1,3 +1,4 @@
+pub mod Making
 pub mod Store
 pub mod Reads
 pub mod Records

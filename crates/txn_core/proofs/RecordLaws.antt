@@ -1,5 +1,10 @@
 -- Changes of the records of one database, as a transaction logs them.
-use Rattle.std.proofs.Common.{◌≡◌, ◌≢◌, ℕ, List, [], ◌∷◌, IsTrue, Option, Some, None, map, refl, ap, ap₂, sym, ◌∙◌, subst}
+use Rattle.std.proofs.Common.{◌≡◌, ◌≢◌, ℕ, List, [], ◌∷◌, IsTrue, Option, Some, None, map, option_map, refl, ap, ap₂, sym, ◌∙◌, subst, is_eq, Less}
+use Rattle.std.proofs.lemmas.Bool.{cond-true, cond-false}
+use Rattle.je_order.specs.Order.{name_cmp}
+use Rattle.cursor_je.proofs.EdgeLaws.{name_same}
+use Rattle.log_replay.proofs.ListLaws.{all_both}
+use Rattle.log_replay.proofs.RowLaws.{rising_head, rising_tail}
 use Rattle.std.specs.List.{AllByRecursion}
 use Rattle.je_order.specs.declared.name.Name.{Name}
 use Rattle.store_model.specs.declared.kind.Kind.{Kind}
@@ -8,7 +13,7 @@ use Rattle.store_model.specs.declared.record_change.RecordChange.{RecordChange}
 use Rattle.store_model.specs.declared.record_change.RecordChange.TheVariants.{Set, Unset}
 use Rattle.store_model.specs.Store.{change_in, proper}
 use Rattle.store_model.specs.Evaluation.{plain_name}
-use Rattle.log_replay.specs.Rows.{Row, Rows, RowChange, row_changed, data_at, is_right_row, kind_or_plain}
+use Rattle.log_replay.specs.Rows.{Row, Rows, RowChange, row_changed, row_at, data_at, is_right_row, IsRising, kind_or_plain}
 use Rattle.log_replay.specs.Logging.{record_in, number_named, kind_named, last_db_after, all_row_changes}
 use Rattle.log_replay.specs.Kept.{AllMayBeLogged}
 use Rattle.log_replay.proofs.NameLaws.{number-same}
@@ -62,3 +67,13 @@ records_may last_db kind db (Unset at ∷ cs) rows is has right =
       (has, subst (λ (k : Kind). proper k at ≡ at) is right.0),
       records_may (last_db_after last_db (UnsetIn db at)) kind db cs (row_changed c rows) (is ∙ sym (kind_left c rows db left)) (λ e. has (sym (number-same c rows db left) ∙ e)) right.1,
     )
+
+-- names that rise find their own data
+pub all_found : (rows : List Row) → IsRising rows → AllByRecursion (λ r. data_at r.0 rows ≡ Some r.1) rows
+all_found [] up = tt
+all_found (r ∷ rows) up = (
+  ap (option_map (λ (x : Row). x.1)) (cond-true (is_eq (name_cmp r.0 r.0)) (Some r) (row_at r.0 rows) (ap is_eq (name_same r.0))),
+  all_both (λ (y : Row). name_cmp r.0 y.0 ≡ Less) (λ y. data_at y.0 rows ≡ Some y.1) (λ y. data_at y.0 (r ∷ rows) ≡ Some y.1)
+      (λ y less e. ap (option_map (λ (x : Row). x.1)) (cond-false (is_eq (name_cmp r.0 y.0)) (Some r) (row_at y.0 rows) (ap is_eq less)) ∙ e)
+      rows (rising_head r rows up) (all_found rows (rising_tail r rows up)),
+)

@@ -1,12 +1,12 @@
 -- What a call of a valid environment that is a transaction of its own comes to, from the committed records of its trees.
-use Rattle.std.specs.Prelude.{ℕ, ◌≡◌, ◌⊎◌, IsSome, ◌==◌, ◌&&◌, ◌<◌, ◌≤◌, ◌+◌, ◌^◌, ◌∷◌, [], List, Option, Some, None, true, map, nat_lt}
+use Rattle.std.specs.Prelude.{ℕ, ◌≡◌, ◌⊎◌, IsSome, ◌==◌, ◌&&◌, ◌<◌, ◌≤◌, ◌+◌, ◌^◌, ◌∷◌, [], List, Option, Some, None, Bool, true, false, map, nat_lt}
 use Rattle.std.specs.List.{AllByRecursion}
 use Rattle.je_order.specs.declared.txn_id.TxnId.{TxnId}
 use Rattle.store_model.specs.declared.store.TheConstants.{LAST_TXN}
 use Rattle.store_model.specs.declared.call.Call.{Call}
 use Rattle.store_model.specs.declared.call.Call.TheVariants.{List as Lists, Create, CreateIndex, Remove, Rename, Truncate}
 use Rattle.store_model.specs.declared.change.Change.{Change}
-use Rattle.store_model.specs.declared.change.Change.TheVariants.{Remove as Removes, Empty}
+use Rattle.store_model.specs.declared.change.Change.TheVariants.{MakeIndex, Remove as Removes, Empty}
 use Rattle.store_model.specs.declared.answer.Answer.TheVariants.{NoDatabase}
 use Rattle.store_model.specs.Store.{all_changed}
 use Rattle.store_model.specs.Evaluation.{Outcome, answers, evaluation}
@@ -22,12 +22,22 @@ use Rattle.log_replay.specs.Logging.{all_row_changes, number_named}
 use Rattle.record_tree.specs.declared.tree_change.TreeChange.{TreeChange}
 use Rattle.record_tree.specs.Logged.{entry_for, is_made}
 use Rattle.txn_core.specs.declared.planned.Planned.{Planned}
-use Rattle.txn_core.specs.declared.planned.Planned.TheVariants.{Answered, Logs}
+use Rattle.txn_core.specs.declared.planned.Planned.TheVariants.{Answered, Logs, Fills}
 use Rattle.txn_core.specs.declared.planned_changes.PlannedChanges.{PlannedChanges}
 use Rattle.txn_core.specs.Totals.{totals_of}
 use Rattle.txn_core.specs.Known.{Known, has_number}
 
 -- ---- what a call comes to
+
+-- a call on the catalog
+abbrev pub IsCatalogCall : Call → Type 0
+IsCatalogCall Lists = Unit {0}
+IsCatalogCall (Create db kind) = Unit {0}
+IsCatalogCall (CreateIndex db index) = Unit {0}
+IsCatalogCall (Remove db) = Unit {0}
+IsCatalogCall (Rename db to) = Unit {0}
+IsCatalogCall (Truncate db) = Unit {0}
+IsCatalogCall call = ⊥
 
 -- a call on the records of a database, by evaluation on what is committed
 abbrev pub outcome_on : Call → Option Target → Outcome
@@ -59,6 +69,16 @@ abbrev pub gone_by : Rows → Change → Option ℕ
 gone_by rows (Removes db) = Some (number_named rows db)
 gone_by rows (Empty db) = Some (number_named rows db)
 gone_by rows change = None
+
+-- whether a change makes an index, whose pairs come behind it
+abbrev pub is_index : Change → Bool
+is_index (MakeIndex db index) = true
+is_index change = false
+
+-- and whether the first one of changes does
+abbrev pub makes_index : List Change → Bool
+makes_index [] = false
+makes_index (change ∷ more) = is_index change
 
 -- what a plan needs of what it rests on: the records are those of an environment, with no later number than the last one, and the totals are
 -- those of their store
@@ -93,12 +113,23 @@ pub record IsPlannedLog (known : Known) (p : Alone) (session : ℕ) (call : Call
   pub may : planned.last_db < 2 ^ 32 → AllMayBeLogged known.rows known.last_db (change ∷ more)
   pub last_db : planned.last_db ≡ known.last_db + made_by (change ∷ more)
   pub totals : planned.totals ≡ totals_of (all_changed (change ∷ more) p.store)
-  pub there : AllByRecursion (λ c. has_number (numbers_of known.rows) c.db ≡ true) planned.changes.items
+  pub there : is_index change ≡ false → AllByRecursion (λ c. has_number (numbers_of known.rows) c.db ≡ true) planned.changes.items
   pub made : planned.last_db < 2 ^ 32 → (d : ℕ) → is_made d planned.changes.items ≡ (nat_lt known.last_db planned.last_db && (d == planned.last_db))
   pub gone_is : planned.gone ≡ gone_by known.rows change
-  pub few : HaveFewNew known.rows planned.changes.items
+  pub few : is_index change ≡ false → HaveFewNew known.rows planned.changes.items
+
+-- changes that make an index and fill it: the first one, of the catalog, makes the database of the last number, where that has its width, and the others
+-- are of that database
+pub record IsPlannedFill (planned : PlannedChanges) : Type 0 where
+  pub first : TreeChange
+  pub rows : List TreeChange
+  pub are : planned.changes.items ≡ first ∷ rows
+  pub catalog : first.db ≡ 0
+  pub makes : planned.last_db < 2 ^ 32 → first.makes ≡ Some planned.last_db
+  pub of_it : planned.last_db < 2 ^ 32 → AllByRecursion (λ r. (r.db ≡ planned.last_db) × (r.makes ≡ None)) rows
 
 -- what a call comes to is what the model says: an answer that changes nothing, or changes to be logged
 abbrev pub IsPlanned : Known → Alone → ℕ → Call → Planned → Type 0
 IsPlanned known p session call (Answered answer) = outcome_alone p session call ≡ answers answer
-IsPlanned known p session call (Logs planned) = IsPlannedLog known p session call planned
+IsPlanned known p session call (Logs planned) = (log : IsPlannedLog known p session call planned) × (is_index log.change ≡ false)
+IsPlanned known p session call (Fills planned) = (log : IsPlannedLog known p session call planned) × (is_index log.change ≡ true) × IsPlannedFill planned

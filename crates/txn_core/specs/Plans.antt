@@ -1,27 +1,23 @@
 -- What the parts of a plan come to, from the committed records.
-use Rattle.std.specs.Prelude.{ℕ, ◌≡◌, ◌≢◌, ◌+◌, ◌-◌, ◌<◌, ◌^◌, ◌∷◌, [], List, Option, Some, None, map, length, IsTrue}
+use Rattle.std.specs.Prelude.{ℕ, ◌≡◌, ◌+◌, ◌-◌, ◌<◌, ◌^◌, ◌∷◌, [], List, Option, Some, None, map, length, IsTrue}
 use Rattle.je_order.specs.Words.{is_word}
-use Rattle.store_model.specs.declared.call.Call.{Call}
 use Rattle.store_model.specs.declared.change.Change.{Change}
 use Rattle.store_model.specs.declared.change.Change.TheVariants.{Make, MakeIndex, Remove, Rename, Empty}
 use Rattle.store_model.specs.declared.record_change.RecordChange.{RecordChange}
 use Rattle.store_model.specs.declared.record_change.RecordChange.TheVariants.{Set, Unset}
-use Rattle.store_model.specs.declared.answer.Answer.{Answer}
-use Rattle.store_model.specs.declared.answer.Answer.TheVariants.{NoDatabase}
 use Rattle.store_model.specs.declared.totals.Totals.{Totals}
-use Rattle.store_model.specs.Records.{Evaluated, evaluation}
 use Rattle.store_model.specs.Evaluation.{Outcome, plain_name}
-use Rattle.store_model.specs.Refusals.{made_by, database_refuses}
-use Rattle.db_catalog.specs.declared.found_db.FoundDb.{FoundDb}
+use Rattle.store_model.specs.Refusals.{made_by}
 use Rattle.db_catalog.specs.declared.catalog_change.CatalogChange.{CatalogChange}
 use Rattle.db_catalog.specs.declared.catalog_change.CatalogChange.TheVariants.{Put as PutRecord, Delete as DeleteRecord}
-use Rattle.db_catalog.specs.Catalog.{record_bytes}
-use Rattle.db_catalog.specs.Planning.{logged_as}
-use Rattle.log_replay.specs.Rows.{Row, Rows, data_at, pair_of}
-use Rattle.log_replay.specs.Logging.{record_named}
+use Rattle.db_catalog.specs.Catalog.{IsKind, record_bytes}
+use Rattle.db_catalog.specs.Planning.{index_in_catalog, logged_as}
+use Rattle.log_replay.specs.Rows.{Rows}
+use Rattle.log_replay.specs.Kept.{Fits}
+use Rattle.log_replay.specs.Logging.{record_named, number_named}
 use Rattle.record_tree.specs.declared.tree_change.TreeChange.{TreeChange}
 use Rattle.txn_core.specs.declared.planned.Planned.{Planned}
-use Rattle.txn_core.specs.declared.planned.Planned.TheVariants.{Answered, Logs}
+use Rattle.txn_core.specs.declared.planned.Planned.TheVariants.{Answered, Logs, Fills}
 use Rattle.txn_core.specs.declared.planned_changes.PlannedChanges.{PlannedChanges}
 use Rattle.txn_core.specs.Known.{Known}
 use Rattle.txn_core.specs.Planning.{gone_by}
@@ -32,36 +28,6 @@ use Rattle.txn_core.specs.Planning.{gone_by}
 abbrev pub record_planned : ℕ → RecordChange → TreeChange
 record_planned number (Set at value) = record { db = number; name = at; value = Some value; makes = None }
 record_planned number (Unset at) = record { db = number; name = at; value = None; makes = None }
-
--- how many records there are after one was set, by the data that its name had, and after changes: one is set, or each takes a record out
-abbrev pub records_with : ℕ → Option (List ℕ) → ℕ
-records_with records None = records + 1
-records_with records (Some old) = records
-
-abbrev pub records_by : ℕ → List Row → List RecordChange → ℕ
-records_by records rows (Set at value ∷ []) = records_with records (data_at at rows)
-records_by records rows changes = records - length changes
-
--- the changes of a database's records are to be logged, under its number, which has its width
-pub record LogsRecords (known : Known) (number : ℕ) (changes : List RecordChange) (planned : PlannedChanges) : Type 0 where
-  pub width : number < 2 ^ 32
-  pub rows : planned.changes.items ≡ map (record_planned number) changes
-  pub last_db : planned.last_db ≡ known.last_db
-  pub databases : planned.totals.databases ≡ known.totals.databases
-  pub records : planned.totals.records ≡ records_by known.totals.records (known.rows number) changes
-  pub none_gone : planned.gone ≡ None
-
--- what a call on records comes to, in the database of that number
-abbrev pub IsRecordPlan : Option Answer → Known → ℕ → Evaluated → Planned → Type 0
-IsRecordPlan (Some refusal) known number evaluated planned = planned ≡ Answered refusal
-IsRecordPlan None known number evaluated (Answered answer) = (evaluated.answer ≡ answer) × (evaluated.changes ≡ [])
-IsRecordPlan None known number evaluated (Logs planned) = (evaluated.changes ≢ []) × LogsRecords known number evaluated.changes planned
-
--- and in the database that was found
-abbrev pub IsFoundPlan : Option FoundDb → Known → Call → Planned → Type 0
-IsFoundPlan None known call planned = planned ≡ Answered NoDatabase
-IsFoundPlan (Some db) known call planned =
-    IsRecordPlan (database_refuses db.kind call) known db.number (evaluation db.kind call None (map (pair_of db.kind) (known.rows db.number))) planned
 
 -- ---- the catalog
 
@@ -99,9 +65,17 @@ IsNamed (MakeIndex db index) = IsTrue (is_word db)
 IsNamed (Rename db to) = IsTrue (is_word to)
 IsNamed change = Unit {0}
 
+-- the record of a database that is renamed or emptied has fields of their widths, and so has that of an index that is made
+abbrev pub HasFitting : Rows → Change → Type 0
+HasFitting rows (MakeIndex db index) = IsKind (index_in_catalog (number_named rows index.primary) index.extract)
+HasFitting rows (Rename db to) = Fits (record_named rows db)
+HasFitting rows (Empty db) = Fits (record_named rows db)
+HasFitting rows change = Unit {0}
+
 -- a change of the catalog is to be logged
 pub record LogsCatalog (known : Known) (change : Change) (planned : PlannedChanges) : Type 0 where
   pub named : IsNamed change
+  pub fits : HasFitting known.rows change
   pub makes : Option ℕ
   pub is_next : known.last_db + made_by (change ∷ []) < 2 ^ 32 → makes ≡ number_made (known.last_db + 1) change
   pub rows : planned.changes.items ≡ map (catalog_planned makes) (logged_as (record_named known.rows) (known.last_db + 1) change)
@@ -113,3 +87,4 @@ pub record LogsCatalog (known : Known) (change : Change) (planned : PlannedChang
 abbrev pub IsCatalogPlan : Known → Outcome → Planned → Type 0
 IsCatalogPlan known outcome (Answered answer) = (outcome.answer ≡ answer) × (outcome.changes ≡ [])
 IsCatalogPlan known outcome (Logs planned) = (change : Change) × (more : List Change) × (outcome.changes ≡ change ∷ more) × LogsCatalog known change planned
+IsCatalogPlan known outcome (Fills planned) = ⊥

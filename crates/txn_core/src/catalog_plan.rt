@@ -1,27 +1,30 @@
 // What a call on the catalog comes to.
-ghost use Rattle.std.specs.Prelude.{◌≡◌, ◌+◌, ◌-◌, ◌<◌, ◌^◌, ◌∷◌, true, ℕ, [], map, Some, None, IfOk, length};
+ghost use Rattle.std.specs.Prelude.{◌≡◌, ◌+◌, ◌-◌, ◌<◌, ◌^◌, ◌∷◌, true, ℕ, [], map, Some, None, IfOk, OnOk, length};
 ghost use Rattle.std.specs.Int.{w32, to_be_bytes};
+ghost use Rattle.store_model.specs.Making.{IsWithinLimits};
 ghost use Rattle.store_model.specs.Refusals.{made_by};
 ghost use Rattle.store_model.specs.Evaluation.{plain_name as name_of_key};
-ghost use Rattle.log_replay.specs.Rows.{is_environment, store_of};
+ghost use Rattle.log_replay.specs.Rows.{is_environment, IsRising, store_of};
+ghost use Rattle.log_replay.specs.Kept.{Fits};
 ghost use Rattle.log_replay.specs.Logging.{record_named, number_named};
-ghost use Rattle.db_catalog.specs.Planning.{is_catalog_call, outcome_of};
+ghost use Rattle.db_catalog.specs.Catalog.{IsKind};
+ghost use Rattle.db_catalog.specs.Planning.{index_in_catalog, is_catalog_call, outcome_of};
 ghost use Rattle.txn_core.specs.Known.{committed, known_of};
 ghost use Rattle.txn_core.specs.Planning.{gone_by};
-ghost use Rattle.txn_core.specs.Plans.{catalog_planned, databases_by, number_made, records_without, IsNamed, LogsCatalog, IsCatalogPlan};
+ghost use Rattle.txn_core.specs.Plans.{catalog_planned, databases_by, number_made, records_without, HasFitting, IsNamed, LogsCatalog, IsCatalogPlan};
 
 use crate::catalog_rows::CatalogRows;
 use crate::planned::Planned;
 use crate::planned_changes::PlannedChanges;
 use crate::reading::data_of;
 use crate::walking::{CATALOG, without_db};
-use db_catalog::{CatalogChange, catalog_changes, plan};
+use db_catalog::{CatalogChange, DbRecord, catalog_changes, plan};
 use je_order::{Octets, Word};
 use log_replay::number_of;
 use record_map::SortKey;
 use record_tree::{Records, TreeChange};
 use std::alloc::{AllocError, Global};
-use store_model::{Call, Change, Totals};
+use store_model::{Call, Change, Extract, Index, Totals};
 
 // The name of a database's record.
 fn plain_name(alloc: Global, db: &Word) -> Result<SortKey, AllocError>
@@ -175,7 +178,57 @@ fn see_name(change: &Change)
     }
 }
 
-fn log_catalog<T: Records>(
+// The record of a database has fields of their widths.
+fn see_record<T: Records>(trees: &T, alloc: Global, db: &Word) -> Result<(), AllocError>
+    ensures { OnOk result (Fits (record_named (committed (T.cells trees.now)) db.now)) }
+{
+    let name = plain_name(alloc, db)?;
+    match data_of(trees, CATALOG, &name) {
+        Some(held) => {
+            let _ = DbRecord::from_bytes(held);
+            Ok(())
+        }
+        None => Ok(()),
+    }
+}
+
+fn see_fields(primary: u32, extract: &Extract)
+    requires { IsWithinLimits extract.now }
+    ensures { IsKind (index_in_catalog primary extract.now) }
+{
+    match extract {
+        Extract::ByteSlice { offset, length } => {
+            let _ = (primary, *offset, *length);
+        }
+        Extract::Field { number, separator } => {
+            let _ = (primary, *number, *separator);
+        }
+    }
+}
+
+// The record of an index that is made has fields of their widths.
+fn see_index<T: Records>(trees: &T, alloc: Global, index: &Index) -> Result<(), AllocError>
+    ensures { OnOk result (IsKind (index_in_catalog (number_named (committed (T.cells trees.now)) index.now.primary) index.now.extract)) }
+{
+    let primary = number_under(trees, alloc, &index.primary)?;
+    see_fields(primary, &index.extract);
+    Ok(())
+}
+
+// What a change puts into the catalog has fields of their widths.
+fn see_fitting<T: Records>(trees: &T, alloc: Global, change: &Change) -> Result<(), AllocError>
+    ensures { OnOk result (HasFitting (committed (T.cells trees.now)) change.now) }
+{
+    match change {
+        Change::MakeIndex { index, .. } => see_index(trees, alloc, index),
+        Change::Rename { db, .. } => see_record(trees, alloc, db),
+        Change::Empty { db } => see_record(trees, alloc, db),
+        _ => Ok(()),
+    }
+}
+
+// What logs a change of the catalog.
+pub fn log_catalog<T: Records>(
     catalog: &CatalogRows<'_, T>,
     alloc: Global,
     totals: Totals,
@@ -185,6 +238,7 @@ fn log_catalog<T: Records>(
     ensures { IfOk result (LogsCatalog (known_of (T.cells catalog.now.trees.now) totals last_db) change.now) }
 {
     see_name(change);
+    see_fitting(catalog.trees, alloc, change)?;
     let databases = databases_after(totals.databases, change)?;
     let gone = gone_with(catalog.trees, alloc, change)?;
     let records = records_left(catalog.trees, totals.records, gone);
@@ -210,6 +264,7 @@ pub fn plan_catalog<T: Records>(
     call: &Call,
 ) -> Result<Planned, AllocError>
     requires environment { is_environment (committed (T.cells trees.now)) ≡ true }
+    requires rising { IsRising (committed (T.cells trees.now) 0) }
     requires count { totals.databases ≡ length (committed (T.cells trees.now) 0) }
     requires call { is_catalog_call call.now ≡ true }
     ensures { IfOk result (IsCatalogPlan (known_of (T.cells trees.now) totals last_db) (outcome_of call.now (store_of (committed (T.cells trees.now))))) }

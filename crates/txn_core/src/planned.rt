@@ -9,4 +9,7 @@ pub enum Planned {
     Answered(Answer),
     /// Changes to log, at least one. Room in the log and the last database number are not asked yet.
     Logs(PlannedChanges),
+    /// Changes to log that make an index and fill it: that of the catalog, and one for each pair, in order of their names.
+    /// Room in the log and the last database number are not asked yet.
+    Fills(PlannedChanges),
 }

@@ -1,19 +1,19 @@
-// What a call comes to.
+// What a call on the catalog comes to.
 ghost use Rattle.std.specs.Prelude.{ℕ, IfOk};
-ghost use Rattle.je_answers.specs.Alone.{Alone, IsAutoCommitted};
+ghost use Rattle.je_answers.specs.Alone.{Alone};
 ghost use Rattle.txn_core.specs.Known.{known_of};
-ghost use Rattle.txn_core.specs.Planning.{CanPlan, HasModel, IsPlanned};
+ghost use Rattle.txn_core.specs.Planning.{CanPlan, HasModel, IsCatalogCall, IsPlanned};
 
 use crate::catalog_plan::plan_catalog;
+use crate::index_plan::plan_filled;
 use crate::planned::Planned;
-use crate::record_plan::plan_records;
 use record_tree::Records;
 use std::alloc::{AllocError, Global};
 use store_model::{Call, Totals};
 
-/// What a call of a valid environment comes to that is a transaction of its own, from the committed records of its trees,
-/// how much they hold, and the database number allocated last. Room in the log and the last database number are not
-/// asked. An index is not made yet: that call ends as where memory is out, which is the only error.
+/// What a call on the catalog of a valid environment comes to, which is a transaction of its own, from the committed records
+/// of its trees, how much they hold, and the database number allocated last. Room in the log and the last database number
+/// are not asked. An index is filled with the pairs of its primary's records, which it goes over. The only error is out of memory.
 pub fn plan<T: Records>(
     trees: &T,
     alloc: Global,
@@ -22,7 +22,7 @@ pub fn plan<T: Records>(
     call: &Call,
 ) -> Result<Planned, AllocError>
     requires can { CanPlan (known_of (T.cells trees.now) totals last_db) }
-    requires call { IsAutoCommitted call.now }
+    requires call { IsCatalogCall call.now }
     ensures { (p : Alone) (session : ℕ) → HasModel (known_of (T.cells trees.now) totals last_db) p
         → IfOk result (IsPlanned (known_of (T.cells trees.now) totals last_db) p session call.now) }
 {
@@ -32,11 +32,7 @@ pub fn plan<T: Records>(
         | Call::Remove { .. }
         | Call::Rename { .. }
         | Call::Truncate { .. } => plan_catalog(trees, alloc, totals, last_db, call),
-        Call::Get { db, .. } => plan_records(trees, alloc, totals, last_db, db, call),
-        Call::GetBoth { db, .. } => plan_records(trees, alloc, totals, last_db, db, call),
-        Call::Put { db, .. } => plan_records(trees, alloc, totals, last_db, db, call),
-        Call::Delete { db, .. } => plan_records(trees, alloc, totals, last_db, db, call),
-        Call::CreateIndex { .. } => Err(AllocError),
+        Call::CreateIndex { db, index } => plan_filled(trees, alloc, totals, last_db, db, index),
         _ => unreachable!(),
     }
 }

@@ -15,8 +15,8 @@ use je_order::TxnId;
 use record_tree::{Records, TreeChange, TreeErr, TreeName};
 use std::alloc::{AllocError, Global};
 
-// The names that the changes change.
-fn changed_names(alloc: Global, changes: &[TreeChange]) -> Result<Vec<TreeName>, AllocError>
+/// The names that the changes change.
+pub fn changed_names(alloc: Global, changes: &[TreeChange]) -> Result<Vec<TreeName>, AllocError>
     ensures { IfOk result (λ names. names.items ≡ changed_names changes.now) }
 {
     let mut names = Vec::new(alloc);
@@ -43,8 +43,9 @@ fn drop_gone<T: Records>(trees: &mut T, gone: Option<u32>)
     }
 }
 
-// Commits the changes of these names, which are those of the transaction, and drops the tree that goes.
-fn commit_names<T: Records>(
+/// Commits the changes of these names, which are those of the transaction, logs its Commit, for which there is room, and drops the tree of the
+/// database that goes. The one error is Fault.
+pub fn commit_names<T: Records>(
     trees: &mut T,
     txn: TxnId,
     names: &[TreeName],

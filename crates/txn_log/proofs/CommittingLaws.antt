@@ -28,7 +28,7 @@ use Rattle.log_replay.proofs.LoggedLaws.{IsSound}
 use Rattle.log_replay.proofs.MapRows.{lookup_is_data}
 use Rattle.log_replay.proofs.NameLaws.{found-with}
 use Rattle.log_replay.proofs.RowLaws.{plain_name-key, rising_head, rising_tail}
-use Rattle.log_replay.proofs.StoreLaws.{IsCase, IsEnvironment, catalog_cases, catalog_plain, environment_from, environment_parts, key_of_row, number_of_row, row_changed-there, row_named}
+use Rattle.log_replay.proofs.StoreLaws.{IsCase, IsEnvironment, catalog_cases, catalog_plain, environment_from, environment_parts, primaries_in, key_of_row, number_of_row, row_changed-there, row_named}
 use Rattle.log_replay.proofs.TransactionLaws.{IsLeft, left, records_are_logged, records_may_be_logged}
 use Rattle.log_trees.proofs.Bounds.{eq_turned}
 use Rattle.record_tree.specs.Logged.{is_change_of, last_change, value_changed}
@@ -200,6 +200,7 @@ all_none (x ∷ xs) = (refl, all_none xs)
 sound_of : (rows : Rows) (last_db : ℕ) (st : Standing) → MakesStore rows last_db st → IsSound rows last_db
 sound_of rows last_db st makes = record {
   environment = environment_parts rows makes.environment;
+  primaries = primaries_in rows makes.environment;
   rising = makes.rising;
   unused = makes.unused;
   numbers = all_of_map number_of_row (λ n. n ≤ last_db) (rows 0) makes.numbers;
@@ -223,7 +224,7 @@ own_may_be_committed rows last_db st own makes may =
     record {
       leaves = record {
         rising = sound.rising;
-        environment = environment_from after sound.environment;
+        environment = environment_from after sound.environment sound.primaries;
         unused = sound.unused;
         numbers = all_to_map number_of_row (λ n. n ≤ last_db) (after 0) sound.numbers;
         grows = omega arith;

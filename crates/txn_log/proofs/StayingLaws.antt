@@ -9,7 +9,8 @@ use Rattle.je_order.proofs.Orderings.{equal_from_test, name_exact}
 use Rattle.db_catalog.specs.declared.catalog_change.CatalogChange.{CatalogChange}
 use Rattle.db_catalog.specs.declared.catalog_change.CatalogChange.TheVariants.{Put as PutRecord, Delete as DeleteRecord}
 use Rattle.db_catalog.specs.declared.db_record.DbRecord.{DbRecord}
-use Rattle.db_catalog.specs.Planning.{logged_as, moved, renewed}
+use Rattle.store_model.specs.declared.index.Index.{Index}
+use Rattle.db_catalog.specs.Planning.{logged_as, moved, renewed, indexed}
 use Rattle.store_model.specs.declared.change.Change.{Change}
 use Rattle.store_model.specs.declared.change.Change.TheVariants.{Set as SetIn, Unset as UnsetIn, Make, MakeIndex, Remove, Rename, Empty}
 use Rattle.store_model.specs.declared.kind.Kind.{Kind}
@@ -88,6 +89,10 @@ renewed_apart : (name db : List ℕ) (number : ℕ) (o : Option DbRecord) → Is
 renewed_apart name db number None one = tt
 renewed_apart name db number (Some r) one = (one, tt)
 
+indexed_apart : (name db : List ℕ) (number : ℕ) (index : Index) (o : Option DbRecord) → IsApart name db → AllByRecursion (λ c. IsApart name (name_in c)) (indexed db number index.extract o)
+indexed_apart name db number index None one = tt
+indexed_apart name db number index (Some r) one = (one, tt)
+
 -- a change of another database leaves the record of a name
 record_stays : (rows : Rows) (last_db : ℕ) (change : Change) (name : List ℕ) → number_named rows name ≢ 0 → MayBeLogged rows last_db change → IsElsewhere rows change (number_named rows name) →
     data_at (plain_name name) (rows_changed (row_changes 0 last_db change rows) rows 0) ≡ data_at (plain_name name) (rows 0)
@@ -97,7 +102,9 @@ record_stays rows last_db (UnsetIn db at) name has may other =
     ap (data_at (plain_name name)) (row_changed-there (record { txn = 0; db = number_named rows db; name = at; value = None }) rows 0 (λ e. may.0 (sym e)))
 record_stays rows last_db (Make db kind) name has may other =
     changed_elsewhere name (logged_as (record_named rows) (last_db + 1) (Make db kind)) rows (apart_of rows name db (λ e. has (sym e ∙ may.0)), tt)
-record_stays rows last_db (MakeIndex db index) name has may other = absurd may
+record_stays rows last_db (MakeIndex db index) name has may other =
+    changed_elsewhere name (logged_as (record_named rows) (last_db + 1) (MakeIndex db index)) rows
+    (indexed_apart name db (last_db + 1) index (record_named rows index.primary) (apart_of rows name db (λ e. has (sym e ∙ may.0))))
 record_stays rows last_db (Remove db) name has may other =
     changed_elsewhere name (logged_as (record_named rows) (last_db + 1) (Remove db)) rows (apart_of rows name db other, tt)
 record_stays rows last_db (Rename db to) name has may other =

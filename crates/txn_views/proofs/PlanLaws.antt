@@ -23,11 +23,12 @@ use Rattle.je_answers.specs.Standing.{Standing}
 use Rattle.je_answers.specs.Views.{Target, changes_with, needs_in, outcome_of, view_in, occupied_in, with_numbers}
 use Rattle.log_replay.specs.Rows.{pair_of}
 use Rattle.txn_views.specs.Seen.{seen_rows}
+use Rattle.index_map.specs.Laws.{over_of, indexes_at, known}
 use Rattle.record_tree.specs.Occupied.{AllCells}
 use Rattle.txn_views.specs.declared.found_target.FoundTarget.{FoundTarget}
 use Rattle.txn_views.specs.declared.outcome_plan.OutcomePlan.{OutcomePlan}
 use Rattle.txn_views.specs.declared.target_plan.TargetPlan.{TargetPlan}
-use Rattle.txn_views.specs.Targets.{AreSeenAs, IsFoundTarget, IsOutcomeIn, IsOutcomePlan, IsPlanIn, IsTargetPlan, OutcomesAreModels, PlansAreModels, found_at, over_of, indexes_at, seen_in, names_in, found_changes, known, IsSeenAs, with_found_numbers}
+use Rattle.txn_views.specs.Targets.{AreSeenAs, IsFoundTarget, IsOutcomeIn, IsOutcomePlan, IsPlanIn, IsTargetPlan, OutcomesAreModels, PlansAreModels, found_at, seen_in, names_in, found_changes, IsSeenAs, with_found_numbers}
 
 -- two databases, of which one is what a plan knows, in two views
 record Same (see see' : Numbered → List Pair) (occ occ' : Numbered → List Name) (d e : Numbered) : Type 0 where

@@ -26,11 +26,12 @@ use Rattle.cursor_je.specs.Reaches.{read_needs, read_unless}
 use Rattle.log_replay.specs.Rows.{Row, are_right, pair_of, row_at, data_at}
 use Rattle.log_replay.proofs.RowLaws.{pair_at-rows}
 use Rattle.db_catalog.specs.declared.found_db.FoundDb.{FoundDb}
-use Rattle.txn_views.specs.declared.found_index.FoundIndex.{FoundIndex}
+use Rattle.index_map.specs.declared.found_index.FoundIndex.{FoundIndex}
 use Rattle.txn_views.specs.declared.found_target.FoundTarget.{FoundTarget}
 use Rattle.txn_views.specs.declared.db_change.DbChange.{DbChange}
 use Rattle.txn_views.specs.Seen.{seen_rows}
-use Rattle.txn_views.specs.Targets.{index_at, over_of, found_at, indexes_at, seen_in, names_in, IsReadable, changing_at, found_change, found_changes, pairs_in, indexes_with, needs_for, evaluated_at}
+use Rattle.index_map.specs.Laws.{index_at, over_of, indexes_at}
+use Rattle.txn_views.specs.Targets.{found_at, seen_in, names_in, IsReadable, changing_at, found_change, found_changes, pairs_in, indexes_with, needs_for, evaluated_at}
 
 -- ---- what comes with a change
 

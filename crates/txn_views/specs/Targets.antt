@@ -22,30 +22,16 @@ use Rattle.je_answers.specs.Standing.{Standing}
 use Rattle.je_answers.specs.Views.{Target, view_in, occupied_in, changes_with, with_numbers, outcome_of, needs_in}
 use Rattle.log_replay.specs.Rows.{are_right, pair_of}
 use Rattle.db_catalog.specs.declared.found_db.FoundDb.{FoundDb}
-use Rattle.txn_views.specs.declared.found_index.FoundIndex.{FoundIndex}
+use Rattle.index_map.specs.Laws.{db_at, index_at, indexes_at, known, over_of}
 use Rattle.txn_views.specs.declared.found_target.FoundTarget.{FoundTarget}
 use Rattle.txn_views.specs.declared.db_change.DbChange.{DbChange}
 use Rattle.txn_views.specs.declared.outcome_plan.OutcomePlan.{OutcomePlan}
 use Rattle.txn_views.specs.declared.target_plan.TargetPlan.{TargetPlan}
 use Rattle.txn_views.specs.Seen.{seen_rows}
 
--- ---- databases by what a plan knows of them: a number and a kind, and which key an index has
-
-abbrev pub db_at : ℕ → Kind → Numbered
-db_at number kind = (number, record { name = []; kind = kind; index = None; pairs = [] })
-
-abbrev pub index_at : FoundIndex → Numbered
-index_at i = (i.number, record { name = []; kind = Dup; index = Some (record { primary = []; extract = i.extract }); pairs = [] })
-
--- the primary, if the database is an index; the database; and the indexes
-abbrev pub over_of : Option ℕ → Option Numbered
-over_of over = option_map (λ number. db_at number Plain) over
-
+-- a database by what a plan knows of it
 abbrev pub found_at : FoundDb → Numbered
 found_at db = db_at db.number db.kind
-
-abbrev pub indexes_at : List FoundIndex → List Numbered
-indexes_at indexes = map index_at indexes
 
 -- ---- what a transaction sees in them
 
@@ -122,10 +108,6 @@ pub record IsOutcomePlan (level : Isolation) (txn : TxnId) (cells : AllCells) (f
       (evaluated_at level txn cells found call None).changes))
 
 -- ---- the target of a call in a standing
-
--- what a plan knows of a database
-abbrev pub known : Numbered → Numbered
-known d = (d.0, record { name = []; kind = d.1.kind; index = option_map (λ i. record { primary = []; extract = i.extract }) d.1.index; pairs = [] })
 
 -- the databases that were found are those of a target
 pub record IsFoundTarget (g : Target) (found : FoundTarget) : Type 0 where

@@ -8,7 +8,8 @@ ghost use Rattle.store_model.specs.Store.{named, changed_name, data_after as dat
 ghost use Rattle.store_model.specs.Indexes.{data_under as data_of, with_indexes, changed_through, all_changes as all_with};
 ghost use Rattle.log_replay.specs.Rows.{are_right, pair_of};
 ghost use Rattle.txn_views.specs.Seen.{seen_rows};
-ghost use Rattle.txn_views.specs.Targets.{index_at, indexes_at, found_at, changing_at, over_of, seen_in, found_changes, pairs_in, indexes_with, AreReadable};
+ghost use Rattle.index_map.specs.Laws.{index_at, indexes_at, over_of};
+ghost use Rattle.txn_views.specs.Targets.{found_at, changing_at, seen_in, found_changes, pairs_in, indexes_with, AreReadable};
 
 use crate::viewer::Viewer;
 use crate::{DbChange, FoundIndex, FoundTarget, reading};

@@ -8,7 +8,6 @@
 #![tactic(auto)]
 
 mod db_change;
-mod found_index;
 mod found_target;
 mod indexing;
 mod laws;
@@ -20,8 +19,8 @@ mod txn_rows;
 mod viewer;
 
 pub use db_change::DbChange;
-pub use found_index::FoundIndex;
 pub use found_target::FoundTarget;
+pub use index_map::FoundIndex;
 pub use laws::{
     changes_are_right, drops_leave_writes, ends_leave_writes, free_names_may_be_written,
     nobody_writes, none_is_last, outcomes_are_models, plans_are_models, views_are_seen,

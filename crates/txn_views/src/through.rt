@@ -9,7 +9,8 @@ ghost use Rattle.store_model.specs.Indexes.{index_answer, answer_through};
 ghost use Rattle.store_model.specs.Needs.{record_needs};
 ghost use Rattle.cursor_je.specs.Reaches.{part_in};
 ghost use Rattle.txn_views.specs.declared.db_change.DbChange.{DbChange as Changed};
-ghost use Rattle.txn_views.specs.Targets.{db_at, over_of, seen_in, needs_for, with_found_numbers, IsReadable, AreReadable, IsOutcomePlan, IsTargetPlan};
+ghost use Rattle.index_map.specs.Laws.{db_at, over_of};
+ghost use Rattle.txn_views.specs.Targets.{seen_in, needs_for, with_found_numbers, IsReadable, AreReadable, IsOutcomePlan, IsTargetPlan};
 
 use crate::indexing::{all_changes, data_under};
 use crate::txn_rows::TxnRows;

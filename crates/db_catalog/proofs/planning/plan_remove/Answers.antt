@@ -1,6 +1,5 @@
 use Rattle.std.proofs.Common.{rules}
-use Rattle.db_catalog.proofs.PlanningLaws.{removed_there}
 use Rattle.db_catalog.proofs.planning.plan_remove.Goals as goal
 
 pub returns : goal.returns
-returns g c = search (rules, removed_there c.args.db.now (g.V.CatalogView.seen c.args.view.now) (g.V.CatalogView.plain c.args.view.now))
+returns g c = search rules

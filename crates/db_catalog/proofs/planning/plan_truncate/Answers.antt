@@ -1,6 +1,11 @@
-use Rattle.std.proofs.Common.{rules}
-use Rattle.db_catalog.proofs.PlanningLaws.{emptied_there}
+use Rattle.std.proofs.Common.{◌∙◌}
+use Rattle.je_order.proofs.Results.{if_ok}
+use Rattle.db_catalog.proofs.PlanningLaws.{truncated}
 use Rattle.db_catalog.proofs.planning.plan_truncate.Goals as goal
 
 pub returns : goal.returns
-returns g c = search (rules, emptied_there c.args.db.now (g.V.CatalogView.seen c.args.view.now) (g.V.CatalogView.plain c.args.view.now))
+returns g c =
+    let view = c.args.view.now in
+    if_ok c.truncate_by.result
+    (λ plan is. is ∙ truncated (g.V.CatalogView.seen view) (g.V.CatalogView.record_of view) (g.V.CatalogView.laws view) c.args.db.now)
+    c.truncate_by.ensures

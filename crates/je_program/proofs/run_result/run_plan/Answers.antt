@@ -11,12 +11,12 @@ use Rattle.je_program.specs.Crash.{IsSafeProgram}
 use Rattle.je_program.specs.Program.{EndsBy, ClosesRun, IsRunOf, RunsIf, cause_of_opening, is_before_disk}
 use Rattle.script_run.specs.Lines.{AreFirstLines, of_maintenance, of_session}
 use Rattle.je_program.proofs.BeginLaws.{beginning, begins, opened_as_one, starts_valid}
-use Rattle.je_program.proofs.FinishLaws.{done_acknowledged, done_is_no_memory, ran_cause, runs_if, ran_after_reading, ran_not_unreadable, ends_by, memory_left}
+use Rattle.je_program.proofs.FinishLaws.{done_acknowledged, done_is_no_memory, ran_cause, runs_if, ran_after_reading, ran_not_unreadable, ran_not_wrong, ends_by, memory_left}
 use Rattle.script_run.proofs.Pushed.{bounded_far, caused_earlier, synced_all}
 use Rattle.je_program.specs.declared.cause.Cause.{Cause}
 use Rattle.je_program.specs.Untouched.{LeavesUnreadable}
-use Rattle.je_program.proofs.ReplayLaws.{run_never_cycles, run_replays}
-use Rattle.je_program.proofs.StopLaws.{stopped_after_reading, stopped_caused, stopped_failed, stopped_numbers, stopped_runs, stopped_unreadable}
+use Rattle.je_program.proofs.ReplayLaws.{run_fronts_indexed, run_never_cycles, run_replays, run_stays_indexed}
+use Rattle.je_program.proofs.StopLaws.{stopped_after_reading, stopped_caused, stopped_failed, stopped_numbers, stopped_runs, stopped_unreadable, stopped_wrong}
 use Rattle.je_program.proofs.UntouchedLaws.{ran_alone, stopped_alone}
 use Rattle.je_program.proofs.run_result.run_plan.Goals as goal
 
@@ -67,6 +67,7 @@ returns-in-Ok-clause-run g c = λ is_opened.
       stable = (one.safe observed).stable;
       before = c.in-Ok.ensures.entry observed;
       run = f.ensures.crash observed p under;
+      indexed = run_fronts_indexed observable (now old).reads opening st under.running.limits journal one.starts under.running.answers;
       ends = λ done. f.ensures.crash_end observed p under valid done;
     } in
     let run : IsRunOf most observable old new opening totals journal cause st = record {
@@ -75,6 +76,7 @@ returns-in-Ok-clause-run g c = λ is_opened.
       answers = under.running.answers;
       replays = run_replays observable (now old).reads opening st under.running.limits journal one.starts under.running.answers;
       no_cycle = run_never_cycles observable (now old).reads opening st under.running.limits journal one.starts under.running.answers;
+      indexes = run_stays_indexed observable (now old).reads opening st under.running.limits journal one.starts under.running.answers;
       bounded = bounded_far p.first (reach_in one.starts.held one.starts.meaning) st journal under.running.limits one.reach under.running.bounded;
       synced_at_once = synced;
       in_order = under.running.ordered;
@@ -99,6 +101,11 @@ pub returns-in-Ok-clause-unreadable : goal.returns-in-Ok-clause-unreadable
 returns-in-Ok-clause-unreadable g c = λ corruption is observed.
     let f = c.finish in
     absurd (ran_not_unreadable f.result.cause corruption (ran_cause c.run-running.result.recorded.journal.items c.run-running.result.memory_ended f.result.cause f.ensures.memory f.ensures.ends) is)
+
+pub returns-in-Ok-clause-wrong_index : goal.returns-in-Ok-clause-wrong_index
+returns-in-Ok-clause-wrong_index g c = λ name is observed.
+    let f = c.finish in
+    absurd (ran_not_wrong f.result.cause name (ran_cause c.run-running.result.recorded.journal.items c.run-running.result.memory_ended f.result.cause f.ensures.memory f.ensures.ends) is)
 
 pub returns-in-Ok-clause-ids_ended : goal.returns-in-Ok-clause-ids_ended
 returns-in-Ok-clause-ids_ended g c = λ is none observed.
@@ -170,6 +177,11 @@ returns-in-Err-clause-after_reading g c = ap is_before_disk (c.unopened.ensures.
 pub returns-in-Err-clause-unreadable : goal.returns-in-Err-clause-unreadable
 returns-in-Err-clause-unreadable g c = λ corruption is observed.
     stopped_unreadable g.D.Disk.observable (now (g.D.Disk.history c.args.disk)).reads (g.D.Disk.faults c.args.disk) (g.D.Disk.faults c.in-Err.field-0.disk) c.in-Err.field-0.error corruption
+    c.in-Err.ensures.stopped (sym (c.unopened.ensures.cause ∙ c.opening_cause-cause.ensures) ∙ is) observed
+
+pub returns-in-Err-clause-wrong_index : goal.returns-in-Err-clause-wrong_index
+returns-in-Err-clause-wrong_index g c = λ name is observed.
+    stopped_wrong g.D.Disk.observable (now (g.D.Disk.history c.args.disk)).reads (g.D.Disk.faults c.args.disk) (g.D.Disk.faults c.in-Err.field-0.disk) c.in-Err.field-0.error name
     c.in-Err.ensures.stopped (sym (c.unopened.ensures.cause ∙ c.opening_cause-cause.ensures) ∙ is) observed
 
 pub returns-in-Err-clause-caused : goal.returns-in-Err-clause-caused

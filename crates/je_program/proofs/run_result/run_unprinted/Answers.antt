@@ -32,6 +32,9 @@ returns-in-Ok-clause-unopened g c = c.run_plan.ensures.unopened
 pub returns-in-Ok-clause-unreadable : goal.returns-in-Ok-clause-unreadable
 returns-in-Ok-clause-unreadable g c = c.run_plan.ensures.unreadable
 
+pub returns-in-Ok-clause-wrong_index : goal.returns-in-Ok-clause-wrong_index
+returns-in-Ok-clause-wrong_index g c = c.run_plan.ensures.wrong_index
+
 pub returns-in-Ok-clause-ids_ended : goal.returns-in-Ok-clause-ids_ended
 returns-in-Ok-clause-ids_ended g c = c.run_plan.ensures.ids_ended
 

@@ -3,8 +3,8 @@ use Rattle.je_disk.specs.Moments.{now}
 use Rattle.je_disk.specs.States.{State, IsListing}
 use Rattle.log_meaning.specs.Reading.{reading_of}
 use Rattle.log_replay.proofs.UnchangedMoments.{passes_again}
-use Rattle.recovery_je.specs.Answer.{IsReadingOf, HasFiles}
-use Rattle.recovery_je.proofs.AnswerLaws.{has_files, ok_weaker, corrupt_weaker, on_ok_to, cause_then}
+use Rattle.recovery_je.specs.Answer.{IsReadingOf, HasFiles, HasWrongIndex}
+use Rattle.recovery_je.proofs.AnswerLaws.{has_files, ok_weaker, corrupt_weaker, index_weaker, on_ok_to, cause_then}
 use Rattle.recovery_je.proofs.recovery.recover_disk.Goals as goal
 
 pub returns-clause-same : goal.returns-clause-same
@@ -42,3 +42,14 @@ returns-clause-corrupt g c =
     (λ f is. has_files observable before mid files (λ held. reading_of held ≡ Err f) (λ t. ap (λ (s : State). s.reads) (c.in_ok-files.ensures.same t))
     (λ t. subst (IsListing before) (sym c.deref.ensures.value) (c.in_ok-files.ensures.listed t)) is)
     c.recover.ensures.corrupt
+
+pub returns-clause-index : goal.returns-clause-index
+returns-clause-index g c =
+    let observable = g.D.Disk.observable in
+    let before = (now (g.D.Disk.history c.args.disk.now)).reads in
+    let mid = (now (g.D.Disk.history c.list_files.new.disk)).reads in
+    let files = c.deref.result.now in
+    index_weaker (λ name. IsReadingOf observable mid files (HasWrongIndex name)) (λ name. HasFiles observable before (HasWrongIndex name)) c.recover.result
+    (λ name is. has_files observable before mid files (HasWrongIndex name) (λ t. ap (λ (s : State). s.reads) (c.in_ok-files.ensures.same t))
+    (λ t. subst (IsListing before) (sym c.deref.ensures.value) (c.in_ok-files.ensures.listed t)) is)
+    c.recover.ensures.index

@@ -1,6 +1,10 @@
 use Rattle.std.proofs.Common.{◌∙◌, ap, sym, length, sum_by}
 use Rattle.recovery_je.proofs.MeaningLaws.{settled}
+use Rattle.recovery_je.proofs.CheckLaws.{right_rows}
 use Rattle.recovery_je.proofs.settling.settle_right.Goals as goal
+
+pub wrong_index-requires : goal.wrong_index-requires
+wrong_index-requires g c = right_rows (g.T.Loads.stored c.args.trees) c.requires.right
 
 pub returns-clause-settled : goal.returns-clause-settled
 returns-clause-settled g c redo holds =

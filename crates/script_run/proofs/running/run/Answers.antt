@@ -1,4 +1,7 @@
-use Rattle.std.proofs.Common.{List, sym, subst}
+use Rattle.std.proofs.Common.{ℕ, List, [], Bool, true, false, nat_lt, ◌≡◌, ◌⊎◌, inl, inr, refl, sym, subst, arith}
+use Rattle.std.specs.Prelude.{slice_index_or}
+use Rattle.std.proofs.lemmas.Bool.{ltb-true, ltb-false}
+use Rattle.script_run.specs.Lines.{HasGiven}
 use Rattle.store_model.specs.declared.event.Event.{Event}
 use Rattle.script_run.specs.Ends.{AreEndsStopped}
 use Rattle.script_run.specs.declared.recorded.Recorded.{Recorded}
@@ -15,6 +18,23 @@ execute_all-requires-clause-here g c =
       started g.D.Disk.observable g.D.Disk.history g.D.Disk.faults s.0 x none s.1,
       λ halted. starts_calm g.D.Disk.observable g.D.Disk.history g.D.Disk.faults s.0 x none s.1,
     )
+
+pub execute_all-requires-clause-given : goal.execute_all-requires-clause-given
+execute_all-requires-clause-given g c =
+    subst (λ (journal : List Event). HasGiven journal false c.all_sessions.result false []) (sym c.journal_for.ensures)
+    (record {
+      all = λ going. refl;
+      none_stopped = λ going session. by session (nat_lt session 256) refl;
+      each = λ session going. refl;
+      front = λ session. ([], refl);
+      steps_going = λ going. refl;
+      steps = λ going. refl;
+      front_steps = ([], refl);
+    })
+  where
+    by : (session : ℕ) → (b : Bool) → nat_lt session 256 ≡ b → slice_index_or c.all_sessions.result session false ≡ false
+    by session true is = c.all_sessions.ensures.each session (ltb-true session 256 is)
+    by session false is = c.all_sessions.ensures.past session (ltb-false session 256 is)
 
 pub end_sessions-requires-clause-here : goal.end_sessions-requires-clause-here
 end_sessions-requires-clause-here g c =

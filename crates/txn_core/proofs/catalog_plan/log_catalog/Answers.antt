@@ -7,6 +7,7 @@ use Rattle.txn_core.proofs.catalog_plan.log_catalog.Goals as goal
 pub returns : goal.returns
 returns g c = record {
   named = c.see_name.ensures;
+  fits = c.in_ok-see_fitting.ensures;
   makes = c.number_made_by-makes.result;
   is_next = c.number_made_by-makes.ensures;
   rows = logs_next c.number_made_by-makes.result (record_named (committed (g.T.Records.cells c.args.catalog.now.trees.now))) c.next_number-number.result (c.args.last_db + 1)

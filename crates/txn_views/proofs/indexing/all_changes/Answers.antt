@@ -3,7 +3,8 @@ use Rattle.std.specs.Vec.Iter.{into_iter_items}
 use Rattle.store_model.specs.Store.{Pair}
 use Rattle.store_model.specs.Indexes.{Numbered, all_changes}
 use Rattle.store_model.specs.declared.record_change.RecordChange.{RecordChange}
-use Rattle.txn_views.specs.Targets.{over_of, found_at, indexes_at, seen_in, found_changes}
+use Rattle.index_map.specs.Laws.{over_of, indexes_at}
+use Rattle.txn_views.specs.Targets.{found_at, seen_in, found_changes}
 use Rattle.txn_views.proofs.TargetLaws.{one_more}
 use Rattle.txn_views.proofs.indexing.all_changes.Goals as goal
 

@@ -1,7 +1,8 @@
 use Rattle.std.proofs.Common.{◌≡◌, ◌++◌}
 use Rattle.std.specs.Vec.Iter.{into_iter_items}
 use Rattle.store_model.specs.Indexes.{all_changes}
-use Rattle.txn_views.specs.Targets.{over_of, found_at, indexes_at, seen_in, found_changes}
+use Rattle.index_map.specs.Laws.{over_of, indexes_at}
+use Rattle.txn_views.specs.Targets.{found_at, seen_in, found_changes}
 use Rattle.txn_views.proofs.indexing.all_changes.Given as goal
 
 -- the changes so far and those that come with the ones that are left are all

@@ -1,6 +1,7 @@
 use Rattle.std.proofs.Common.{◌≡◌, ◌++◌, drop, flat_map}
 use Rattle.std.specs.Option.{option_copied}
-use Rattle.txn_views.specs.Targets.{indexes_at, found_changes, pairs_in}
+use Rattle.index_map.specs.Laws.{indexes_at}
+use Rattle.txn_views.specs.Targets.{found_changes, pairs_in}
 use Rattle.txn_views.proofs.indexing.push_all_pairs.Given as goal
 
 -- the changes so far and those of the indexes that are left are all

@@ -1,6 +1,7 @@
 use Rattle.std.proofs.Common.{List, map, ap, ◌++◌, ◌∙◌}
 use Rattle.store_model.specs.declared.record_change.RecordChange.{RecordChange}
-use Rattle.txn_views.specs.Targets.{index_at, found_changes}
+use Rattle.index_map.specs.Laws.{index_at}
+use Rattle.txn_views.specs.Targets.{found_changes}
 use Rattle.txn_views.proofs.indexing.push_pairs.Goals as goal
 
 pub loop-change-init : goal.loop-change-init

@@ -1,7 +1,8 @@
 use Rattle.std.proofs.Common.{◌≡◌, ◌++◌, map}
 use Rattle.std.specs.Option.{option_copied}
 use Rattle.std.specs.Vec.Iter.{into_iter_items}
-use Rattle.txn_views.specs.Targets.{index_at, found_changes, pairs_in}
+use Rattle.index_map.specs.Laws.{index_at}
+use Rattle.txn_views.specs.Targets.{found_changes, pairs_in}
 use Rattle.txn_views.proofs.indexing.push_pairs.Given as goal
 
 -- the changes so far and those of the pairs that are left are all

@@ -3,7 +3,8 @@ use Rattle.record_tree.specs.Occupied.{AllCells}
 use Rattle.store_model.specs.Store.{Pair}
 use Rattle.store_model.specs.Records.{Evaluated}
 use Rattle.store_model.specs.Indexes.{Numbered, all_changes, answer_through}
-use Rattle.txn_views.specs.Targets.{over_of, found_at, indexes_at, seen_in, found_changes, with_found_numbers}
+use Rattle.index_map.specs.Laws.{over_of, indexes_at}
+use Rattle.txn_views.specs.Targets.{found_at, seen_in, found_changes, with_found_numbers}
 use Rattle.txn_views.proofs.through.plan_outcome.Goals as goal
 
 pub returns : goal.returns

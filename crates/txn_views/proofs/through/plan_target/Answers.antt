@@ -7,7 +7,8 @@ use Rattle.store_model.specs.Records.{Evaluated}
 use Rattle.store_model.specs.Indexes.{Numbered, all_changes, answer_through}
 use Rattle.cursor_je.specs.Looks.{planned_in}
 use Rattle.cursor_je.specs.Reaches.{part_in}
-use Rattle.txn_views.specs.Targets.{over_of, found_at, indexes_at, changing_at, seen_in, found_changes, with_found_numbers}
+use Rattle.index_map.specs.Laws.{over_of, indexes_at}
+use Rattle.txn_views.specs.Targets.{found_at, changing_at, seen_in, found_changes, with_found_numbers}
 use Rattle.txn_views.proofs.TargetLaws.{InReadable, changing_is, readable_changing, all_readable, target_needs}
 use Rattle.txn_views.proofs.through.plan_target.Goals as goal
 

@@ -1,6 +1,7 @@
-use Rattle.std.proofs.Common.{◌∙◌}
+use Rattle.std.proofs.Common.{◌∙◌, subst, sym}
 use Rattle.db_tree.proofs.PlaceLaws.{cell_moved, few_placed, raised_is}
 use Rattle.db_tree.proofs.WaitingNodes.{split_low, split_high}
+use Rattle.db_tree.specs.Notes.{AreUnnotedSince}
 use Rattle.db_tree.proofs.tree.DbTree.place_waiting.Goals as goal
 
 pub returns-then-not-is_raised-clause-cell : goal.returns-then-not-is_raised-clause-cell
@@ -25,3 +26,9 @@ pub returns-clause-split : goal.returns-clause-split
 returns-clause-split c =
     split_high c.args.first c.args.splits.now c.args.self.now.levels c.grow.new.self.levels c.put_cell.new.self.levels c.wait_each.new.self.levels c.wait.new.self.levels c.height.result _ c.height.ensures.value c.if-not-is_raised.false c.height-grown.ensures.parts
     c.in_ok-grow.ensures.grown c.in_ok-grow.ensures.lows c.in_ok-grow.ensures.numbers c.in-Ok.ensures.levels c.wait_each.ensures.waiting c.in_ok-root.ensures c.wait.ensures.waiting
+
+pub returns-then-not-is_raised-clause-since : goal.returns-then-not-is_raised-clause-since
+returns-then-not-is_raised-clause-since c = λ all. c.wait_each.ensures.since (subst (AreUnnotedSince c.args.mark) (sym c.in-Ok.ensures.levels) (c.in_ok-grow.ensures.since all))
+
+pub returns-clause-since : goal.returns-clause-since
+returns-clause-since c = λ all. c.wait.ensures.since (c.wait_each.ensures.since (subst (AreUnnotedSince c.args.mark) (sym c.in-Ok.ensures.levels) (c.in_ok-grow.ensures.since all)))

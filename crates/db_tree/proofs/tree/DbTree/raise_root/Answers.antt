@@ -5,6 +5,7 @@ use Rattle.db_tree.proofs.NotingLaws.{root_raised}
 use Rattle.db_tree.proofs.Ending.{ok_then}
 use Rattle.db_tree.proofs.RootLaws.{root_put}
 use Rattle.db_tree.proofs.WaitLaws.{raised_waits, root_number, root_below}
+use Rattle.db_tree.proofs.SinceLaws.{raised_since}
 use Rattle.db_tree.proofs.tree.DbTree.raise_root.Goals as goal
 
 pub returns-clause-raised : goal.returns-clause-raised
@@ -28,3 +29,6 @@ returns-clause-number c = root_number c.raise.result c.args.self.now.levels c.ra
 
 pub returns-clause-below : goal.returns-clause-below
 returns-clause-below c = root_below c.raise.result c.args.self.now.levels c.raise.new.self c.new_root.result c.raise.ensures.ok
+
+pub returns-clause-since : goal.returns-clause-since
+returns-clause-since c = raised_since c.raise.result c.args.self.now.levels c.raise.new.self c.new_root.result c.args.mark _ _ c.new_root.ensures.from (c.new_root.ensures.noted ∙ c.is_noted-noted.ensures) c.raise.ensures.ok

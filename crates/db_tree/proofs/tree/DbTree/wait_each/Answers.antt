@@ -20,6 +20,7 @@ loop-level-preserved c =
       waiting = halves_next splits level (level + 1) first second c.args.self.now.levels c.loop-level.self.levels c.wait.new.self.levels
           c.wait-in-loop-level.new.self.levels c.loop-level-test.true
           (get_or_default splits level c.index-splits-level.result first c.loop-level-test.true) (get_or_default splits level c.index-splits-level-in-loop-level.result second c.loop-level-test.true) refl so_far.waiting low.waiting middle.waiting;
+      since = λ all. middle.since (low.since (so_far.since all));
       cells = middle.cells ∙ low.cells ∙ so_far.cells;
       tree = λ es base newest tree. middle.tree es base newest (low.tree es base newest (so_far.tree es base newest tree));
     }

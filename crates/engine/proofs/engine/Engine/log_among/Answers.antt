@@ -70,7 +70,7 @@ returns-then-lacks_numbers-clause-logs g c =
     let D = g.D.Disk in
     let old = c.args.self.now in
     let mid = c.refuse.new.self in
-    refused_logs D.observable D.history D.sync_out D.read_out D.read_of old.trees mid.trees old.kept mid.kept c.args.planned c.args.owed c.in_ok-answer.answer c.in_ok-answer.ensures.answer
+    refused_logs D.observable D.history D.sync_out D.read_out D.read_of old.trees mid.trees old.kept mid.kept c.args.planned (limit_in old.trees c.args.planned.changes.items c.args.owed) c.in_ok-answer.answer c.in_ok-answer.ensures.answer
     (sym c.lacks_numbers.ensures ∙ c.if-lacks_numbers.true) c.refuse.ensures.same c.refuse.ensures.kept
 
 pub commit_changes-requires-clause-free : goal.commit_changes-requires-clause-free

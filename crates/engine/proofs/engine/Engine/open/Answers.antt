@@ -71,3 +71,6 @@ pub go_on-requires-clause-small : goal.go_on-requires-clause-small
 go_on-requires-clause-small g c =
     let w = c.in-Ok.ensures.read in
     small_tail w.held c.in-Ok.read.tail (files_read g.D.Disk.observable (now (g.D.Disk.history c.args.disk)).reads c.in-Ok.read w)
+
+pub returns-in-Ok-clause-indexes : goal.returns-in-Ok-clause-indexes
+returns-in-Ok-clause-indexes g c = c.go_on.ensures.indexes (now (g.D.Disk.history c.args.disk)).reads c.in-Ok.ensures.read (λ observed. ap (λ s. s.reads) (c.read_disk.ensures.same observed))

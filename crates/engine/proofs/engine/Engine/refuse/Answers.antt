@@ -1,11 +1,8 @@
 use Rattle.engine.proofs.LogLaws.{trees_left_same}
 use Rattle.engine.proofs.engine.Engine.refuse.Goals as goal
 
-pub returns-in_err-find_limit-clause-same : goal.returns-in_err-find_limit-clause-same
-returns-in_err-find_limit-clause-same g c = trees_left_same c.args.self.now.trees c.find_limit.new.self c.find_limit.ensures.same c.find_limit.ensures.trees
+pub returns-in_err-found-clause-same : goal.returns-in_err-found-clause-same
+returns-in_err-found-clause-same g c = trees_left_same c.args.self.now.trees c.find_limit.new.self c.find_limit.ensures.same c.find_limit.ensures.trees
 
-pub returns-in-Some-Full-clause-same : goal.returns-in-Some-Full-clause-same
-returns-in-Some-Full-clause-same g c = trees_left_same c.args.self.now.trees c.find_limit.new.self c.find_limit.ensures.same c.find_limit.ensures.trees
-
-pub returns-in_default-clause-same : goal.returns-in_default-clause-same
-returns-in_default-clause-same g c = trees_left_same c.args.self.now.trees c.find_limit.new.self c.find_limit.ensures.same c.find_limit.ensures.trees
+pub returns-clause-same : goal.returns-clause-same
+returns-clause-same g c = trees_left_same c.args.self.now.trees c.find_limit.new.self c.find_limit.ensures.same c.find_limit.ensures.trees

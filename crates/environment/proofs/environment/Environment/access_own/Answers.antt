@@ -23,7 +23,7 @@ finish_own-requires-clause-taken g c =
     let none = sym here.fault ∙ c.requires.valid in
     let at = option_copied c.args.at in
     let db = on_db st c.args.session c.args.call.now c.args.db.now c.args.found at on found in
-    let planned = c.in_ok-target.ensures st a on (here.valid none) sound db found.stands is_txn is_level in
+    let planned = c.in_ok-target.ensures st a on (here.valid none) (here.databases none) sound db found.stands is_txn is_level in
     let up = taken_up g.D.Disk.observable g.D.Disk.history g.D.Disk.sync_out g.D.Disk.read_out g.D.Disk.read_of most e c.take-taken.new.self st c.args.session a c.args.call.now c.args.db.now c.args.found at on c.in_ok-target.field-0.target here sound none found its c.requires.call planned.plan
     (ready_so c.in-Ok-Ready.field-0 _ c.in-Ok-Ready.field-0-is c.in-Ok-Ready.ensures.ready st a none its here.sessions_at) in (
       e,
@@ -45,7 +45,7 @@ returns-in-Ok-Ready-clause-comes g c = λ most st on here sound early may found 
     let none = sym here.fault ∙ c.requires.valid in
     let at = option_copied c.args.at in
     let db = on_db st c.args.session c.args.call.now c.args.db.now c.args.found at on found in
-    let planned = c.in_ok-target.ensures st a on (here.valid none) sound db found.stands is_txn is_level in
+    let planned = c.in_ok-target.ensures st a on (here.valid none) (here.databases none) sound db found.stands is_txn is_level in
     let up = taken_up g.D.Disk.observable g.D.Disk.history g.D.Disk.sync_out g.D.Disk.read_out g.D.Disk.read_of most e c.take-taken.new.self st c.args.session a c.args.call.now c.args.db.now c.args.found at on c.in_ok-target.field-0.target here sound none found its c.requires.call planned.plan
     (ready_so c.in-Ok-Ready.field-0 _ c.in-Ok-Ready.field-0-is c.in-Ok-Ready.ensures.ready st a none its here.sessions_at) in
     accesses_come g.D.Disk.observable g.D.Disk.history g.D.Disk.sync_out g.D.Disk.read_out g.D.Disk.read_of most e c.finish_own.new.self st c.args.session c.args.line c.args.db.now c.args.call.now c.args.found at on a found c.requires.call its c.finish_own.result
@@ -57,7 +57,7 @@ returns-in-Ok-Stopped-clause-comes g c = λ most st on here sound early may foun
     let none = sym here.fault ∙ c.requires.valid in
     let at = option_copied c.args.at in
     let db = on_db st c.args.session c.args.call.now c.args.db.now c.args.found at on found in
-    let planned = c.in_ok-target.ensures st a on (here.valid none) sound db found.stands is_txn is_level in
+    let planned = c.in_ok-target.ensures st a on (here.valid none) (here.databases none) sound db found.stands is_txn is_level in
     accessed_comes g.D.Disk.observable g.D.Disk.history g.D.Disk.sync_out g.D.Disk.read_out g.D.Disk.read_of most e _ st c.args.session c.args.line c.args.db.now c.in-Ok-Stopped.stop c.in-Ok-Stopped.victims c.args.call.now c.args.found at on a found
     c.requires.call its
     (stopped_accesses g.D.Disk.observable g.D.Disk.history g.D.Disk.sync_out g.D.Disk.read_out g.D.Disk.read_of most e c.take-taken.new.self st a c.args.line c.args.call.now on c.in-Ok-Stopped.stop c.in-Ok-Stopped.victims none may.bare
@@ -92,7 +92,7 @@ returns-in-Ok-Ready-clause-near g c =
     let none = sym here.fault ∙ c.requires.valid in
     let at = option_copied c.args.at in
     let db = on_db st c.args.session c.args.call.now c.args.db.now c.args.found at on found in
-    let planned = c.in_ok-target.ensures st a on (here.valid none) sound db found.stands is_txn is_level in
+    let planned = c.in_ok-target.ensures st a on (here.valid none) (here.databases none) sound db found.stands is_txn is_level in
     let up = taken_up g.D.Disk.observable g.D.Disk.history g.D.Disk.sync_out g.D.Disk.read_out g.D.Disk.read_of most e c.take-taken.new.self st c.args.session a c.args.call.now c.args.db.now c.args.found at on c.in_ok-target.field-0.target here sound none found its c.requires.call planned.plan
     (ready_so c.in-Ok-Ready.field-0 _ c.in-Ok-Ready.field-0-is c.in-Ok-Ready.ensures.ready st a none its here.sessions_at) in
     accesses_near g.D.Disk.observable g.D.Disk.history g.D.Disk.sync_out g.D.Disk.read_out g.D.Disk.read_of most e c.finish_own.new.self st c.args.line c.args.call.now on a c.finish_own.result
@@ -115,7 +115,7 @@ returns-in-Ok-Stopped-clause-cause g c =
     let none = sym here.fault ∙ c.requires.valid in
     let at = option_copied c.args.at in
     let db = on_db st c.args.session c.args.call.now c.args.db.now c.args.found at on found in
-    let planned = c.in_ok-target.ensures st a on (here.valid none) sound db found.stands is_txn is_level in
+    let planned = c.in_ok-target.ensures st a on (here.valid none) (here.databases none) sound db found.stands is_txn is_level in
     stopped_cause g.D.Disk.observable g.D.Disk.history g.D.Disk.sync_out g.D.Disk.read_out g.D.Disk.read_of _ _ (record { answer = c.in-Ok-Stopped.stop; victims = c.in-Ok-Stopped.victims }) st a c.args.line c.args.call.now on refl c.take-taken.new.self
     (stopped_so c.in-Ok-Stopped.field-0 _ c.in-Ok-Stopped.stop c.in-Ok-Stopped.victims c.in-Ok-Stopped.field-0-is c.in-Ok-Stopped.ensures.stopped st a on none
     (record { its = its; name = db.name; its_kind = db.kind; beside = planned.beside; each = planned.plan.needs }) here.sessions_at)

@@ -3,8 +3,8 @@ use Rattle.je_disk.specs.Moments.{now}
 use Rattle.log_buffer.specs.Buffer.{disk_of}
 use Rattle.engine.specs.Whole.{contents_of}
 use Rattle.engine.proofs.CallLaws.{can_plan}
-use Rattle.environment.proofs.CatalogEnds.{alone_at, auto_is, ended_performs, none_performs}
-use Rattle.environment.proofs.CatalogStanding.{alone_of}
+use Rattle.environment.proofs.CatalogEnds.{alone_at, ended_performs, none_performs}
+use Rattle.environment.proofs.CatalogStanding.{alone_of, catalog_call}
 use Rattle.environment.proofs.environment.Environment.change_catalog.Goals as goal
 
 pub returns-then-self-ge-LAST_TXN : goal.returns-then-self-ge-LAST_TXN
@@ -21,7 +21,7 @@ plan-requires-clause-can g c =
     (alone_at c.requires.here.0 g.D.Disk.observable g.D.Disk.history e c.requires.here.1 at) (sym at.fault ∙ c.requires.valid)
 
 pub plan-requires-clause-call : goal.plan-requires-clause-call
-plan-requires-clause-call g c = auto_is c.args.call.now c.requires.call
+plan-requires-clause-call g c = catalog_call c.args.call.now c.requires.call
 
 pub returns-in-Err : goal.returns-in-Err
 returns-in-Err g c = record {

@@ -12,7 +12,7 @@ use Rattle.engine.specs.Whole.{LeavesCells, contents_of}
 use Rattle.engine.proofs.LogLaws.{made_new, made_there}
 use Rattle.environment.specs.Auto.{alone_in}
 use Rattle.environment.proofs.AutoAlone.{closed_so, nobody_blocks, none_owes}
-use Rattle.environment.proofs.AutoLogged.{below, comes_closed, comes_not, names_free, told_come, with_both}
+use Rattle.environment.proofs.AutoLogged.{below, comes_closed, comes_not, names_free, no_index, told_come, with_both}
 use Rattle.environment.proofs.environment.Environment.log_alone.Goals as goal
 
 pub log_among-requires-clause-free : goal.log_among-requires-clause-free
@@ -21,13 +21,17 @@ log_among-requires-clause-free g c =
     names_free g.D.Disk.observable g.D.Disk.history g.D.Disk.sync_out g.D.Disk.read_out g.D.Disk.read_of h.0 c.args.self.now h.2 h.1 0 h.3 h.4 c.args.planned h.5 h.6 (nobody_blocks h.2 h.1 h.3 h.4 h.5.sound h.7)
 
 pub log_among-requires-clause-few : goal.log_among-requires-clause-few
-log_among-requires-clause-few g c = few_new (cells_of c.args.self.now.engine.trees) c.args.planned.changes.items c.are_ordered.ensures c.requires.here.6.log.few
+log_among-requires-clause-few g c =
+    let h = c.requires.here in
+    few_new (cells_of c.args.self.now.engine.trees) c.args.planned.changes.items c.are_ordered.ensures (h.6.log.few
+    (no_index g.D.Disk.observable g.D.Disk.history g.D.Disk.sync_out g.D.Disk.read_out g.D.Disk.read_of h.0 c.args.self.now h.2 h.1 0 h.3 h.4 c.args.planned h.5 h.6 (nobody_blocks h.2 h.1 h.3 h.4 h.5.sound h.7)))
 
 pub log_among-requires-clause-there : goal.log_among-requires-clause-there
 log_among-requires-clause-there g c =
     let h = c.requires.here in
     let old = c.args.self.now in
     made_there old.engine.trees old.engine.kept (alone_in h.2) h.1 h.3 c.args.planned (h.5.at.valid h.5.valid).made h.6.log
+    (no_index g.D.Disk.observable g.D.Disk.history g.D.Disk.sync_out g.D.Disk.read_out g.D.Disk.read_of h.0 c.args.self.now h.2 h.1 0 h.3 h.4 c.args.planned h.5 h.6 (nobody_blocks h.2 h.1 h.3 h.4 h.5.sound h.7))
 
 pub log_among-requires-clause-new : goal.log_among-requires-clause-new
 log_among-requires-clause-new g c = λ low.
@@ -56,6 +60,7 @@ returns-in-Ok g c = record {
       c.in-Ok.ensures.logs)
       c.in-Ok.ensures.near
       (subst (λ (x : ℕ). LeavesCells old.engine.trees n.trees c.args.planned x (Ok c.in-Ok.answer)) one c.in-Ok.ensures.trees)
+      (c.log_among.ensures.indexes, c.log_among.ensures.names)
       (closed_so old.sessions st session (needs_in (begun st session) (auto_active st session) call t) may.sound none may.at.sessions_at)
       c.is_number.ensures);
   bounds = c.log_among.ensures.bounds;
@@ -69,4 +74,4 @@ returns-in-Err-clause-comes g c most session line st call t may log none =
     comes_not g.D.Disk.observable g.D.Disk.history g.D.Disk.sync_out g.D.Disk.read_out g.D.Disk.read_of most old st session line call t c.args.planned may log (nobody_blocks st session call t may.sound none) n old.sessions c.in-Err.error
     (subst (λ (x : ℕ). LogsChanges g.D.Disk.observable g.D.Disk.history g.D.Disk.sync_out g.D.Disk.read_out g.D.Disk.read_of old.engine.trees.log n.trees.log (contents_of old.engine) (contents_of n) c.args.planned (limit_in old.engine.trees c.args.planned.changes.items x) (Err c.in-Err.error)) (sym (none_owes st may.sound none))
     c.in-Err.ensures.logs)
-    c.in-Err.ensures.near c.in-Err.ensures.trees may.at.sessions_at
+    c.in-Err.ensures.near c.in-Err.ensures.trees (c.log_among.ensures.indexes, c.log_among.ensures.names) may.at.sessions_at

@@ -12,7 +12,7 @@ use Rattle.engine.specs.Steps.{LogsChanges, txn_of}
 use Rattle.engine.specs.Whole.{EndsNear, LeavesCells, contents_of}
 use Rattle.engine.proofs.LogLaws.{made_new, made_there}
 use Rattle.environment.specs.Auto.{alone_in, with_sessions}
-use Rattle.environment.proofs.AutoLogged.{below, comes_closed, comes_failed, comes_not, names_free, told_come, with_both}
+use Rattle.environment.proofs.AutoLogged.{below, comes_closed, comes_failed, comes_not, names_free, no_index, told_come, with_both}
 use Rattle.environment.proofs.Standing.{sessions_faulted}
 use Rattle.environment.proofs.environment.Environment.log_auto.Goals as goal
 
@@ -26,7 +26,8 @@ log_among-requires-clause-free g c =
 pub log_among-requires-clause-few : goal.log_among-requires-clause-few
 log_among-requires-clause-few g c =
     let here = c.requires.here in
-    few_new (cells_of c.args.self.now.engine.trees) c.args.planned.changes.items c.are_ordered.ensures here.6.log.few
+    few_new (cells_of c.args.self.now.engine.trees) c.args.planned.changes.items c.are_ordered.ensures (here.6.log.few
+    (no_index g.D.Disk.observable g.D.Disk.history g.D.Disk.sync_out g.D.Disk.read_out g.D.Disk.read_of here.0 (with_sessions here.1 c.args.self.now) here.2 c.args.session 0 here.3 here.4 c.args.planned here.5 here.6 here.7.free))
 
 -- src/access_auto.rt:190:15
 pub log_among-requires-clause-there : goal.log_among-requires-clause-there
@@ -34,6 +35,7 @@ log_among-requires-clause-there g c =
     let here = c.requires.here in
     let old = c.args.self.now in
     made_there old.engine.trees old.engine.kept (alone_in here.2) c.args.session here.3 c.args.planned (here.5.at.valid here.5.valid).made here.6.log
+    (no_index g.D.Disk.observable g.D.Disk.history g.D.Disk.sync_out g.D.Disk.read_out g.D.Disk.read_of here.0 (with_sessions here.1 c.args.self.now) here.2 c.args.session 0 here.3 here.4 c.args.planned here.5 here.6 here.7.free)
 
 -- src/access_auto.rt:190:15
 pub log_among-requires-clause-new : goal.log_among-requires-clause-new
@@ -79,6 +81,7 @@ returns-in-Ok g c = record {
       c.in-Ok.ensures.logs)
       c.in-Ok.ensures.near
       (subst (λ (x : ℕ). LeavesCells old.engine.trees n.trees c.args.planned x (Ok c.in-Ok.answer)) owed c.in-Ok.ensures.trees)
+      (c.log_among.ensures.indexes, c.log_among.ensures.names)
       (c.close_auto.ensures st (needs_in (begun st c.args.session) (auto_active st c.args.session) call t) (ap txn_of txn) taken)
       c.is_number.ensures);
   bounds = c.log_among.ensures.bounds;
@@ -96,4 +99,5 @@ returns-in-Err-clause-comes g c most s st line call t may log taken txn owed =
     c.in-Err.ensures.logs)
     c.in-Err.ensures.near
     (subst (λ (x : ℕ). LeavesCells old.engine.trees n.trees c.args.planned x (Err c.in-Err.error)) owed c.in-Err.ensures.trees)
+    (c.log_among.ensures.indexes, c.log_among.ensures.names)
     (c.undo_auto-in-Err.ensures c.args.session st (needs_in (begun st c.args.session) (auto_active st c.args.session) call t) (ap txn_of txn) taken)

@@ -1,23 +1,15 @@
-use Rattle.std.proofs.Common.{inr, refl}
+use Rattle.std.proofs.Common.{refl}
 use Rattle.std.specs.Option.{option_copied}
-use Rattle.environment.proofs.PlanLaws.{db_there, planned_by, readable_on}
+use Rattle.environment.proofs.PlanLaws.{planned_by, readable_by}
 use Rattle.environment.proofs.environment.Environment.plan.Goals as goal
 
 pub plan_target-requires : goal.plan_target-requires
 plan_target-requires g c =
-    let st = c.requires.here.0 in
-    let v = c.requires.here.3 in
-    let at = c.requires.here.5 in
-    let there = db_there st c.args.db.now c.args.found c.requires.here.2 at in
-    record {
-      db = readable_on c.args.self.now.engine.trees st c.requires.here.4 v.makes v.writes v.may c.are_ordered.ensures c.requires.here.1 c.requires.here.2 c.args.found c.args.txn c.args.level there.own at.number at.kind
-          c.requires.here.7 c.requires.here.8;
-      over = tt;
-      indexes = tt;
-      plain = inr refl;
-    }
+    let h = c.requires.here in
+    readable_by c.args.self.now.engine.trees c.args.txn c.args.level c.args.db.now c.args.found c.args.call.now (option_copied c.args.at) c.are_ordered.ensures g.D.Disk.observable g.D.Disk.history c.args.self.now refl c.target_at-on.result
+    c.target_at-on.ensures h.0 h.1 h.2 h.3 h.4 h.5 h.6 h.8 h.9
 
 pub returns-in-Ok : goal.returns-in-Ok
 returns-in-Ok g c =
-    planned_by c.args.self.now.engine.trees c.args.txn c.args.level c.args.db.now c.args.found c.args.call.now (option_copied c.args.at) c.are_ordered.ensures g.D.Disk.observable g.D.Disk.history c.args.self.now refl _ refl refl refl _
-    c.new.ensures c.in-Ok.ensures
+    planned_by c.args.self.now.engine.trees c.args.txn c.args.level c.args.db.now c.args.found c.args.call.now (option_copied c.args.at) c.are_ordered.ensures g.D.Disk.observable g.D.Disk.history c.args.self.now refl c.target_at-on.result
+    c.target_at-on.ensures _ c.in_ok-others.ensures c.in-Ok.ensures

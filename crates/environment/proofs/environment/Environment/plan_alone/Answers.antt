@@ -1,6 +1,6 @@
 use Rattle.std.proofs.Common.{refl}
 use Rattle.je_answers.specs.Events.{auto_active, begun}
-use Rattle.environment.proofs.AutoChanges.{may_be_made, on_there, same_txn, so_planned, sound_there, valid_there}
+use Rattle.environment.proofs.AutoChanges.{knows_there, may_be_made, on_there, same_txn, so_planned, sound_there, valid_there}
 use Rattle.environment.proofs.environment.Environment.plan_alone.Goals as goal
 
 pub plan_outcome-requires : goal.plan_outcome-requires
@@ -16,6 +16,7 @@ plan_outcome-requires g c =
         auto_active st h.1,
         h.3,
         valid_there h.0 g.D.Disk.observable g.D.Disk.history e st h.1 c.args.call.now c.args.db.now c.args.found h.3 may on,
+        knows_there h.0 g.D.Disk.observable g.D.Disk.history e st h.1 c.args.call.now c.args.db.now c.args.found h.3 may on,
         sound_there h.0 g.D.Disk.observable g.D.Disk.history e st h.1 c.args.call.now c.args.db.now c.args.found h.3 may on,
         on_there h.0 g.D.Disk.observable g.D.Disk.history e st h.1 c.args.call.now c.args.db.now c.args.found h.3 may on,
         may.stands,
@@ -32,6 +33,7 @@ returns g c = record {
       (λ p is.
       is (begun st session) (auto_active st session) t
       (valid_there most g.D.Disk.observable g.D.Disk.history e st session c.args.call.now c.args.db.now c.args.found t may on)
+      (knows_there most g.D.Disk.observable g.D.Disk.history e st session c.args.call.now c.args.db.now c.args.found t may on)
       (sound_there most g.D.Disk.observable g.D.Disk.history e st session c.args.call.now c.args.db.now c.args.found t may on)
       (on_there most g.D.Disk.observable g.D.Disk.history e st session c.args.call.now c.args.db.now c.args.found t may on) may.stands
       (same_txn most g.D.Disk.observable g.D.Disk.history e st session c.args.call.now c.args.db.now c.args.found t may on) refl) c.plan_outcome.ensures;

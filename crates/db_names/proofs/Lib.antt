@@ -1,0 +1,2 @@
+-- Names with one more, or one less.
+pub mod Changes

@@ -1,0 +1,2 @@
+-- Names of databases by their numbers.
+pub mod Names
