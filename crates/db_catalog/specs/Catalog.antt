@@ -1,5 +1,5 @@
 -- The data of a catalog record (this project's own format).
-use Rattle.std.specs.Prelude.{ℕ, ◌≤◌, ◌<◌, ◌^◌, ◌++◌, ◌∷◌, [], ◌==◌, ◌&&◌, nat_le, nat_lt, Bool, List, length, Option, None, Some, if◌then◌else◌}
+use Rattle.std.specs.Prelude.{ℕ, ◌<◌, ◌^◌, ◌++◌, ◌∷◌, [], ◌==◌, ◌&&◌, nat_le, nat_lt, Bool, List, length, Option, None, Some, if◌then◌else◌}
 use Rattle.std.specs.Int.{w32, to_be_bytes}
 use Rattle.je_order.specs.Options.{◌>>=◌}
 use Rattle.je_bytes.specs.Reading.{byte_in, number_in}

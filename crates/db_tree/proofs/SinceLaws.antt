@@ -1,5 +1,5 @@
 -- Nodes that are not noted, and have no mark before an LSN: so are those that are split off, put above, or wait.
-use Rattle.std.proofs.Common.{◌≡◌, ◌≤◌, ◌<◌, ◌-◌, ◌⊎◌, inl, inr, ℕ, suc, zero, List, [], ◌∷◌, Bool, true, false, cond, Option, None, Some, Result, Ok, Err, OnOk, length, slice_index_or, refl, ap, sym, subst, ◌∙◌, is_eq, arith}
+use Rattle.std.proofs.Common.{◌≡◌, ◌≤◌, ◌<◌, ◌-◌, ◌⊎◌, inl, inr, ℕ, suc, zero, List, [], ◌∷◌, Bool, true, false, cond, Option, None, Some, Result, Ok, Err, OnOk, length, refl, ap, sym, subst, ◌∙◌, is_eq, arith}
 use Rattle.std.specs.Prelude.{IfSome}
 use Rattle.std.specs.declared.alloc.AllocError.{AllocError}
 use Rattle.std.proofs.lemmas.Bool.{cases_order}
@@ -8,8 +8,8 @@ use Rattle.je_order.specs.Order.{name_cmp}
 use Rattle.je_order.specs.declared.name.Name.{Name}
 use Rattle.record_map.specs.Cells.{value_at}
 use Rattle.tree_nodes.specs.declared.node.Node.{Node}
-use Rattle.tree_nodes.specs.Nodes.{NodeRow, IsOver, earlier, least}
-use Rattle.tree_nodes.specs.Levels.{row_of, AreParts, HasPutAt, HasRaised}
+use Rattle.tree_nodes.specs.Nodes.{NodeRow, earlier, least}
+use Rattle.tree_nodes.specs.Levels.{row_of, HasPutAt, HasRaised}
 use Rattle.db_tree.specs.declared.node_split.NodeSplit.{NodeSplit}
 use Rattle.db_tree.specs.Notes.{IsUnnotedSince, AreUnnotedSince, is_noted_at, is_noted_one}
 use Rattle.db_tree.specs.Splitting.{AreSplit, IsSplitAt}

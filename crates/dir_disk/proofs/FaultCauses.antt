@@ -1,5 +1,5 @@
 -- The cause of what a call of the disk answers.
-use Rattle.std.proofs.Common.{◌≡◌, ◌≤◌, ℕ, Result, Ok, Err, IfOk, IsErr, OnOk, OnErr, rules, IsErrAnd, false, true, sym, ap, ◌∙◌, subst}
+use Rattle.std.proofs.Common.{◌≡◌, ◌≤◌, ℕ, Result, Ok, Err, IfOk, IsErr, rules, IsErrAnd, false, true, sym, ap, ◌∙◌, subst}
 use Rattle.std.proofs.lemmas.Bool.{true≢false}
 use Rattle.je_disk.specs.Causes.{HasFault}
 use Rattle.je_order.specs.Counts.{HasRisen}

@@ -1,15 +1,14 @@
 -- An index is made and filled: of which databases its changes are.
-use Rattle.std.proofs.Common.{◌≡◌, ◌∙◌, ◌<◌, ◌≤◌, ◌+◌, ◌^◌, ℕ, true, false, true≢false, List, [], ◌∷◌, ◌++◌, Option, None, map, refl, ap, sym, subst, cond, arith}
+use Rattle.std.proofs.Common.{◌≡◌, ◌∙◌, ◌<◌, ◌≤◌, ◌+◌, ◌^◌, ℕ, true, true≢false, List, [], ◌∷◌, ◌++◌, None, map, refl, ap, sym, subst, arith}
 use Rattle.std.specs.Prelude.{◌≢◌}
 use Rattle.std.specs.List.{AllByRecursion}
 use Rattle.std.proofs.lemmas.Bool.{cond-false}
 use Rattle.je_order.proofs.Lists.{all_weaker}
 use Rattle.store_model.specs.declared.change.Change.{Change}
 use Rattle.store_model.specs.declared.change.Change.TheVariants.{Set, Unset, Make, MakeIndex, Remove, Rename, Empty}
-use Rattle.store_model.specs.declared.index.Index.{Index}
 use Rattle.store_model.specs.Refusals.{made_by}
 use Rattle.log_replay.specs.Kept.{MayBeLogged}
-use Rattle.log_replay.specs.Logging.{all_row_changes, last_db_after, number_named, record_named, row_changes}
+use Rattle.log_replay.specs.Logging.{all_row_changes, last_db_after, record_named, row_changes}
 use Rattle.log_replay.specs.Rows.{RowChange, Rows, row_changed, rows_changed}
 use Rattle.log_replay.proofs.LoggedLaws.{IsSound, index-is, number-within, primary_record}
 use Rattle.log_replay.proofs.StoreLaws.{row_changed-there}

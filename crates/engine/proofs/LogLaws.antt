@@ -21,7 +21,7 @@ use Rattle.record_map.specs.declared.write.Write.{Write}
 use Rattle.record_tree.specs.Occupied.{IsFreeFor, write_in}
 use Rattle.record_tree.specs.Logged.{LogsTransaction, is_made, last_change, makes_db, most_entries}
 use Rattle.in_tree.specs.declared.logged_trees.LogTrees.{LogTrees}
-use Rattle.in_tree.specs.Observed.{cells_of, has_tree_of, waits_of, limit_in, GrewTrees, last_node_of, trees_of}
+use Rattle.in_tree.specs.Observed.{cells_of, has_tree_of, waits_of, GrewTrees, last_node_of, trees_of}
 use Rattle.log_buffer.specs.declared.log_pos.LogPos.{LogPos}
 use Rattle.log_buffer.specs.Buffer.{end_of, file_max_of, has_failed}
 use Rattle.log_entry.specs.Encoding.{size_of}

@@ -1,17 +1,13 @@
 -- Where no transaction is under way: what an environment is beside its engine.
-use Rattle.std.proofs.Common.{◌≡◌, ℕ, ◌+◌, suc, Bool, true, false, cond, List, [], Option, None, Some, filter, length, refl, ap, sym, ◌∙◌, subst, arith}
+use Rattle.std.proofs.Common.{◌≡◌, ℕ, ◌+◌, suc, Bool, true, false, cond, List, [], None, filter, length, refl, ap, sym, ◌∙◌, subst, arith}
 use Rattle.txn_log.proofs.AtStandingLaws.{same_under}
-use mathlib.Core.Path.{fun_ext}
-use Rattle.std.proofs.lemmas.Option.{none-some}
 use Rattle.je_disk.specs.States.{Files, State}
 use Rattle.je_disk.specs.Moments.{History, now}
 use Rattle.je_order.specs.declared.txn_id.TxnId.{TxnId}
-use Rattle.store_model.specs.declared.answer.Fault.{Fault}
 use Rattle.store_model.specs.declared.store.Store.{Store}
 use Rattle.je_answers.specs.declared.active.Active.{Active}
 use Rattle.je_answers.specs.Alone.{Alone, alone}
-use Rattle.je_answers.specs.Standing.{LockState, Standing}
-use Rattle.lock_table.specs.Table.{Locks}
+use Rattle.je_answers.specs.Standing.{Standing}
 use Rattle.log_buffer.specs.Buffer.{end_of, has_failed}
 use Rattle.log_buffer.specs.Flip.{pos_lsn}
 use Rattle.log_replay.specs.Rows.{Rows}
@@ -19,14 +15,11 @@ use Rattle.log_replay.specs.Logging.{number_named}
 use Rattle.in_tree.specs.declared.logged_trees.LogTrees.{LogTrees}
 use Rattle.in_tree.specs.Observed.{cells_of, has_tree_of, waits_of}
 use Rattle.active_txns.specs.Own.{has_changes, own_of}
-use Rattle.record_map.specs.Cells.{value_at}
-use Rattle.record_map.specs.declared.write.Write.{Write}
-use Rattle.record_tree.specs.Occupied.{AllCells, write_in}
+use Rattle.record_tree.specs.Occupied.{AllCells}
 use Rattle.sessions.specs.declared.all_sessions.Sessions.{Sessions}
-use Rattle.sessions.proofs.CursorStores.{under_none}
-use Rattle.sessions.specs.AtStanding.{AreLocksAt, AreSessionsAt, owing}
+use Rattle.sessions.specs.AtStanding.{AreSessionsAt, owing}
 use Rattle.standing_laws.specs.Right.{AreRight}
-use Rattle.standing_laws.proofs.AloneRight.{alone-is_right, no_transactions-is_alone}
+use Rattle.standing_laws.proofs.AloneRight.{alone-is_right}
 use Rattle.txn_core.specs.Known.{IsQuiet, committed}
 use Rattle.txn_log.specs.Gives.{GivesRecordsWith}
 use Rattle.txn_views.specs.Seen.{HasWrites, IsWriteOf}
@@ -36,14 +29,13 @@ use Rattle.engine.specs.Environment.{IsValid}
 use Rattle.engine.specs.Limits.{IsWithin, Reach}
 use Rattle.engine.specs.Opening.{reach_in}
 use Rattle.engine.specs.Whole.{AreTrees, IsAt as EngineIsAt, IsOpened as EngineIsOpened, IsOpenedSafely as EngineIsOpenedSafely, contents, reach_of as engine_reach, KeepsIndexes, KeepsNames}
-use Rattle.engine.proofs.TxnGives.{gives_alone, gives_with_none}
+use Rattle.engine.proofs.TxnGives.{gives_with_none}
 use Rattle.environment.proofs.Databases.{known_from}
-use Rattle.environment.specs.Valid.{AreBare, AreAt, IsValidWith, Lives, active_number, owed_by, fitting, waiting_in}
+use Rattle.environment.specs.Valid.{AreBare, AreAt, IsValidWith, Lives, owed_by, fitting, waiting_in}
 use Rattle.environment.specs.Whole.{IsAt, IsOpened, IsOpenedSafely, reach_of}
 use Rattle.environment.specs.Written.{AreNamesOf}
 use Rattle.environment.specs.declared.environment.Environment.{Environment}
 use Rattle.environment.specs.declared.written.OwnNames.{OwnNames}
-use Rattle.environment.proofs.Bases.{lives_at}
 use Rattle.environment.proofs.Firsts.{firsts_none}
 
 -- nobody wrote names

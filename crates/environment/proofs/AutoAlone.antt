@@ -6,17 +6,13 @@ use Rattle.std.proofs.lemmas.List.{nil_from_length}
 use Rattle.je_order.specs.declared.txn_id.TxnId.{TxnId}
 use Rattle.je_order.specs.Transactions.{is_same_txn}
 use Rattle.lock_table.specs.declared.record_id.RecordId.{RecordId}
-use Rattle.lock_table.specs.Locks.{after_release}
-use Rattle.store_model.specs.declared.answer.Fault.{Fault}
 use Rattle.store_model.specs.declared.call.Call.{Call}
 use Rattle.store_model.specs.declared.need.Need.{Need}
-use Rattle.store_model.specs.declared.record_change.RecordChange.{RecordChange}
-use Rattle.je_answers.specs.declared.active.Active.{Active}
 use Rattle.je_answers.specs.After.{ended, with_locks, without_session}
 use Rattle.je_answers.specs.Alone.{Alone, alone, no_locks}
 use Rattle.je_answers.specs.Events.{auto_active, begun}
 use Rattle.je_answers.specs.Locking.{Queues, all_got, first_blocked, released}
-use Rattle.je_answers.specs.Standing.{LockState, Standing, with_at}
+use Rattle.je_answers.specs.Standing.{LockState, Standing}
 use Rattle.je_answers.specs.Views.{Target, needs_in}
 use Rattle.je_answers.proofs.Unlocked.{all_gone, none_own, none_stopped, same_number}
 use Rattle.sessions.specs.declared.all_sessions.Sessions.{Sessions}

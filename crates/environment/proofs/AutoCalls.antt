@@ -1,10 +1,8 @@
 -- A call on records that is a transaction of its own: what it may ask.
 use Rattle.std.proofs.Common.{◌≡◌, ◌∙◌, ℕ, ◌<◌, ◌+◌, Bool, true, List, None, Some, ap, sym, subst, arith}
-use Rattle.std.proofs.lemmas.Bool.{ltb-true}
 use Rattle.je_disk.specs.Moments.{History}
 use Rattle.store_model.specs.declared.call.Call.{Call}
 use Rattle.store_model.specs.declared.call.Call.TheVariants.{Get, GetBoth, Put, Delete}
-use Rattle.store_model.specs.declared.store.TheConstants.{LAST_TXN}
 use Rattle.store_model.specs.Refusals.{next_txn}
 use Rattle.je_answers.specs.declared.active.Active.{Active}
 use Rattle.je_answers.specs.Standing.{Standing, active_of}

@@ -1,17 +1,13 @@
 -- A call on records that is a transaction of its own: its plan, and its changes.
-use Rattle.std.proofs.Common.{◌≡◌, ◌≢◌, ◌+◌, ◌^◌, ◌∙◌, ◌==◌, ℕ, ◌<◌, Bool, true, false, true≢false, List, length, [], ◌∷◌, None, Result, Ok, Err, IfOk, map, ap, ap₂, refl, sym, subst, arith}
+use Rattle.std.proofs.Common.{◌≡◌, ◌≢◌, ◌+◌, ◌^◌, ◌∙◌, ◌==◌, ℕ, ◌<◌, Bool, true, false, true≢false, List, length, [], ◌∷◌, None, Result, Ok, Err, IfOk, ap, refl, sym, subst, arith}
 use Rattle.std.specs.List.{AllByRecursion}
-use Rattle.std.specs.declared.alloc.AllocError.{AllocError}
 use Rattle.je_disk.specs.Moments.{History, now}
 use Rattle.je_order.specs.declared.txn_id.TxnId.{TxnId}
 use Rattle.log_entry.specs.Fields.{IsName}
-use Rattle.log_replay.specs.Rows.{Row, Rows, are_right, pair_of}
-use Rattle.log_replay.specs.Rows.{IsRising as RowsRise}
+use Rattle.log_replay.specs.Rows.{Row, Rows}
 use Rattle.record_map.specs.Cells.{IsRising}
 use Rattle.store_model.specs.declared.answer.Answer.{Answer}
 use Rattle.store_model.specs.declared.call.Call.{Call}
-use Rattle.store_model.specs.declared.record_change.RecordChange.{RecordChange}
-use Rattle.store_model.specs.declared.store.TheConstants.{LAST_DATABASE}
 use Rattle.store_model.specs.Evaluation.{answers}
 use Rattle.store_model.specs.Records.{evaluation}
 use Rattle.store_model.specs.Refusals.{database_refuses, index_refusal}
@@ -27,18 +23,14 @@ use Rattle.standing_laws.specs.Right.{AreSound}
 use Rattle.standing_laws.proofs.Moves.{sound_begun}
 use Rattle.txn_core.specs.Known.{Known, committed, known_of}
 use Rattle.txn_core.specs.Planning.{IsPlannedLog, outcome_alone}
-use Rattle.txn_core.specs.Totals.{totals_of}
-use Rattle.txn_core.specs.declared.planned.Planned.{Planned}
-use Rattle.txn_core.specs.declared.planned.Planned.TheVariants.{Answered, Logs}
 use Rattle.txn_core.specs.declared.planned_changes.PlannedChanges.{PlannedChanges}
 use Rattle.txn_log.specs.Committing.{MakesStore}
 use Rattle.txn_views.specs.Laws.{AreSeenBy}
 use Rattle.txn_views.specs.Seen.{is_right_change, seen_rows}
 use Rattle.txn_views.proofs.RightLaws.{changes-are_right}
-use Rattle.environment.specs.declared.call_plan.CallPlan.{CallPlan}
 use Rattle.environment.specs.declared.environment.Environment.{Environment}
-use Rattle.environment.specs.Access.{AreThere, IsOnDb, IsPlannedFor}
-use Rattle.environment.specs.Auto.{IsAutoAt, IsAutoLog, IsLoggedAuto, IsPlannedAuto, alone_in, changes_auto, outcome_auto}
+use Rattle.environment.specs.Access.{AreThere, IsOnDb}
+use Rattle.environment.specs.Auto.{IsAutoAt, IsAutoLog, IsLoggedAuto, alone_in, changes_auto, outcome_auto}
 use Rattle.environment.specs.Changing.{MayMake}
 use Rattle.environment.specs.Valid.{KnowsDatabases, active_number, fitting}
 use Rattle.environment.specs.Writing.{IsValidAt}

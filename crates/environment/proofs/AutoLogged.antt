@@ -1,6 +1,6 @@
 -- A call on records that is a transaction of its own, among others: what it changes is logged with its Commit, or not.
 use mathlib.Core.Path.{fun_ext}
-use Rattle.std.proofs.Common.{◌≡◌, ◌≢◌, ◌∙◌, ◌⊎◌, inl, inr, ℕ, ◌≤◌, ◌<◌, ◌+◌, Bool, false, cond, List, [], ◌∷◌, ◌++◌, map, length, Option, None, Some, Result, Ok, Err, refl, ap, sym, subst, arith}
+use Rattle.std.proofs.Common.{◌≡◌, ◌≢◌, ◌∙◌, ◌⊎◌, inl, inr, ℕ, ◌≤◌, ◌<◌, ◌+◌, Bool, false, cond, List, [], ◌∷◌, ◌++◌, length, Option, None, Some, Result, Ok, Err, refl, ap, sym, subst, arith}
 use Rattle.std.specs.List.{AllByRecursion}
 use Rattle.std.specs.declared.alloc.AllocError.{AllocError}
 use Rattle.std.proofs.lemmas.Bool.{ltb-true}
@@ -22,14 +22,14 @@ use Rattle.store_model.specs.Evaluation.{Outcome}
 use Rattle.store_model.specs.Needs.{changed_name}
 use Rattle.store_model.specs.Records.{Evaluated}
 use Rattle.store_model.specs.Refusals.{made_by, next_txn}
-use Rattle.store_model.specs.Store.{all_changed, change_in}
+use Rattle.store_model.specs.Store.{change_in}
 use Rattle.je_answers.specs.declared.active.Active.{Active}
 use Rattle.je_answers.specs.Alone.{IsAutoCommitted, committed_alone, drawn_alone, faulted_alone}
 use Rattle.je_answers.specs.After.{after_changes, after_fate, answered, committed as commits, committed_if_any, ended, fate_of, faulted, moved, with_locks, with_outcome}
 use Rattle.je_answers.specs.Events.{IsDone, IsLogged, auto_active, begun, due, log_limit}
 use Rattle.je_answers.specs.Journal.{is_disk_fault, tried}
 use Rattle.je_answers.specs.Locking.{all_got, first_blocked}
-use Rattle.je_answers.specs.Standing.{Standing, all_numbered}
+use Rattle.je_answers.specs.Standing.{Standing}
 use Rattle.je_answers.specs.Views.{Target, changes_with, needs_in, with_names, with_numbers}
 use Rattle.log_buffer.specs.Buffer.{disk_of as disk_below, end_of, has_failed}
 use Rattle.log_replay.proofs.ListLaws.{all_to_map}

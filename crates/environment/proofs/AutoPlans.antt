@@ -1,7 +1,6 @@
 -- A call on records that is a transaction of its own: what is logged of its changes is what the model says.
-use Rattle.std.proofs.Common.{◌≡◌, ◌≢◌, ◌∙◌, ℕ, ◌+◌, ◌^◌, ◌<◌, ◌==◌, ◌&&◌, nat_lt, Bool, true, false, List, [], ◌∷◌, Option, None, map, count_by, length, refl, ap, ap₂, sym, subst, arith}
+use Rattle.std.proofs.Common.{◌≡◌, ◌∙◌, ℕ, ◌^◌, ◌<◌, ◌==◌, ◌&&◌, nat_lt, Bool, true, List, ◌∷◌, None, map, count_by, length, refl, ap, ap₂, sym, subst, arith}
 use Rattle.std.specs.List.{AllByRecursion}
-use Rattle.je_order.specs.declared.txn_id.TxnId.{TxnId}
 use Rattle.log_entry.specs.Body.{IsEntry}
 use Rattle.record_tree.specs.Logged.{entry_for, is_made}
 use Rattle.record_tree.specs.declared.tree_change.TreeChange.{TreeChange}
@@ -16,14 +15,14 @@ use Rattle.store_model.specs.Store.{all_changed, change_in, record_count}
 use Rattle.je_answers.specs.Alone.{Alone}
 use Rattle.je_answers.specs.Standing.{Standing}
 use Rattle.je_answers.specs.Views.{changes_named, with_names, with_numbers}
-use Rattle.log_replay.specs.Rows.{RowChange, Rows, numbers_of, store_of}
+use Rattle.log_replay.specs.Rows.{Rows, numbers_of}
 use Rattle.log_replay.proofs.TransactionLaws.{records_may_be_logged}
 use Rattle.txn_core.specs.Known.{Known, has_number}
-use Rattle.txn_core.specs.Planning.{HaveFewNew, IsPlannedLog, gone_by, outcome_alone, row_by}
+use Rattle.txn_core.specs.Planning.{IsPlannedLog, gone_by, outcome_alone, row_by}
 use Rattle.txn_core.specs.Totals.{totals_of}
 use Rattle.txn_core.specs.declared.planned_changes.PlannedChanges.{PlannedChanges}
 use Rattle.txn_core.proofs.NumberLaws.{not_under}
-use Rattle.txn_log.specs.Own.{OwnChange, tree_of}
+use Rattle.txn_log.specs.Own.{OwnChange}
 use Rattle.txn_log.specs.Committing.{MakesStore, MayBeCommitted, OwnAreCommitted, records_had, records_set}
 use Rattle.txn_log.proofs.CommittingLaws.{own_may_be_committed}
 use Rattle.txn_log.proofs.CountLaws.{records_are_counted}

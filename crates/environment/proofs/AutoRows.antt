@@ -20,20 +20,17 @@ use Rattle.je_order.specs.declared.name.Name.{Name}
 use Rattle.je_order.specs.declared.txn_id.TxnId.{TxnId}
 use Rattle.je_order.proofs.Lists.{all_weaker}
 use Rattle.store_model.specs.declared.change.Change.{Change}
-use Rattle.store_model.specs.declared.record_change.RecordChange.{RecordChange}
-use Rattle.store_model.specs.declared.record_change.RecordChange.TheVariants.{Set, Unset}
 use Rattle.store_model.specs.declared.store.Store.{Store}
 use Rattle.store_model.specs.Needs.{changed_name}
 use Rattle.store_model.specs.Refusals.{made_by, next_txn}
-use Rattle.store_model.specs.Store.{all_changed, change_in, store_after}
-use Rattle.store_model.specs.Evaluation.{plain_name}
+use Rattle.store_model.specs.Store.{all_changed, store_after}
 use Rattle.je_answers.specs.Standing.{Standing}
 use Rattle.je_answers.specs.After.{committed as commits}
 use Rattle.log_buffer.specs.declared.buffer.LogBuffer.{LogBuffer}
 use Rattle.log_buffer.specs.Buffer.{disk_of, end_of}
 use Rattle.log_buffer.specs.Growth.{longer}
-use Rattle.log_replay.specs.Rows.{Row, RowChange, Rows, data_at, number_or_0, numbers_of, rows_changed, row_changed}
-use Rattle.log_replay.specs.Logging.{all_row_changes, number_named, record_in}
+use Rattle.log_replay.specs.Rows.{Rows, data_at, numbers_of, rows_changed, row_changed}
+use Rattle.log_replay.specs.Logging.{number_named}
 use Rattle.log_replay.proofs.StoreLaws.{row_changed-there}
 use Rattle.record_map.specs.declared.write.Write.{Write}
 use Rattle.record_map.specs.Cells.{value_at}

@@ -3,7 +3,6 @@ use Rattle.std.proofs.Common.{◌≡◌, ◌∙◌, ◌++◌, ℕ, List, [], ◌
 use Rattle.std.specs.Prelude.{option_to_list}
 use Rattle.std.specs.List.{AllByRecursion}
 use Rattle.std.proofs.lemmas.Option.{same_Some}
-use Rattle.store_model.specs.declared.index.Index.{Index}
 use Rattle.store_model.specs.declared.kind.Kind.{Kind}
 use Rattle.store_model.specs.declared.kind.Kind.TheVariants.{Plain, Dup}
 use Rattle.store_model.specs.declared.store.Database.{Database}
@@ -16,7 +15,7 @@ use Rattle.log_replay.specs.Rows.{Rows}
 use Rattle.txn_log.specs.Committing.{MakesStore}
 use Rattle.db_names.specs.Names.{Names}
 use Rattle.index_map.specs.Made.{AreIndexesOf, Made, primary_in}
-use Rattle.index_map.specs.Laws.{db_at, index_at, indexes_at, known, over_of, records_number}
+use Rattle.index_map.specs.Laws.{db_at, indexes_at, known, over_of, records_number}
 use Rattle.index_map.specs.declared.found_index.FoundIndex.{FoundIndex}
 use Rattle.sessions.specs.declared.named_db.NamedDb.{NamedDb}
 use Rattle.sessions.specs.Names.{AreOthersOf, Known, known as known_as, known_in}

@@ -1,5 +1,5 @@
 -- The changes that come with a call's changes in the indexes of a database: each is right there and can be logged, and no two are of one name.
-use Rattle.std.proofs.Common.{◌≡◌, ◌≢◌, ◌⊎◌, inl, inr, ◌∙◌, ◌&&◌, ◌==◌, ◌++◌, ◌≤◌, ◌+◌, ℕ, zero, suc, Bool, true, false, true≢false, cond, nat_le, List, [], ◌∷◌, Option, None, Some, IfSome, option_map, map, flat_map, take, drop, length, is_eq, Ordering, Less, Equal, Greater, refl, ap, ap₂, sym, subst, arith}
+use Rattle.std.proofs.Common.{◌≡◌, ◌≢◌, ◌⊎◌, inl, inr, ◌∙◌, ◌&&◌, ◌==◌, ◌++◌, ◌≤◌, ◌+◌, ℕ, zero, suc, Bool, true, false, true≢false, cond, nat_le, List, [], ◌∷◌, Option, None, Some, IfSome, option_map, map, flat_map, take, drop, length, is_eq, Ordering, Less, Equal, Greater, refl, ap, ap₂, sym, arith}
 use Rattle.std.specs.List.{AllByRecursion, slice_get}
 use Rattle.std.specs.Ordering.{ordering_then}
 use Rattle.std.proofs.lemmas.Bool.{le-leb}
@@ -17,7 +17,7 @@ use Rattle.store_model.specs.declared.index.Index.{Index}
 use Rattle.store_model.specs.declared.record_change.RecordChange.{RecordChange}
 use Rattle.store_model.specs.declared.record_change.RecordChange.TheVariants.{Set, Unset}
 use Rattle.store_model.specs.Store.{Pair, named, data_after}
-use Rattle.store_model.specs.Indexes.{Numbered, changes_in, data_under, fields_of, key_in, key_of, keys_changed, is_same_key, taken_out, put_in, with_indexes}
+use Rattle.store_model.specs.Indexes.{Numbered, changes_in, data_under, fields_of, key_in, key_of, keys_changed, with_indexes}
 use Rattle.store_model.specs.Needs.{changed_name}
 use Rattle.txn_views.specs.Seen.{is_right_change}
 use Rattle.environment.specs.Access.{AreNumbersApart, HasShortKeys}

@@ -19,7 +19,6 @@ use Rattle.je_disk.specs.Moments.{History, now}
 use Rattle.je_disk.specs.States.{State}
 use Rattle.je_order.specs.declared.name.Name.{Name}
 use Rattle.je_order.specs.declared.txn_id.TxnId.{TxnId}
-use Rattle.je_order.proofs.Lists.{all_weaker}
 use Rattle.store_model.specs.declared.store.Database.{Database}
 use Rattle.store_model.specs.declared.store.Store.{Store}
 use Rattle.store_model.specs.declared.store.TheConstants.{LAST_TXN, LAST_DATABASE}
@@ -56,7 +55,7 @@ use Rattle.record_tree.specs.Occupied.{AllCells, IsFreeFor, write_in}
 use Rattle.record_tree.specs.declared.tree_err.TreeErr.{TreeErr}
 use Rattle.record_tree.specs.declared.tree_change.TreeChange.{TreeChange}
 use Rattle.in_tree.specs.Limits.{HasRoomFor, commit_sizes}
-use Rattle.in_tree.specs.Observed.{cells_of, has_tree_of, limit_in, waits_of}
+use Rattle.in_tree.specs.Observed.{cells_of, has_tree_of, waits_of}
 use Rattle.sessions.specs.AtStanding.{AreSessionsAt, owing}
 use Rattle.standing_laws.specs.Right.{AreSound}
 use Rattle.standing_laws.proofs.Writers.{unused-has_no_changes}
@@ -65,9 +64,8 @@ use Rattle.txn_core.specs.Known.{Known, committed}
 use Rattle.txn_core.specs.Planning.{HasModel, IsPlannedFill, IsPlannedLog, is_index, performed_outcome, row_by, outcome_alone}
 use Rattle.txn_core.specs.Transactions.{is_gone}
 use Rattle.txn_log.specs.Buffers.{HasAdded, HasFailed, HasGiven, MayCommit}
-use Rattle.txn_log.specs.Committing.{IsElsewhere, MayBeCommitted, MakesStore}
+use Rattle.txn_log.specs.Committing.{IsElsewhere, MakesStore}
 use Rattle.txn_log.specs.Own.{AreFreeNames, OwnChange}
-use Rattle.txn_log.proofs.CommittingLaws.{own_above}
 use Rattle.txn_views.specs.Seen.{HasWrites, IsWriteOf, last_own}
 use Rattle.txn_views.proofs.OwnLaws.{none_in}
 use Rattle.engine.specs.declared.engine.Engine.{Engine}

@@ -1,6 +1,6 @@
 -- A valid environment goes on by a change of the catalog.
 use Rattle.engine.proofs.CallEntries.{transaction_no_ends}
-use Rattle.std.proofs.Common.{◌≡◌, ◌≢◌, inl, inr, ℕ, suc, ◌+◌, ◌≤◌, ◌==◌, Bool, true, false, true≢false, cond, ◌&&◌, ◌||◌, List, [], ◌∷◌, find, reverse, Option, None, Some, is_some, is_eq, refl, ap, ap₂, sym, ◌∙◌, subst, arith}
+use Rattle.std.proofs.Common.{◌≡◌, ◌≢◌, inl, inr, ℕ, suc, ◌+◌, ◌≤◌, ◌==◌, Bool, true, false, true≢false, cond, ◌&&◌, ◌||◌, List, [], ◌∷◌, find, reverse, Option, None, Some, is_some, is_eq, refl, ap, sym, ◌∙◌, subst, arith}
 use Rattle.log_buffer.specs.Log.{HasLog}
 use Rattle.log_file.specs.Log.{Log}
 use Rattle.txn_log.proofs.Giving.{transaction_gives, transaction_on, still_gives}
@@ -11,7 +11,7 @@ use Rattle.environment.proofs.Bases.{begun_with, lives_on}
 use Rattle.txn_log.proofs.AtStandingLaws.{same_under, transaction_leaves_log}
 use Rattle.std.specs.List.{AllByRecursion, list_any}
 use Rattle.std.specs.Option.{option_or}
-use Rattle.std.proofs.lemmas.Bool.{cond-false, eq-eqb, eqb-true, ne_eqb}
+use Rattle.std.proofs.lemmas.Bool.{cond-false, eqb-true, ne_eqb}
 use Rattle.std.proofs.lemmas.List.{reverse-append}
 use Rattle.std.proofs.lemmas.List.Folds.{find-append}
 use Rattle.je_disk.specs.Moments.{History, now}
@@ -47,7 +47,6 @@ use Rattle.txn_log.specs.AtStanding.{IsLogAt}
 use Rattle.txn_log.specs.Buffers.{HasAdded}
 use Rattle.txn_log.specs.Committing.{IsElsewhere, MakesStore, MayBeCommitted}
 use Rattle.txn_log.specs.Gives.{GivesRecordsWith}
-use Rattle.txn_log.proofs.CommittingLaws.{own_above}
 use Rattle.txn_log.proofs.CountLaws.{had_stay}
 use Rattle.txn_views.specs.Seen.{HasWrites, IsWriteOf, last_own}
 use Rattle.txn_views.proofs.OwnLaws.{none_in}

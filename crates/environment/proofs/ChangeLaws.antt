@@ -1,5 +1,5 @@
 -- Changes that a call may make: they may be committed, what they are in the store, what is logged of them, and how many records they leave.
-use Rattle.std.proofs.Common.{◌≡◌, ◌≢◌, ◌⊎◌, inl, inr, ◌∙◌, ℕ, ◌+◌, ◌^◌, ◌≤◌, ◌<◌, ◌==◌, ◌&&◌, Bool, true, false, cond, List, [], ◌∷◌, ◌++◌, Option, None, Some, is_some, is_eq, count_by, filter, length, map, flat_map, refl, ap, ap₂, sym, subst, arith}
+use Rattle.std.proofs.Common.{◌≡◌, ◌≢◌, inl, inr, ◌∙◌, ℕ, ◌+◌, ◌^◌, ◌≤◌, ◌<◌, ◌==◌, ◌&&◌, Bool, true, false, cond, List, [], ◌∷◌, ◌++◌, Option, None, Some, is_some, is_eq, count_by, filter, length, map, flat_map, refl, ap, ap₂, sym, subst, arith}
 use Rattle.std.specs.List.{AllByRecursion}
 use Rattle.std.proofs.lemmas.Bool.{eqb-true}
 use Rattle.std.proofs.lemmas.List.Sums.{length-filter}
@@ -19,14 +19,14 @@ use Rattle.store_model.specs.declared.store.Database.{Database}
 use Rattle.store_model.specs.Indexes.{Numbered}
 use Rattle.store_model.specs.Needs.{changed_name}
 use Rattle.store_model.specs.Store.{change_in, proper}
-use Rattle.je_answers.specs.Standing.{Standing, database_at}
+use Rattle.je_answers.specs.Standing.{Standing}
 use Rattle.je_answers.specs.Views.{changes_in, changes_named, with_names, with_numbers}
 use Rattle.log_trees.proofs.Bounds.{eq_turned}
 use Rattle.log_replay.specs.Kept.{IsRecordChange, MayBeLogged}
 use Rattle.log_replay.specs.Laws.{one_if}
 use Rattle.log_replay.specs.Logging.{all_row_changes, kind_named, number_named, row_changes}
 use Rattle.log_replay.specs.Rows.{RowChange, Rows, data_at, is_right_row, numbers_of}
-use Rattle.log_replay.proofs.ListLaws.{all_of_map, all_to_map, map-map}
+use Rattle.log_replay.proofs.ListLaws.{all_of_map, all_to_map}
 use Rattle.log_replay.proofs.LoggedLaws.{number-within}
 use Rattle.log_replay.proofs.StoreLaws.{environment_parts, number_of_row, primaries_in}
 use Rattle.log_replay.proofs.TransactionLaws.{records_are_logged}

@@ -1,5 +1,5 @@
 -- What an environment knows of its databases is what its catalog's records say, so it stays where these stay.
-use Rattle.std.proofs.Common.{◌≡◌, ◌∙◌, ◌==◌, ℕ, Bool, true, List, [], ◌∷◌, Option, None, Some, find, option_map, refl, ap, sym, subst}
+use Rattle.std.proofs.Common.{◌≡◌, ◌∙◌, ◌==◌, ℕ, true, List, Option, None, Some, find, option_map, refl, ap, sym, subst}
 use Rattle.std.specs.List.{AllByRecursion}
 use Rattle.std.proofs.lemmas.Bool.{eqb-true}
 use Rattle.store_model.specs.declared.extract.Extract.{Extract}

@@ -2,7 +2,7 @@
 use Rattle.db_names.specs.declared.db_names.DbNames.{DbNames}
 use Rattle.index_map.specs.declared.index_map.IndexMap.{IndexMap}
 use Rattle.environment.proofs.EarlyLaws.{same_buffer, same_reach}
-use Rattle.std.proofs.Common.{◌≡◌, ◌≢◌, ◌∙◌, ◌==◌, ◌+◌, ◌<◌, ◌≤◌, ◌^◌, ℕ, Bool, true, false, true≢false, List, [], ◌∷◌, Option, None, Some, Result, Ok, Err, IfSome, option_map, refl, ap, sym, subst, arith, IsErr}
+use Rattle.std.proofs.Common.{◌≡◌, ◌≢◌, ◌∙◌, ◌==◌, ◌+◌, ◌<◌, ◌≤◌, ◌^◌, ℕ, Bool, true, false, true≢false, List, ◌∷◌, Option, None, Some, Result, Ok, Err, IfSome, option_map, refl, ap, sym, subst, arith, IsErr}
 use mathlib.Core.Path.{fun_ext}
 use Rattle.std.specs.declared.alloc.AllocError.{AllocError}
 use Rattle.std.proofs.lemmas.Bool.{eqb-true, eqb-false}
@@ -30,10 +30,10 @@ use Rattle.in_tree.specs.Observed.{cells_of}
 use Rattle.index_map.specs.Made.{Made, index_by, made_in}
 use Rattle.index_map.specs.Map.{HasIndexes}
 use Rattle.index_map.proofs.Changes.{alike}
-use Rattle.db_names.specs.Names.{HasNames, Names, names_in}
+use Rattle.db_names.specs.Names.{HasNames, Names}
 use Rattle.txn_core.specs.declared.planned_changes.PlannedChanges.{PlannedChanges}
 use Rattle.txn_core.specs.Known.{committed}
-use Rattle.txn_core.specs.Planning.{IsPlannedLog, outcome_alone}
+use Rattle.txn_core.specs.Planning.{outcome_alone}
 use Rattle.engine.specs.declared.engine.Engine.{Engine}
 use Rattle.engine.specs.declared.kept.Kept.{Kept}
 use Rattle.engine.specs.Contents.{known}

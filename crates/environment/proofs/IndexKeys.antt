@@ -1,5 +1,5 @@
 -- The changes of a call through an index are of one key.
-use Rattle.std.proofs.Common.{◌≡◌, ◌∙◌, ℕ, Bool, true, true≢false, List, [], ◌∷◌, Option, None, Some, map, filter, not, is_gt, Ordering, Less, Equal, Greater, refl, ap, sym, subst}
+use Rattle.std.proofs.Common.{◌≡◌, ◌∙◌, ℕ, true, true≢false, List, [], ◌∷◌, Option, None, Some, map, filter, not, is_gt, Ordering, Less, Equal, Greater, refl, sym, subst}
 use Rattle.std.specs.List.{AllByRecursion}
 use Rattle.std.specs.Ordering.{is_ge, ordering_then}
 use Rattle.std.proofs.lemmas.Bool.{and_parts}
@@ -19,9 +19,9 @@ use Rattle.store_model.specs.declared.call.Call.TheVariants.{Get, GetBoth, Put, 
 use Rattle.store_model.specs.declared.record_change.RecordChange.{RecordChange}
 use Rattle.store_model.specs.declared.record_change.RecordChange.TheVariants.{Unset}
 use Rattle.store_model.specs.Store.{Pair, name_of, named}
-use Rattle.store_model.specs.Reads.{Range, Way, behind_key, empty_range, is_within, of_key, seen, taken_by}
-use Rattle.store_model.specs.Reads.Way.{Lowest, Highest, Each}
-use Rattle.store_model.specs.Records.{Evaluated, all_of_key, conclude, deleted, early_of, evaluation, exactly, first_of_key, found, look_at_place, look_of, look_of_motion, tested, tested_for, unless_early, went}
+use Rattle.store_model.specs.Reads.{Range, behind_key, empty_range, is_within, of_key, seen, taken_by}
+use Rattle.store_model.specs.Reads.Way.{Lowest, Each}
+use Rattle.store_model.specs.Records.{Evaluated, conclude, deleted, early_of, evaluation, exactly, first_of_key, found, look_at_place, look_of, look_of_motion, tested, tested_for, unless_early, went}
 use Rattle.store_model.specs.Refusals.{index_refusal}
 use Rattle.store_model.specs.Needs.{changed_name}
 use Rattle.standing_laws.specs.Right.{MayWait}

@@ -29,8 +29,6 @@ use Rattle.je_answers.specs.declared.active.Active.{Active}
 use Rattle.je_answers.specs.Standing.{Standing, active_of, database_at}
 use Rattle.je_answers.specs.Views.{Target, named_target, target, target_of}
 use Rattle.je_answers.specs.Refusals.{database_refusal, late_refusal, number_refusal, target_refusal}
-use Rattle.db_catalog.specs.declared.db_kind.DbKind.{DbKind}
-use Rattle.db_catalog.specs.declared.db_kind.DbKind.TheVariants.{Plain, Dup, SliceIndex, FieldIndex}
 use Rattle.db_catalog.specs.declared.db_record.DbRecord.{DbRecord}
 use Rattle.db_catalog.specs.declared.found_db.FoundDb.{FoundDb}
 use Rattle.db_catalog.specs.Planning.{IsFoundAs, found_in}

@@ -1,6 +1,6 @@
 -- Where an environment stands once a call of a transaction that changes something has ended.
-use Rattle.std.proofs.Common.{◌≡◌, ◌≢◌, ◌∙◌, ◌⊎◌, inl, inr, ℕ, ◌≤◌, ◌<◌, ◌+◌, ◌*◌, ◌^◌, ◌==◌, Bool, true, false, true≢false, cond, ◌||◌, List, [], ◌∷◌, ◌++◌, filter, length, map, Option, None, Some, Result, Ok, Err, OnErr, refl, ap, sym, subst, arith}
-use Rattle.std.specs.Prelude.{IfOk, OnOk, is_some}
+use Rattle.std.proofs.Common.{◌≡◌, ◌≢◌, ◌∙◌, ◌⊎◌, inl, inr, ℕ, ◌≤◌, ◌<◌, ◌+◌, ◌*◌, ◌^◌, ◌==◌, Bool, true, false, true≢false, cond, ◌||◌, List, [], ◌∷◌, ◌++◌, filter, length, map, Option, None, Some, Result, Ok, Err, refl, ap, sym, subst, arith}
+use Rattle.std.specs.Prelude.{IfOk, is_some}
 use Rattle.std.specs.List.{AllByRecursion}
 use Rattle.std.specs.declared.alloc.AllocError.{AllocError}
 use Rattle.std.proofs.lemmas.Bool.{cond-true, eq-eqb}
@@ -39,7 +39,7 @@ use Rattle.je_answers.specs.After.Fate.{Succeeds}
 use Rattle.je_answers.specs.Journal.{changes_closed, is_disk_fault}
 use Rattle.log_buffer.specs.Buffer.{IsUnchanged, disk_of as disk_below, end_of, file_max_of, has_failed}
 use Rattle.log_replay.specs.Logging.{all_row_changes}
-use Rattle.in_tree.specs.Observed.{cells_of, has_tree_of, limit_in, waits_of}
+use Rattle.in_tree.specs.Observed.{cells_of, has_tree_of, waits_of}
 use Rattle.txn_core.specs.Known.{committed}
 use Rattle.txn_core.specs.Planning.{makes_index, row_by}
 use Rattle.txn_log.specs.Own.{tree_of}

@@ -5,7 +5,7 @@ use Rattle.std.specs.List.{AllByRecursion}
 use Rattle.je_order.specs.Order.{name_cmp}
 use Rattle.je_order.proofs.Lists.{all_weaker, filter_all_pass}
 use Rattle.record_map.specs.Cells.{IsRising}
-use Rattle.record_tree.specs.Occupied.{AllCells, Occupied, is_occupied, occupied_by}
+use Rattle.record_tree.specs.Occupied.{Occupied, is_occupied, occupied_by}
 use Rattle.store_model.specs.declared.call.Call.{Call}
 use Rattle.store_model.specs.declared.kind.Kind.{Kind}
 use Rattle.store_model.specs.declared.kind.Kind.TheVariants.{Plain, Dup}

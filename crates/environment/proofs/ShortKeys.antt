@@ -1,5 +1,5 @@
 -- The keys of an index that the catalog has are within the limit of keys.
-use Rattle.std.proofs.Common.{◌≡◌, ◌≤◌, ℕ, Bool, true, false, cond, eqb, nat_le, nat_lt, ◌&&◌, List, [], ◌∷◌, length, Option, Some, None, IfSome, refl, sym, subst, ◌∙◌}
+use Rattle.std.proofs.Common.{◌≡◌, ◌≤◌, ℕ, Bool, true, false, cond, eqb, nat_le, nat_lt, ◌&&◌, List, length, Option, Some, None, IfSome, refl, sym, subst}
 use Rattle.std.specs.Int.{w32}
 use Rattle.std.proofs.lemmas.Bool.{and_parts, leb-true}
 use Rattle.je_order.specs.Options.{◌>>=◌}

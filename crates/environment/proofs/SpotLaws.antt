@@ -6,10 +6,9 @@ use Rattle.store_model.specs.declared.answer.Answer.{Answer}
 use Rattle.store_model.specs.declared.answer.Answer.TheVariants.{IdsEnded, NoCursor}
 use Rattle.store_model.specs.declared.call.Call.{Call}
 use Rattle.store_model.specs.declared.call.Call.TheVariants.{Count, Cur, CPutCur, CDel, CPut}
-use Rattle.store_model.specs.declared.kind.Kind.{Kind}
 use Rattle.store_model.specs.declared.place.Place.{Place}
 use Rattle.store_model.specs.declared.store.Database.{Database}
-use Rattle.store_model.specs.Refusals.{database_refuses, or_refusal}
+use Rattle.store_model.specs.Refusals.{or_refusal}
 use Rattle.je_answers.specs.declared.active.Active.{Active}
 use Rattle.je_answers.specs.Standing.{Standing, active_of, database_at, place_at}
 use Rattle.je_answers.specs.Views.{Target, cursor_target, target, target_at, target_of}

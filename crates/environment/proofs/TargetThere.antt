@@ -1,7 +1,6 @@
 -- The databases of a target are those that an environment finds by its own, and the store has them.
 use mathlib.Core.Path.{fun_ext}
-use Rattle.std.proofs.Common.{◌≡◌, ◌≢◌, ◌⊎◌, inl, inr, ◌∙◌, ◌<◌, ◌==◌, ◌++◌, nat_lt, ℕ, Bool, true, false, true≢false, cond, List, [], ◌∷◌, Option, None, Some, IfSome, filter, find, map, option_map, unwrap_or, refl, ap, ap₂, sym, subst, arith}
-use Rattle.std.specs.Prelude.{option_to_list}
+use Rattle.std.proofs.Common.{◌≡◌, ◌≢◌, ◌⊎◌, inl, inr, ◌∙◌, ◌<◌, ◌==◌, nat_lt, ℕ, Bool, true, false, true≢false, cond, List, [], ◌∷◌, Option, None, Some, IfSome, filter, find, map, option_map, unwrap_or, refl, ap, ap₂, sym, subst, arith}
 use Rattle.std.specs.List.{AllByRecursion}
 use Rattle.std.proofs.lemmas.Bool.Decides.{eqb_tells}
 use Rattle.std.proofs.lemmas.Option.{none-some, same_Some}
@@ -27,13 +26,12 @@ use Rattle.log_replay.proofs.LoggedLaws.{found_each}
 use Rattle.log_replay.proofs.RowLaws.{plain_name-key}
 use Rattle.log_replay.proofs.StoreLaws.{catalog_plain, database_of-store_of, environment_parts}
 use Rattle.je_order.specs.declared.name.Name.{Name}
-use Rattle.store_model.specs.Evaluation.{plain_name}
 use Rattle.txn_log.specs.Committing.{MakesStore}
 use Rattle.index_map.specs.declared.found_index.FoundIndex.{FoundIndex}
 use Rattle.index_map.specs.declared.index_map.IndexMap.{IndexMap}
 use Rattle.index_map.specs.Made.{AreIndexesOf, AreRising, Made, extract_in, extract_of, made_in, primary_in}
 use Rattle.index_map.specs.Map.{HasIndexes, list_at}
-use Rattle.index_map.specs.Laws.{db_at, index_at, indexes_at, known, over_of, records_number}
+use Rattle.index_map.specs.Laws.{db_at, indexes_at, known, over_of, records_number}
 use Rattle.index_map.proofs.Found.{indexes_are_found}
 use Rattle.environment.specs.Access.{AreNumbersApart, AreThere, HasShortKeys, IsDbAt, IsIndexAt, IsPrimaryAt}
 use Rattle.environment.specs.Valid.{index_made, made_at}

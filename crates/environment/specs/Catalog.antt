@@ -1,5 +1,5 @@
 -- Of which database a change of the catalog is, and who uses it.
-use Rattle.std.specs.Prelude.{ℕ, ◌≡◌, ◌+◌, ◌^◌, List, Option, None, Some, ◌⊎◌, Result, Ok, Err, Bool, true, false, nat_lt, option_map, if◌then◌else◌}
+use Rattle.std.specs.Prelude.{ℕ, ◌≡◌, ◌+◌, ◌^◌, List, Option, None, Some, ◌⊎◌, Result, Ok, Bool, true, false, nat_lt, option_map, if◌then◌else◌}
 use Rattle.std.specs.Option.{option_map_or}
 use Rattle.std.specs.declared.alloc.AllocError.{AllocError}
 use Rattle.je_order.specs.declared.txn_id.TxnId.{TxnId}

@@ -1,5 +1,5 @@
 -- What became of a call's changes that were to be logged.
-use Rattle.std.specs.Prelude.{ℕ, ◌≡◌, ◌≢◌, ◌≤◌, ◌+◌, ◌||◌, ◌∷◌, ◌++◌, [], List, Option, None, Some, Bool, true, false, length, nat_lt, count_by, Result, Ok, Err, if◌then◌else◌}
+use Rattle.std.specs.Prelude.{ℕ, ◌≡◌, ◌≢◌, ◌≤◌, ◌+◌, ◌||◌, ◌++◌, [], List, Option, None, Some, Bool, true, false, length, nat_lt, count_by, Result, Ok, Err, if◌then◌else◌}
 use Rattle.log_trees.specs.Placed.{placed}
 use Rattle.log_buffer.specs.Growth.{longer}
 use Rattle.log_buffer.specs.Flip.{pos_lsn}

@@ -1,27 +1,24 @@
 -- What a checkpoint logs of the trees.
 use Rattle.std.proofs.Common.{◌≡◌, ◌≤◌, ◌<◌, ◌⊎◌, ◌==◌, ◌&&◌, ◌++◌, ◌||◌, ℕ, suc, zero, cond, Bool, true, false, List, [], ◌∷◌, Option, None, Some, is_some, IsSome, length, map, filter, nat_lt, ◌-◌, refl, ap, ap₂, sym, subst, ◌∙◌, inl, inr, arith, not}
-use Rattle.std.specs.List.{AllByRecursion, list_any}
-use Rattle.std.specs.Ordering.{is_eq, nat_cmp}
+use Rattle.std.specs.List.{list_any}
+use Rattle.std.specs.Ordering.{is_eq}
 use Rattle.std.specs.Map.{keys_of}
 use Rattle.je_order.specs.Order.{name_cmp}
-use Rattle.std.specs.BTreeMap.{get}
 use Rattle.std.proofs.Math.Nat.{le_refl}
 use Rattle.std.proofs.lemmas.Option.{same_Some}
 use Rattle.std.proofs.lemmas.Bool.{true≢false, eqb-true, ltb-false, ne_eqb}
 use Rattle.je_order.specs.declared.name.Name.{Name}
 use Rattle.je_disk.specs.Moments.{History}
-use Rattle.log_entry.specs.Encoding.{size_of}
 use Rattle.log_entry.specs.declared.entry.Entry.{Entry}
 use Rattle.log_entry.specs.declared.entry.Entry.TheVariants.{CkptStart, CkptEnd}
 use Rattle.log_file.specs.Scan.{may_follow}
 use Rattle.log_buffer.specs.declared.buffer.LogBuffer.{LogBuffer}
-use Rattle.log_buffer.specs.Buffer.{end_of, file_max_of, IsUnchanged}
-use Rattle.log_buffer.specs.Flip.{placed_at, pos_lsn}
+use Rattle.log_buffer.specs.Buffer.{IsUnchanged}
 use Rattle.log_trees.specs.Placed.{Placed, placed}
 use Rattle.log_trees.specs.Sound.{Home}
 use Rattle.je_order.specs.Edges.{is_between}
 use Rattle.je_order.specs.Edges.Edge.{At}
-use Rattle.record_map.specs.Cells.{value_at, upper_edge, IsRising}
+use Rattle.record_map.specs.Cells.{value_at, upper_edge}
 use Rattle.record_map.proofs.NameLaws.{same_or_other, other_stays}
 use Rattle.record_tree.specs.Logged.{AreImages, IsFront, IsImage}
 use Rattle.record_tree.specs.declared.node_place.NodePlace.{NodePlace}

@@ -6,28 +6,26 @@ use Rattle.std.specs.List.Sorted.{IsStrictlySortedBy}
 use Rattle.std.specs.Map.{keys_of}
 use Rattle.std.specs.BTreeMap.{insert_entry}
 use Rattle.std.specs.Ordering.{match_ordering, ordering_reverse}
-use Rattle.std.proofs.lemmas.Bool.{true≢false, ne_eqb, le-ltb}
+use Rattle.std.proofs.lemmas.Bool.{ne_eqb, le-ltb}
 use Rattle.std.proofs.lemmas.List.{drop_all, length-map}
 use Rattle.std.proofs.lemmas.Option.{none-some, same_Some}
 use Rattle.std.proofs.Math.Nat.{le_refl}
 use Rattle.je_order.specs.Order.{name_cmp}
 use Rattle.je_order.specs.declared.name.Name.{Name}
-use Rattle.log_trees.specs.Sound.{Home, at_home}
 use Rattle.record_map.specs.declared.cell.Cell.{Cell}
 use Rattle.record_map.specs.Cells.{value_at, fresh, IsRising}
 use Rattle.record_map.specs.Held.{names_are_ordered}
 use Rattle.record_map.proofs.NameLaws.{name_same, same_or_other, other_stays, same_gets}
 use Rattle.record_tree.specs.declared.tree_change.TreeChange.{TreeChange}
-use Rattle.tree_nodes.specs.declared.node.Node.{Node}
 use Rattle.tree_nodes.specs.Nodes.{NodeRow, least, IsOver}
 use Rattle.tree_nodes.specs.Levels.{row_of, AreParts}
 use Rattle.tree_nodes.specs.Lows.{lows_of, with_root}
-use Rattle.tree_nodes.proofs.RisingLists.{none_behind, same_lists}
+use Rattle.tree_nodes.proofs.RisingLists.{same_lists}
 use Rattle.db_tree.specs.declared.node_split.NodeSplit.{NodeSplit}
 use Rattle.db_tree.specs.declared.slot_room.SlotRoom.{SlotRoom}
 use Rattle.db_tree.specs.declared.tree.DbTree.{DbTree}
 use Rattle.db_tree.specs.Images.{Placed, IsRead}
-use Rattle.db_tree.specs.NodeSteps.{AreSplitWaiting, IsOneNode, slot_splits}
+use Rattle.db_tree.specs.NodeSteps.{IsOneNode, slot_splits}
 use Rattle.db_tree.specs.Notes.{AreUnnotedSince, IsUnnotedSince}
 use Rattle.db_tree.specs.Seen.{occupied}
 use Rattle.db_tree.specs.Shapes.{count_in, new_shape, shape_in}
@@ -35,8 +33,6 @@ use Rattle.db_tree.specs.Splits.{Shape, count_waiting, has_slot, is_raised, lows
 use Rattle.db_tree.specs.Trees.{IsTree, HasCell, cell_or_fresh}
 use Rattle.db_tree.proofs.Ending.{next_left}
 use Rattle.db_tree.proofs.Order.{same_up}
-use Rattle.tree_images.specs.Fits.{AreImaged}
-use Rattle.tree_images.specs.Laws.{AgreesUpTo}
 use Rattle.tree_images.specs.PlaceLaws.{home_with}
 use Rattle.tree_images.proofs.Grown.{homes_agree}
 use Rattle.tree_images.proofs.NodeSteps.{new_imaged}

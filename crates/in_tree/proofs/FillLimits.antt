@@ -1,8 +1,6 @@
 -- The limit that changes meet which make a database and fill it, where it is found and nothing is left changed.
-use Rattle.std.proofs.Common.{◌≡◌, ◌+◌, ◌++◌, ◌∙◌, ℕ, min, map, length, Bool, true, false, cond, nat_lt, List, [], ◌∷◌, Option, None, Some, ap, ap₂, sym, subst, refl, arith}
+use Rattle.std.proofs.Common.{◌≡◌, ◌+◌, ◌++◌, ◌∙◌, ℕ, min, map, length, Bool, true, false, cond, nat_lt, List, [], ◌∷◌, Option, None, ap, ap₂, sym, subst, refl, arith}
 use Rattle.std.specs.List.{slice_get}
-use Rattle.std.specs.BTreeMap.{get}
-use Rattle.std.specs.Ordering.{nat_cmp}
 use Rattle.je_order.specs.declared.name.Name.{Name}
 use Rattle.log_buffer.specs.declared.buffer.LogBuffer.{LogBuffer}
 use Rattle.log_buffer.specs.Buffer.{has_failed}
@@ -13,7 +11,7 @@ use Rattle.db_tree.specs.declared.node_split.NodeSplit.{NodeSplit}
 use Rattle.db_tree.specs.declared.slot_room.SlotRoom.{SlotRoom}
 use Rattle.db_tree.specs.declared.tree.DbTree.{DbTree}
 use Rattle.db_tree.specs.Shapes.{new_shape}
-use Rattle.db_tree.specs.Splits.{image_sizes, logged_by, made_for, node_size, nodes_made, passes_top, shape_with, split_at, splits_of, then_above}
+use Rattle.db_tree.specs.Splits.{image_sizes, logged_by, made_for, node_size, nodes_made, shape_with, split_at, splits_of, then_above}
 use Rattle.in_tree.specs.declared.logged_trees.LogTrees.{LogTrees}
 use Rattle.in_tree.specs.declared.placed.Placed.{Placed as Slots}
 use Rattle.in_tree.specs.Filling.{AreIdle, IsFirstPlaced, limit_filled, limit_filling}

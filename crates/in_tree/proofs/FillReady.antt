@@ -1,5 +1,5 @@
 -- A new database that is filled: what its tree fits, and the limit that its changes meet.
-use Rattle.std.proofs.Common.{◌≡◌, ◌≤◌, ◌<◌, ◌+◌, ◌-◌, ◌*◌, ◌^◌, ◌==◌, ◌||◌, ◌&&◌, ◌++◌, ◌⊎◌, ℕ, suc, zero, min, map, length, Bool, true, false, cond, nat_le, nat_lt, get_or, length-set, List, [], ◌∷◌, Option, None, Some, IsSome, is_some, Result, Ok, Err, refl, ap, ap₂, sym, subst, ◌∙◌, inl, inr, arith}
+use Rattle.std.proofs.Common.{◌≡◌, ◌≤◌, ◌<◌, ◌+◌, ◌-◌, ◌*◌, ◌==◌, ◌||◌, ◌&&◌, ◌++◌, ◌⊎◌, ℕ, suc, min, map, length, Bool, true, false, cond, nat_le, nat_lt, get_or, length-set, List, [], ◌∷◌, Option, None, Some, IsSome, refl, ap, ap₂, sym, subst, ◌∙◌, inl, inr, arith}
 use Rattle.std.specs.Prelude.{IfSome}
 use Rattle.std.specs.List.{AllByRecursion}
 use Rattle.std.specs.Ordering.{nat_cmp}
@@ -14,8 +14,7 @@ use Rattle.je_disk.specs.Moments.{History}
 use Rattle.je_order.specs.declared.name.Name.{Name}
 use Rattle.je_order.specs.declared.txn_id.TxnId.{TxnId}
 use Rattle.log_entry.specs.declared.entry.Entry.{Entry}
-use Rattle.node_core.specs.declared.slot.Version.{Version}
-use Rattle.node_core.specs.declared.slot.Version.TheVariants.{There, Deleted, Unset}
+use Rattle.node_core.specs.declared.slot.Version.TheVariants.{There, Unset}
 use Rattle.log_trees.specs.Sound.{Home, at_home}
 use Rattle.log_buffer.specs.declared.buffer.LogBuffer.{LogBuffer}
 use Rattle.je_disk.specs.Moments.{now}
@@ -26,7 +25,7 @@ use Rattle.log_buffer.specs.Flip.{pos_lsn}
 use Rattle.log_buffer.specs.Log.{HasLog}
 use Rattle.crash_recovery.proofs.RisingLsns.{logs_lie_below}
 use Rattle.record_map.specs.declared.cell.Cell.{Cell}
-use Rattle.record_map.specs.Cells.{value_at, fresh}
+use Rattle.record_map.specs.Cells.{value_at}
 use Rattle.record_tree.specs.declared.tree_change.TreeChange.{TreeChange}
 use Rattle.record_tree.specs.declared.tree_err.TreeErr.{TreeErr}
 use Rattle.record_tree.specs.declared.tree_err.TreeErr.TheVariants.{Full, IdsEnded, Memory, Fault}
@@ -41,9 +40,8 @@ use Rattle.db_tree.specs.declared.tree.DbTree.{DbTree}
 use Rattle.db_tree.specs.Content.{held_by}
 use Rattle.db_tree.specs.Images.{Placed, shown}
 use Rattle.db_tree.specs.Notes.{AreUnnotedSince}
-use Rattle.db_tree.specs.Seen.{occupied}
-use Rattle.db_tree.specs.Shapes.{count_in, made_by, new_shape, shape_in}
-use Rattle.db_tree.specs.Splits.{count_waiting, image_sizes, nodes_made, passes_top}
+use Rattle.db_tree.specs.Shapes.{made_by, new_shape}
+use Rattle.db_tree.specs.Splits.{image_sizes, nodes_made, passes_top}
 use Rattle.db_tree.specs.Trees.{IsTree}
 use Rattle.db_tree.proofs.SplitLaws.{level_cases}
 use Rattle.tree_images.specs.Fits.{AreImaged, IsRecorded, AreRecorded}
@@ -54,20 +52,20 @@ use Rattle.tree_images.proofs.ForestSteps.{fits_here}
 use Rattle.in_tree.specs.declared.placed.Placed.{Placed as Slots}
 use Rattle.in_tree.specs.declared.logged_trees.LogTrees.{LogTrees}
 use Rattle.in_tree.specs.Filling.{AreBlank, AreFilling, AreIdle, AreUnlogged, HasNewTree, IsFilled, IsFirstPlaced, IsReadyToFill, is_filled_too_high, limit_filled, limit_filling, numbers_filled}
-use Rattle.in_tree.specs.Forest.{Forest, Replaces, IsSameForest, cells_at, cells_of, cells_seen, is_there, HasSameTrees, KeepsCells, HasOne}
+use Rattle.in_tree.specs.Forest.{Forest, Replaces, IsSameForest, cells_of, cells_seen, is_there, HasSameTrees, KeepsCells, HasOne}
 use Rattle.log_trees.specs.Placed.{Placed as PlacedEntry, placed}
 use Rattle.in_tree.specs.Carrying.{carries_then}
 use Rattle.in_tree.specs.Fitting.{fitting_then, fitting_unchanged}
 use Rattle.in_tree.specs.Growing.{GrewForest, IsForestDue, TreesGrew, trees_at, none_due}
 use Rattle.in_tree.specs.Observed.{last_node_of, trees_of}
 use Rattle.in_tree.specs.Limits.{change_size, commit_sizes, limit_behind, one_made, HasRoomFor, GrewFitting}
-use Rattle.in_tree.specs.Placing.{IsPlacedIn, IsFittedIn, first_behind, placed_sizes, count_images, AreLoggable, due_one, due_of, ArePlaced}
+use Rattle.in_tree.specs.Placing.{IsPlacedIn, IsFittedIn, first_behind, placed_sizes, count_images, AreLoggable, due_one, due_of}
 use Rattle.in_tree.specs.Shapes.{Shapes, shapes_of}
 use Rattle.in_tree.specs.Waits.{waits_in}
 use Rattle.in_tree.proofs.Checked.{bounded_behind, ended_behind, full_behind, none_behind, no_tree}
 use Rattle.in_tree.proofs.DueLogging.{due_there, is_next}
 use Rattle.in_tree.proofs.DuePlaces.{IsGrownTo, IsRooted, due_with, one_grows, rooted}
-use Rattle.in_tree.proofs.Forests.{forest_kept, forest_same as seen_same, forest_tree, forest_trees, others_away, replaced}
+use Rattle.in_tree.proofs.Forests.{forest_kept, forest_tree, others_away, replaced}
 use Rattle.in_tree.proofs.Placings.{few_one, low_one, placed_trees, placed_seen, was_shape}
 use Rattle.in_tree.proofs.Preparation.{made_is}
 use Rattle.in_tree.proofs.Waits.{forest_waits}

@@ -1,5 +1,5 @@
 -- A checkpoint notes nodes of the trees.
-use Rattle.std.proofs.Common.{◌≡◌, ◌≤◌, ◌⊎◌, inl, inr, ◌==◌, ◌&&◌, ℕ, Bool, true, false, List, [], ◌∷◌, ◌++◌, Option, None, Some, IsSome, Result, Ok, Err, OnOk, option_map, is_some, is_eq, refl, ap, sym, subst, ◌∙◌, arith}
+use Rattle.std.proofs.Common.{◌≡◌, ◌≤◌, ◌==◌, ◌&&◌, ℕ, Bool, true, false, List, [], ◌∷◌, ◌++◌, Option, None, Some, IsSome, Result, Ok, Err, OnOk, option_map, is_some, is_eq, refl, ap, sym, subst, ◌∙◌, arith}
 use Rattle.std.specs.Ordering.{nat_cmp}
 use Rattle.std.specs.BTreeMap.{get}
 use Rattle.std.proofs.lemmas.Option.{same_Some}
@@ -9,7 +9,6 @@ use Rattle.je_order.specs.declared.name.Name.{Name}
 use Rattle.log_entry.specs.declared.entry.Entry.{Entry}
 use Rattle.log_buffer.specs.declared.buffer.LogBuffer.{LogBuffer}
 use Rattle.log_trees.specs.Placed.{Placed, placed}
-use Rattle.log_trees.specs.Sound.{Home}
 use Rattle.record_map.specs.Cells.{value_at}
 use Rattle.record_tree.specs.Occupied.{AreSame}
 use Rattle.record_tree.specs.declared.node_place.NodePlace.{NodePlace}
@@ -17,7 +16,7 @@ use Rattle.record_tree.specs.declared.tree_err.TreeErr.{TreeErr}
 use Rattle.tree_nodes.specs.declared.node.Node.{Node}
 use Rattle.tree_nodes.specs.Nodes.{NodeRow, is_dirty, noted_as}
 use Rattle.tree_nodes.specs.Levels.{row_of}
-use Rattle.tree_nodes.specs.Noted.{AreNoted, is_to_note, noted_row}
+use Rattle.tree_nodes.specs.Noted.{AreNoted, is_to_note}
 use Rattle.tree_nodes.proofs.NoteLaws.{noted_value}
 use Rattle.db_tree.specs.declared.node_image.NodeImage.{NodeImage}
 use Rattle.db_tree.specs.declared.tree.DbTree.{DbTree}
@@ -38,7 +37,7 @@ use Rattle.in_tree.specs.Checkpoints.{HasGot, IsAloneIn, IsClean}
 use Rattle.in_tree.specs.Carrying.{LogFact, carries_then}
 use Rattle.in_tree.specs.Fitting.{fitting_then, fitting_unchanged}
 use Rattle.in_tree.specs.Limits.{GrewFitting}
-use Rattle.in_tree.specs.Forest.{Forest, HasSameCells, HasSameTrees, Replaces, cells_of, cells_seen, is_there}
+use Rattle.in_tree.specs.Forest.{Forest, Replaces, cells_of, cells_seen, is_there}
 use Rattle.in_tree.specs.declared.logged_trees.LogTrees.{LogTrees}
 use Rattle.in_tree.specs.declared.trees.Trees.{Trees}
 use Rattle.in_tree.specs.Growing.{TreesGrew, trees_at}

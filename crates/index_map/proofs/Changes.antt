@@ -1,17 +1,17 @@
 -- A map with an index more, or less.
-use Rattle.std.proofs.Common.{◌≡◌, ℕ, ◌+◌, ◌<◌, ◌==◌, take, drop, get_or, length, nat_lt, Less, Equal, Greater, arith, Bool, true, false, cond, List, [], ◌∷◌, ◌++◌, Option, None, Some, map, find, option_map, not, refl, sym, ap, ◌∙◌, subst}
+use Rattle.std.proofs.Common.{◌≡◌, ℕ, ◌+◌, ◌<◌, ◌==◌, take, drop, get_or, length, nat_lt, Less, Equal, Greater, arith, Bool, true, false, cond, List, [], ◌∷◌, ◌++◌, Option, None, Some, map, option_map, not, refl, sym, ap, ◌∙◌, subst}
 use Rattle.std.specs.Ordering.{nat_cmp, is_eq}
-use Rattle.std.specs.BTreeMap.{BTreeMap, get, is_at}
+use Rattle.std.specs.BTreeMap.{get, is_at}
 use Rattle.std.specs.Map.{lookup}
 use Rattle.std.specs.Option.{IfNone}
-use Rattle.std.specs.List.{list_any, AllByRecursion}
-use Rattle.std.proofs.lemmas.Bool.{cond-true, cond-false, ltb-true, eqb-true, eqb-false, eq-eqb, ne_eqb, and_parts, both_ways, or_left, or_right}
+use Rattle.std.specs.List.{list_any}
+use Rattle.std.proofs.lemmas.Bool.{cond-true, cond-false, ltb-true, eqb-true, eq-eqb, ne_eqb, and_parts, both_ways, or_left, or_right}
 use Rattle.std.proofs.lemmas.Option.{none-some}
 use Rattle.store_model.specs.declared.extract.Extract.{Extract}
 use Rattle.log_replay.specs.Rows.{Row, catalog_number, catalog_index, row_numbered, are_distinct}
 use Rattle.index_map.specs.declared.found_index.FoundIndex.{FoundIndex}
 use Rattle.index_map.specs.declared.index_map.IndexMap.{IndexMap}
-use Rattle.index_map.specs.Made.{Made, made_in, no_made, index_by, with_made, primary_in, extract_of, extract_in, with_index, without, AreIndexesOf}
+use Rattle.index_map.specs.Made.{Made, made_in, index_by, with_made, with_index, without, AreIndexesOf}
 use Rattle.index_map.specs.Map.{list_at, HasIndexes}
 use Rattle.record_tree.specs.declared.record_ref.RecordRef.{RecordRef}
 use Rattle.record_tree.specs.Stored.{lent}

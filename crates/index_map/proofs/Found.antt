@@ -1,32 +1,30 @@
 -- The indexes that a catalog makes are those of the store, by its databases' numbers.
-use Rattle.std.proofs.Common.{◌≡◌, ◌≢◌, ℕ, ◌==◌, ◌&&◌, ◌||◌, Bool, is_eq, is_some, true, false, cond, not, List, [], ◌∷◌, ◌++◌, Option, None, Some, map, filter, find, length, option_map, unwrap_or, nat_lt, refl, sym, ap, ap₂, ◌∙◌, subst}
+use Rattle.std.proofs.Common.{◌≡◌, ℕ, ◌==◌, ◌||◌, Bool, is_eq, is_some, true, false, cond, not, List, [], ◌∷◌, Option, None, Some, map, filter, option_map, unwrap_or, nat_lt, refl, sym, ap, ap₂, ◌∙◌, subst}
 use Rattle.std.specs.List.{AllByRecursion, list_any}
 use Rattle.std.specs.Option.{option_map_or}
-use Rattle.std.proofs.lemmas.Bool.{cond-true, cond-false, eqb-true, eqb-false, eq-eqb, ne_eqb, and_parts, not-true}
+use Rattle.std.proofs.lemmas.Bool.{cond-true, cond-false, eqb-true, eqb-false, eq-eqb, ne_eqb, and_parts}
 use Rattle.std.proofs.lemmas.Option.{none-some, same_Some}
 use Rattle.je_order.specs.Order.{is_same_bytes, name_cmp}
-use Rattle.je_order.proofs.Lists.{all_weaker}
 use Rattle.db_catalog.specs.Catalog.{db_record_in}
-use Rattle.store_model.specs.declared.store.Store.{Store}
 use Rattle.store_model.specs.declared.store.Database.{Database}
 use Rattle.store_model.specs.declared.index.Index.{Index}
 use Rattle.store_model.specs.declared.kind.Kind.{Kind}
-use Rattle.store_model.specs.declared.kind.Kind.TheVariants.{Plain, Dup}
+use Rattle.store_model.specs.declared.kind.Kind.TheVariants.{Plain}
 use Rattle.store_model.specs.declared.extract.Extract.{Extract}
 use Rattle.store_model.specs.Store.{database_of}
 use Rattle.store_model.specs.Indexes.{Numbered, with_among, by_number, is_index_of, indexes_of, primary_of, records_name}
 use Rattle.store_model.specs.Evaluation.{plain_name}
 use Rattle.store_model.proofs.IndexLaws.{bytes_are}
-use Rattle.log_replay.specs.Rows.{Row, Rows, row_at, row_numbered, catalog_number, catalog_kind, catalog_index, number_or_0, is_plain_row, has_primary, are_distinct, numbers_of, is_environment, IsRising, index_in, index_over, database_in, store_of}
+use Rattle.log_replay.specs.Rows.{Row, Rows, row_at, row_numbered, catalog_number, catalog_kind, catalog_index, number_or_0, is_plain_row, has_primary, are_distinct, is_environment, IsRising, index_in, index_over, database_in, store_of}
 use Rattle.log_replay.specs.Logging.{record_in, number_named}
 use Rattle.log_replay.proofs.ListLaws.{all_both, found}
 use Rattle.log_replay.proofs.RowLaws.{plain_name-key}
-use Rattle.log_replay.proofs.StoreLaws.{IsEnvironment, HasPrimary, primaries_in, environment_parts, catalog_plain, catalog_cases, database_of-store_of}
+use Rattle.log_replay.proofs.StoreLaws.{HasPrimary, primaries_in, environment_parts, catalog_plain, catalog_cases, database_of-store_of}
 use Rattle.log_replay.proofs.IndexedLaws.{index_kind, primary_kind}
 use Rattle.log_replay.proofs.IndexRows.{numbered_named}
 use Rattle.log_replay.proofs.LoggedLaws.{found_each, plain_there, same_bytes}
 use Rattle.index_map.specs.declared.found_index.FoundIndex.{FoundIndex}
-use Rattle.index_map.specs.Made.{Made, made_in, index_by, with_made, primary_in, extract_of, with_index, AreIndexesOf, AreRising}
+use Rattle.index_map.specs.Made.{made_in, index_by, with_made, extract_of, with_index, AreIndexesOf}
 use Rattle.index_map.specs.Laws.{db_at, index_at, over_of, indexes_at, known, records_number, IndexesAreFound}
 use Rattle.index_map.proofs.SortedLaws.{one_list, added, same_made}
 

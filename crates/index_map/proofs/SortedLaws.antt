@@ -1,7 +1,7 @@
 -- Indexes in a list by rising number.
-use Rattle.std.proofs.Common.{◌≡◌, ◌≢◌, ℕ, ◌<◌, ◌≤◌, ◌+◌, ◌∷◌, ◌++◌, [], List, suc, Bool, true, false, cond, not, ◌==◌, nat_lt, length, Option, None, Some, find, filter, map, option_map, refl, sym, ap, ap₂, ◌∙◌, subst, ⊎_elim, arith}
-use Rattle.std.specs.List.{AllByRecursion, insert, position, position_or_len, prefix_len}
-use Rattle.std.proofs.lemmas.Bool.{cond-true, cond-false, true≢false, eqb-true, eqb-false, eq-eqb, ne_eqb, cases_Bool, ltb-true, ltb-false}
+use Rattle.std.proofs.Common.{◌≡◌, ◌≢◌, ℕ, ◌<◌, ◌≤◌, ◌+◌, ◌∷◌, [], List, suc, Bool, true, false, cond, not, ◌==◌, nat_lt, length, Option, None, Some, find, option_map, refl, sym, ap, ap₂, ◌∙◌, arith}
+use Rattle.std.specs.List.{AllByRecursion, insert, position, position_or_len}
+use Rattle.std.proofs.lemmas.Bool.{cond-true, cond-false, true≢false, eqb-true, eqb-false, eq-eqb, ne_eqb, ltb-true, ltb-false}
 use Rattle.std.proofs.lemmas.Option.{none-some, same_Some}
 use Rattle.je_order.proofs.Lists.{all_kept, all_weaker}
 use Rattle.store_model.specs.declared.extract.Extract.{Extract}

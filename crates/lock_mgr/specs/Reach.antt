@@ -1,8 +1,6 @@
 -- The waits that are reached from one transaction, and the search's state.
 use Rattle.std.specs.Prelude.{◌≡◌, ℕ, ◌+◌, Bool, true, false, cond, nat_lt, List, [], ◌∷◌, length, ◌⊎◌}
 use Rattle.std.specs.BTreeSet.{BTreeSet, contains}
-use Rattle.std.specs.declared.cmp.Ordering.{Ordering}
-use Rattle.std.specs.Ordering.{nat_cmp}
 use Rattle.je_order.specs.declared.txn_id.TxnId.{TxnId}
 use Rattle.waits_for.specs.Cycles.{is_in, is_edge, closes_by, is_cycle_by}
 use Rattle.lock_table.specs.declared.record_id.RecordId.{RecordId}

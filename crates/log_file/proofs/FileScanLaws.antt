@@ -19,7 +19,7 @@ use Rattle.log_entry.proofs.PrefixLaws.{prefix_on-is, prefix_on-encoded, prefix_
 use Rattle.log_file.specs.declared.valid_prefix.ValidPrefix.{ValidPrefix}
 use Rattle.log_file.specs.declared.file_scan.FileScan.{FileScan}
 use Rattle.log_file.specs.declared.file_scan.FileScan.TheVariants.{Prefix, VersionUnknown, Damaged}
-use Rattle.log_file.specs.Scan.{may_follow, no_prefix, sizes_of, front, entries_behind, prefix_with, scan_first, scan_by, scan_of}
+use Rattle.log_file.specs.Scan.{may_follow, sizes_of, front, entries_behind, prefix_with, scan_first, scan_by, scan_of}
 use Rattle.log_file.specs.Log.{file_bytes, AreFileEntries}
 use Rattle.log_file.specs.Laws.{AreFoundAgain, IsEncodedBack, AreEncodedBack, AreLongest}
 use Rattle.log_file.specs.Scanning.{prefix_at}

@@ -1,5 +1,5 @@
 -- How many records and databases a change of the store leaves.
-use Rattle.std.proofs.Common.{◌≡◌, ◌≢◌, ℕ, ◌+◌, ◌<◌, ◌^◌, List, [], ◌∷◌, true, false, not, Option, None, Some, length, refl, ap, sym, ◌∙◌, subst, arith, filter, is_eq}
+use Rattle.std.proofs.Common.{◌≡◌, ◌≢◌, ℕ, ◌+◌, ◌<◌, List, [], ◌∷◌, true, false, not, Option, None, Some, length, refl, ap, sym, ◌∙◌, subst, arith, filter, is_eq}
 use mathlib.Core.Path.{fun_ext}
 use Rattle.je_order.specs.Order.{name_cmp}
 use Rattle.je_order.specs.declared.name.Name.{Name}

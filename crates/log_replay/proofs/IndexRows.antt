@@ -1,14 +1,13 @@
 -- Which catalog record has a number after a change of the catalog, and what that says of indexes and their primaries.
 use Rattle.std.proofs.Common.{◌≡◌, ◌≢◌, ℕ, List, [], ◌∷◌, ◌++◌, Bool, true, false, cond, not, ◌==◌, Option, None, Some, filter, option_map, refl, ap, sym, ◌∙◌, subst, ⊎_elim, is_eq, is_lt, is_gt}
-use Rattle.std.specs.List.{AllByRecursion, list_any}
-use Rattle.std.proofs.lemmas.Bool.{cond-true, cond-false, true≢false, eqb-true, eqb-false, eq-eqb, ne_eqb, cases_eq, cases_Bool}
+use Rattle.std.specs.List.{AllByRecursion}
+use Rattle.std.proofs.lemmas.Bool.{cond-true, cond-false, true≢false, eq-eqb, ne_eqb}
 use Rattle.je_order.specs.Order.{name_cmp, is_same_bytes}
 use Rattle.je_order.specs.declared.name.Name.{Name}
-use Rattle.store_model.specs.declared.index.Index.{Index}
 use Rattle.store_model.specs.declared.extract.Extract.{Extract}
 use Rattle.store_model.specs.Evaluation.{plain_name}
 use Rattle.log_replay.specs.Rows.{Row, row_at, rows_with, IsRising, catalog_number, row_numbered, is_plain_row, has_primary, index_over, index_in}
-use Rattle.log_replay.proofs.ListLaws.{found, none_found_in}
+use Rattle.log_replay.proofs.ListLaws.{none_found_in}
 use Rattle.log_replay.proofs.RowLaws.{split_where_none}
 use Rattle.log_replay.proofs.StoreLaws.{IsCase}
 

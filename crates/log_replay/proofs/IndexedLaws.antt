@@ -1,8 +1,8 @@
 -- No index is wrong exactly where each has the pairs of its primary's records.
-use Rattle.std.proofs.Common.{◌≡◌, ℕ, List, [], ◌∷◌, Bool, true, false, not, ◌&&◌, ◌==◌, Option, None, Some, find, map, option_map, refl, sym, ap, ap₂, ◌∙◌, subst}
+use Rattle.std.proofs.Common.{◌≡◌, ℕ, List, [], ◌∷◌, Bool, true, false, not, ◌==◌, Option, None, Some, find, option_map, refl, sym, ap, ap₂, ◌∙◌, subst}
 use Rattle.std.specs.List.{AllByRecursion}
-use Rattle.std.proofs.lemmas.Bool.{and_parts, and_from, not-true}
-use Rattle.je_order.specs.Order.{bytes_cmp, is_same_bytes, name_cmp}
+use Rattle.std.proofs.lemmas.Bool.{and_parts, and_from}
+use Rattle.je_order.specs.Order.{bytes_cmp, is_same_bytes}
 use Rattle.je_order.specs.declared.name.Name.{Name}
 use Rattle.je_order.proofs.Orderings.{equal_from_test, name_exact}
 use Rattle.je_order.proofs.Lists.{all_weaker}
@@ -13,14 +13,13 @@ use Rattle.db_catalog.specs.Catalog.{db_record_in}
 use Rattle.db_catalog.specs.Planning.{is_primary_record}
 use Rattle.store_model.specs.declared.store.Store.{Store}
 use Rattle.store_model.specs.declared.store.Database.{Database}
-use Rattle.store_model.specs.declared.kind.Kind.{Kind}
 use Rattle.store_model.specs.declared.kind.Kind.TheVariants.{Plain, Dup}
 use Rattle.store_model.specs.declared.index.Index.{Index}
 use Rattle.store_model.specs.declared.extract.Extract.{Extract}
 use Rattle.store_model.specs.Store.{Pair, database_of}
 use Rattle.store_model.specs.Indexes.{IsIndex, IsMadeFrom, index_pairs}
 use Rattle.store_model.specs.Evaluation.{plain_name}
-use Rattle.log_replay.specs.Rows.{Row, Rows, row_at, row_numbered, catalog_number, catalog_kind, catalog_index, kind_or_plain, index_or_none, is_environment, IsRising, index_in, index_over, database_in, store_of}
+use Rattle.log_replay.specs.Rows.{Row, Rows, row_at, row_numbered, catalog_number, catalog_index, kind_or_plain, index_or_none, is_environment, IsRising, index_in, index_over, database_in, store_of}
 use Rattle.log_replay.specs.Indexed.{is_same_pair, are_same_pairs, are_pairs_of, is_filled, IndexesAreJudged}
 use Rattle.log_replay.proofs.ListLaws.{all_both, all_to_map, none_found, none_found_in, found}
 use Rattle.log_replay.proofs.RowLaws.{name_cmp-plain, plain_name-key}

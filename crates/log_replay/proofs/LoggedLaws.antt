@@ -26,7 +26,7 @@ use Rattle.store_model.specs.declared.extract.Extract.TheVariants.{ByteSlice, Fi
 use Rattle.store_model.specs.Store.{database_of, Pair, proper, changed, pairs_with, pairs_without, databases_with, databases_without, databases_renamed, with_primary, index_renamed}
 use Rattle.store_model.specs.Evaluation.{plain_name}
 use Rattle.log_replay.specs.Rows.{Row, Rows, RowChange, row_changed, rows_changed, rows_with, row_at, number_or_0, kind_or_plain, index_or_none, catalog_number, catalog_kind, catalog_index, row_numbered, is_plain_row, has_primary, is_made_of, is_catalog_row, is_right_row, are_right, is_environment, IsRising, pair_of, index_over, index_in, database_by, store_by, store_of}
-use Rattle.log_replay.specs.Logging.{record_in, record_named, number_named, kind_named, catalog_row_change, row_changes}
+use Rattle.log_replay.specs.Logging.{record_in, record_named, number_named, catalog_row_change, row_changes}
 use Rattle.log_replay.specs.Laws.{FoundByNumber, CatalogsAreOfStores}
 use Rattle.log_replay.specs.Kept.{Fits, MayBeLogged, with_number, numbered}
 use Rattle.log_replay.proofs.ListLaws.{found, none_found, none_found_in, map_same, map-map, all_both}

@@ -1,16 +1,14 @@
 -- What plans read of the records of an environment: the catalog's records are those of its databases, and the names of pairs rise.
-use Rattle.std.proofs.Common.{◌≡◌, List, [], ◌∷◌, true, Option, None, Some, map, option_map, refl, ap, sym, ◌∙◌, subst, Less}
+use Rattle.std.proofs.Common.{◌≡◌, List, [], ◌∷◌, true, map, ap, sym, ◌∙◌, subst, Less}
 use Rattle.std.specs.List.{AllByRecursion}
 use Rattle.std.specs.List.Sorted.{IsStrictlySortedBy}
 use Rattle.je_order.specs.declared.name.Name.{Name}
 use Rattle.je_order.specs.Order.{name_cmp}
-use Rattle.db_catalog.specs.Planning.{IsCatalogOf, IsRecordOf}
+use Rattle.db_catalog.specs.Planning.{IsCatalogOf}
 use Rattle.store_model.specs.declared.kind.Kind.{Kind}
-use Rattle.store_model.specs.declared.store.Database.{Database}
-use Rattle.store_model.specs.Store.{Pair, name_of, HasRisingNames, database_of}
-use Rattle.store_model.specs.Evaluation.{plain_name}
-use Rattle.log_replay.specs.Rows.{Row, Rows, row_at, is_environment, are_right, IsRising, pair_of, catalog_number, database_in, store_of}
-use Rattle.log_replay.specs.Logging.{record_in, record_named}
+use Rattle.store_model.specs.Store.{Pair, name_of, HasRisingNames}
+use Rattle.log_replay.specs.Rows.{Row, Rows, is_environment, are_right, IsRising, pair_of, store_of}
+use Rattle.log_replay.specs.Logging.{record_named}
 use Rattle.log_replay.proofs.RowLaws.{each_right}
 use Rattle.log_replay.proofs.LoggedLaws.{catalogs_are_of_stores}
 

@@ -15,7 +15,7 @@ use Rattle.store_model.specs.declared.kind.Kind.{Kind}
 use Rattle.store_model.specs.declared.store.TheConstants.{MOST_DATABASES}
 use Rattle.store_model.specs.Store.{Pair, database_of, with_pairs, in_database, databases_with, databases_without}
 use Rattle.store_model.specs.Evaluation.{plain_name}
-use Rattle.log_replay.specs.Rows.{Row, Rows, RowChange, row_changed, rows_with, row_at, number_or_0, kind_or_plain, catalog_number, catalog_kind, is_catalog_row, are_distinct, are_right, rows_of_row, numbers_of, is_environment, IsRising, pair_of, index_or_none, catalog_index, has_primary, row_numbered, index_in, database_by, store_by, database_in, store_of}
+use Rattle.log_replay.specs.Rows.{Row, Rows, RowChange, row_changed, rows_with, row_at, number_or_0, kind_or_plain, catalog_number, catalog_kind, is_catalog_row, are_distinct, are_right, rows_of_row, numbers_of, is_environment, IsRising, pair_of, index_or_none, catalog_index, has_primary, index_in, database_by, store_by, database_in, store_of}
 use Rattle.log_replay.specs.Logging.{record_in, record_named, number_named, kind_named, index_named}
 use Rattle.log_replay.proofs.ListLaws.{all_true, all_from_true, all_both, all_parts, all_of_map, all_to_map, map_same, map-map, find-map, filter-map, found, any_found, list_any-map}
 use Rattle.je_order.proofs.Lists.{none_each, each_none, all_weaker, all_append, all_kept}

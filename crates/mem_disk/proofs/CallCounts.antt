@@ -1,5 +1,5 @@
 -- How a call of the disk is counted, and how it fails.
-use Rattle.std.proofs.Common.{◌≡◌, ◌≤◌, ◌<◌, ◌⊎◌, ◌↔◌, ◌∙◌, ℕ, nat_eq, Bool, true, false, List, Contains, Result, Ok, Err, IsErr, IsErrAnd, IsErrOf, IfOk, OnOk, OnErr, inl, inr, refl, sym, ap, subst, arith}
+use Rattle.std.proofs.Common.{◌≡◌, ◌≤◌, ◌<◌, ◌⊎◌, ◌↔◌, ◌∙◌, ℕ, nat_eq, Bool, true, false, List, Contains, Result, Ok, Err, IsErr, IsErrAnd, IsErrOf, inl, inr, refl, sym, ap, subst, arith}
 use Rattle.std.specs.Bool.{Decides}
 use Rattle.std.specs.List.{IsAnyAnswer}
 use Rattle.std.proofs.lemmas.Bool.Decides.{Decides-eqb}

@@ -40,7 +40,6 @@ use Rattle.recovery_je.specs.declared.recover_err.RecoverErr.{RecoverErr}
 use Rattle.recovery_je.specs.declared.recover_err.RecoverErr.TheVariants.{Disk, Memory, Corrupt, WrongIndex}
 use Rattle.recovery_je.specs.Files.{IsReading, AreRead, AreSound}
 use Rattle.recovery_je.specs.Recovering.{HasTrees, IsMeant, IsFoundBy}
-use Rattle.store_model.specs.declared.store.Store.{Store}
 use Rattle.log_replay.specs.Indexed.{wrong_index}
 use Rattle.recovery_je.specs.Indexing.{IsIndexCheck}
 use Rattle.recovery_je.specs.Answer.{read_error, IsCorruptBy, IsFirstWrong, IsIndexBy, IsNoDiskErr, HasCauseOf, IsReadingOf, HasFiles, HasWrongIndex, IsRecoveredFrom}

@@ -1,31 +1,26 @@
 -- Which index is the first without the pairs of its primary's records.
-use Rattle.std.proofs.Common.{◌≡◌, ℕ, List, [], ◌∷◌, Bool, true, false, cond, not, ◌&&◌, ◌==◌, length, Option, None, Some, find, map, option_map, refl, sym, ap, ap₂, ◌∙◌, subst, Ordering, Less}
+use Rattle.std.proofs.Common.{◌≡◌, ℕ, List, [], ◌∷◌, Bool, true, false, cond, not, ◌&&◌, ◌==◌, length, Option, None, Some, find, map, option_map, refl, sym, ap, ap₂, ◌∙◌, subst}
 use Rattle.std.specs.List.{AllByRecursion}
-use Rattle.std.specs.List.Sorted.{IsStrictlySortedBy}
-use Rattle.std.specs.Ordering.{on}
 use Rattle.std.proofs.lemmas.Bool.{and_parts, eqb-true}
-use Rattle.je_order.specs.Order.{name_cmp}
 use Rattle.je_order.specs.Words.{is_word}
 use Rattle.je_order.specs.declared.name.Name.{Name}
 use Rattle.db_catalog.specs.Catalog.{db_record_in}
-use Rattle.store_model.specs.declared.store.Store.{Store}
 use Rattle.store_model.specs.declared.store.Database.{Database}
 use Rattle.store_model.specs.declared.kind.Kind.{Kind}
 use Rattle.store_model.specs.declared.kind.Kind.TheVariants.{Plain, Dup}
-use Rattle.store_model.specs.declared.index.Index.{Index}
 use Rattle.store_model.specs.declared.extract.Extract.{Extract}
-use Rattle.store_model.specs.Store.{Pair, name_of, database_of, HasRisingNames}
+use Rattle.store_model.specs.Store.{Pair, database_of}
 use Rattle.store_model.specs.Indexes.{index_pairs}
 use Rattle.store_model.specs.Evaluation.{plain_name}
 use Rattle.record_tree.specs.Stored.{Stored, values_of}
-use Rattle.log_replay.specs.Rows.{Row, Rows, row_at, row_numbered, catalog_number, catalog_kind, catalog_index, is_catalog_row, is_plain_row, is_right_row, are_right, is_environment, IsRising, index_in, index_over, database_in, rows_of_row, store_of, pair_of, has_primary}
+use Rattle.log_replay.specs.Rows.{Row, Rows, row_at, row_numbered, catalog_number, catalog_kind, catalog_index, is_catalog_row, is_plain_row, are_right, is_environment, IsRising, index_in, index_over, database_in, store_of, pair_of, has_primary}
 use Rattle.log_replay.specs.Indexed.{are_same_pairs, are_pairs_of, is_filled as has_pairs, wrong_index}
 use Rattle.log_replay.proofs.IndexedLaws.{indexes_are_judged, index_kind, primary_kind}
-use Rattle.log_replay.proofs.ListLaws.{all_weaker, all_both, all_true, found, find-map}
+use Rattle.log_replay.proofs.ListLaws.{all_weaker, all_both, found, find-map}
 use Rattle.log_replay.proofs.RowLaws.{plain_name-key}
 use Rattle.log_replay.proofs.StoreLaws.{HasPrimary, IsEnvironment, primaries_in, environment_parts, catalog_plain, database_of-store_of, is_right_under}
 use Rattle.log_replay.proofs.LoggedLaws.{found_each, plain_there}
-use Rattle.recovery_je.specs.Indexing.{IsIndexCheck, has_pairs_of, is_filled_by, is_filled, first_not_filled, HasPlainPrimary, IsReadable}
+use Rattle.recovery_je.specs.Indexing.{IsIndexCheck, is_filled_by, is_filled, first_not_filled, HasPlainPrimary, IsReadable}
 
 -- ---- what the catalog's record of an index says
 

@@ -1,8 +1,8 @@
 -- Records with their LSNs, as those of an environment, and which of them is wrong first.
-use Rattle.std.specs.Prelude.{ℕ, List, Option, map, filter, not, unwrap_or, option_map}
+use Rattle.std.specs.Prelude.{ℕ, List, Option, filter, not, unwrap_or, option_map}
 use Rattle.je_order.specs.declared.name.Name.{Name}
 use Rattle.record_map.specs.Cells.{value_at}
-use Rattle.record_tree.specs.Stored.{Stored, AllStored}
+use Rattle.record_tree.specs.Stored.{AllStored}
 pub use Rattle.record_tree.specs.Stored.{values_of}
 use Rattle.log_replay.specs.Rows.{Row, Rows, catalog_number, catalog_kind, are_right}
 use Rattle.recovery_je.specs.declared.numbered.Numbered.{Numbered}

@@ -1,5 +1,5 @@
 -- Sorted pairs of records are those of an index.
-use Rattle.std.proofs.Common.{◌≡◌, ℕ, ◌+◌, ◌<◌, ◌≤◌, ◌++◌, List, [], ◌∷◌, suc, Bool, true, false, cond, ◌&&◌, Option, None, Some, length, get_or, find, map, refl, ap, ap₂, sym, ◌∙◌, subst, Ordering, Less, Equal, Greater, is_eq, is_lt, arith}
+use Rattle.std.proofs.Common.{◌≡◌, ℕ, ◌+◌, ◌≤◌, ◌++◌, List, [], ◌∷◌, suc, Bool, true, false, cond, ◌&&◌, Option, None, Some, get_or, map, refl, ap, sym, ◌∙◌, Ordering, Less, Equal, Greater, is_eq, is_lt, arith}
 use Rattle.std.specs.Prelude.{option_map, sum_by}
 use Rattle.std.specs.List.{AllByRecursion}
 use Rattle.std.specs.List.Sorted.{IsPermutation, IsSortedBy, IsStrictlySortedBy}
@@ -11,11 +11,11 @@ use Rattle.je_order.specs.declared.name.Name.{Name}
 use Rattle.store_model.specs.declared.kind.Kind.TheVariants.{Plain, Dup}
 use Rattle.store_model.specs.declared.extract.Extract.{Extract}
 use Rattle.store_model.specs.Store.{Pair, named, name_of, HasRisingNames, pair_at}
-use Rattle.store_model.specs.Indexes.{key_in, key_of, index_pairs, data_under}
+use Rattle.store_model.specs.Indexes.{key_in, index_pairs, data_under}
 use Rattle.store_model.proofs.StoreLaws.{names_nil, names_total}
 use Rattle.store_model.proofs.Rows.{is_name, name_itself, name_is, row, rising_head, rising_rest, same_pairs}
 use Rattle.store_model.proofs.IndexLaws.{bytes_are, both_same, is_key, is_of, pair_if, index_row, index_rises}
-use Rattle.secondary.specs.Pairs.{pair_with, keyed, keyed_pairs}
+use Rattle.secondary.specs.Pairs.{pair_with, keyed_pairs}
 
 -- 1 where a test passes
 abbrev one_if : Bool → ℕ

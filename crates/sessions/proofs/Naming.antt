@@ -1,14 +1,13 @@
 -- The name of a need's database, among those of the call's target.
-use Rattle.std.proofs.Common.{◌≡◌, ℕ, ◌==◌, Bool, true, false, cond, List, [], ◌∷◌, ◌++◌, map, find, Some, None, Option, refl, ap, sym, ◌∙◌}
+use Rattle.std.proofs.Common.{◌≡◌, ℕ, ◌==◌, Bool, true, false, cond, List, [], ◌∷◌, ◌++◌, map, find, Some, refl, ap, sym, ◌∙◌}
 use Rattle.std.specs.Prelude.{option_map, option_to_list, unwrap_or}
 use Rattle.std.specs.Option.{option_map_or}
-use Rattle.std.proofs.lemmas.Bool.{cond-true, cond-false}
 use Rattle.store_model.specs.declared.kind.Kind.{Kind}
 use Rattle.store_model.specs.declared.need.Need.{Need}
 use Rattle.store_model.specs.declared.store.Database.{Database}
 use Rattle.store_model.specs.declared.lock_target.LockTarget.{LockTarget}
 use Rattle.store_model.specs.Indexes.{Numbered}
-use Rattle.je_answers.specs.Views.{Target, database_among}
+use Rattle.je_answers.specs.Views.{Target}
 use Rattle.je_answers.specs.Events.{lock_target}
 use Rattle.sessions.specs.declared.named_db.NamedDb.{NamedDb}
 use Rattle.sessions.specs.Names.{Known, known, known_in, AreOthersOf, named_by, target_by}

@@ -1,18 +1,14 @@
 -- The end of a checkpoint that names the roots of trees that fit the log.
-use Rattle.std.proofs.Common.{◌≡◌, ◌≤◌, ◌<◌, ◌⊎◌, inl, inr, ℕ, List, Option, Some}
+use Rattle.std.proofs.Common.{◌≤◌, ◌⊎◌, inl, inr, ℕ, List, Option}
 use Rattle.std.proofs.Math.Nat.{le_trans}
 use Rattle.je_order.specs.declared.name.Name.{Name}
 use Rattle.tree_nodes.specs.declared.node.Node.{Node}
-use Rattle.tree_nodes.specs.Nodes.{NodeRow, IsOver}
-use Rattle.tree_nodes.specs.Levels.{row_of}
-use Rattle.log_trees.specs.Sound.{Home}
-use Rattle.db_tree.specs.declared.tree.DbTree.{DbTree}
-use Rattle.db_tree.specs.Images.{Placed, shown}
+use Rattle.tree_nodes.specs.Nodes.{NodeRow}
+use Rattle.db_tree.specs.Images.{Placed}
 use Rattle.db_tree.specs.Content.{held_by}
 use Rattle.db_tree.specs.Trees.{IsBehind, IsTreeOf}
 use Rattle.tree_images.specs.EndLaws.{ForestsMayEnd}
 use Rattle.tree_images.specs.Forest.{latest_at}
-use Rattle.tree_images.specs.Fits.{FitsTree}
 use Rattle.tree_images.specs.Roots.{FitsForest, newest_at}
 use Rattle.tree_images.specs.Laws.{AreRightRoots}
 use Rattle.tree_images.proofs.LatestNewest.{latest_are_newest}

@@ -1,7 +1,7 @@
 -- Beginnings of checkpoints in a log, and late LSNs, while the log grows.
-use Rattle.std.proofs.Common.{◌≡◌, ◌≤◌, ◌<◌, ◌==◌, ◌&&◌, ◌||◌, ◌++◌, ◌⊎◌, inl, inr, ℕ, nat_le, nat_lt, List, [], ◌∷◌, Bool, true, false, refl, ap, ap₂, sym, subst, ◌∙◌, arith}
+use Rattle.std.proofs.Common.{◌≡◌, ◌≤◌, ◌<◌, ◌==◌, ◌&&◌, ◌||◌, ◌++◌, ◌⊎◌, inl, inr, ℕ, nat_le, nat_lt, List, [], ◌∷◌, Bool, true, false, refl, sym, ◌∙◌, arith}
 use Rattle.std.specs.List.{AllByRecursion, list_any}
-use Rattle.std.proofs.lemmas.Bool.{true≢false, eqb-true, leb-true, le-leb, ltb-true, lt-ltb}
+use Rattle.std.proofs.lemmas.Bool.{true≢false, eqb-true, leb-true, le-leb, lt-ltb}
 use Rattle.std.proofs.lemmas.List.Folds.{list_any-append}
 use Rattle.std.proofs.Math.Nat.{le_refl}
 use Rattle.je_order.specs.declared.txn_id.TxnId.{TxnId}

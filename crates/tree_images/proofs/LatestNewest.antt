@@ -1,9 +1,8 @@
 -- In a log on which an environment works, the change of a name with the greatest LSN is its newest one.
-use Rattle.std.proofs.Common.{◌≡◌, ◌≤◌, ◌<◌, ◌==◌, ◌+◌, ◌++◌, ◌||◌, ℕ, max, nat_le, Option, None, List, [], ◌∷◌, Bool, true, false, cond, refl, ap, ap₂, sym, subst, ◌∙◌, arith}
+use Rattle.std.proofs.Common.{◌≡◌, ◌≤◌, ◌<◌, ◌==◌, ◌+◌, ◌++◌, ◌||◌, ℕ, max, nat_le, None, List, [], ◌∷◌, Bool, true, false, cond, refl, ap, ap₂, sym, subst, ◌∙◌, arith}
 use Rattle.std.specs.List.{AllByRecursion}
 use Rattle.std.proofs.lemmas.Bool.{true≢false, or_parts, leb-true, leb-false, le-leb, lt-leb, cond-true, cond-false}
 use Rattle.std.proofs.lemmas.List.Elements.{filter-append}
-use Rattle.std.proofs.Math.Nat.{le_trans}
 use Rattle.je_order.specs.declared.name.Name.{Name}
 use Rattle.je_order.proofs.Lists.{all_push, all_weaker}
 use Rattle.log_entry.specs.declared.entry.Entry.{Entry}
@@ -11,11 +10,11 @@ use Rattle.log_entry.specs.declared.entry.Entry.TheVariants.{FileHeader, Put, De
 use Rattle.log_trees.specs.Placed.{AreInOrder}
 use Rattle.log_trees.specs.Changes.{Written, LoggedChange, is_of, last_of, changes_from}
 use Rattle.log_meaning.specs.Redo.{Redo, nothing_redone, pushed, emptied, set_at, unset_at, redo_entry, redo_all, from, redone, newest}
-use Rattle.log_meaning.specs.Stands.{Stands, has, pick}
+use Rattle.log_meaning.specs.Stands.{has}
 use Rattle.log_meaning.proofs.Lasts.{none_from}
 use Rattle.log_meaning.proofs.RedoLaws.{redo_all-append}
 use Rattle.db_tree.specs.Images.{Placed}
-use Rattle.tree_images.specs.Forest.{latest_of, latest_at}
+use Rattle.tree_images.specs.Forest.{latest_of}
 use Rattle.tree_images.specs.EndLaws.{LatestAreNewest}
 use Rattle.tree_images.specs.Roots.{newest_at}
 

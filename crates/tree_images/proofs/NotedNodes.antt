@@ -1,33 +1,25 @@
 -- What a checkpoint noted, while nodes of one tree change.
-use Rattle.std.proofs.Common.{◌≡◌, ◌≤◌, ◌<◌, ◌==◌, ◌&&◌, ◌||◌, ◌⊎◌, inl, inr, ℕ, zero, suc, min, Bool, true, false, List, [], ◌∷◌, Option, None, Some, IsSome, is_some, option_map, length, take, refl, ap, ap₂, sym, subst, ◌∙◌, arith, is_eq}
+use Rattle.std.proofs.Common.{◌≡◌, ◌<◌, ◌||◌, ◌⊎◌, inl, inr, ℕ, suc, min, Bool, true, false, List, [], ◌∷◌, Option, None, Some, IsSome, option_map, length, refl, ap, sym, subst, ◌∙◌, arith}
 use Rattle.std.specs.Prelude.{IfSome}
-use Rattle.std.specs.List.{list_any}
-use Rattle.std.specs.Map.{keys_of}
-use Rattle.std.proofs.lemmas.Bool.{true≢false, cases_order, eqb-true}
+use Rattle.std.proofs.lemmas.Bool.{true≢false, cases_order}
 use Rattle.std.proofs.lemmas.Option.{none-some, same_Some}
-use Rattle.std.proofs.lemmas.List.{get_or_past}
-use Rattle.je_order.specs.Order.{name_cmp}
 use Rattle.je_order.specs.declared.name.Name.{Name}
 use Rattle.record_map.specs.Cells.{value_at}
-use Rattle.record_map.proofs.NameLaws.{same_or_other, name_same, other_stays, same_gets}
 use Rattle.tree_nodes.specs.declared.node.Node.{Node}
-use Rattle.tree_nodes.specs.Nodes.{NodeRow, IsOver, HasPut, earlier, is_dirty, least, logged, marked, noted_as}
-use Rattle.tree_nodes.specs.Levels.{row_of, AreParts, HasMarkedAt, HasPutAt}
-use Rattle.tree_nodes.specs.Noted.{AreNoted, is_low_over, is_to_note, noted_row}
+use Rattle.tree_nodes.specs.Nodes.{NodeRow, IsOver, earlier, logged, marked}
+use Rattle.tree_nodes.specs.Levels.{row_of, HasMarkedAt, HasPutAt}
 use Rattle.tree_nodes.proofs.LevelLaws.{is_level}
-use Rattle.tree_nodes.proofs.NoteLaws.{noted_was}
 use Rattle.db_tree.specs.declared.node_at.NodeAt.{NodeAt}
 use Rattle.db_tree.specs.declared.node_split.NodeSplit.{NodeSplit}
-use Rattle.db_tree.specs.NodeSteps.{IsHandedUp, IsLoggedUp, IsOneNode, mark_above}
-use Rattle.db_tree.specs.Notes.{is_noted_at, is_noted_one}
+use Rattle.db_tree.specs.NodeSteps.{IsHandedUp, IsLoggedUp, mark_above}
 use Rattle.db_tree.specs.Shapes.{AreForced, forced_if}
-use Rattle.db_tree.specs.Splitting.{AreGrown, AreSplit, IsRaisedFrom, IsSplitAt}
+use Rattle.db_tree.specs.Splitting.{AreSplit, IsSplitAt}
 use Rattle.db_tree.specs.Waiting.{is_among}
 use Rattle.db_tree.proofs.NodeSteps.{IsElsewhere, place_of, put_elsewhere, put_here}
-use Rattle.db_tree.proofs.Over.{is_over, over_low, over_once, over_put, there_is}
+use Rattle.db_tree.proofs.Over.{is_over, over_low, over_put, there_is}
 use Rattle.db_tree.proofs.SplitLaws.{level_cases}
 use Rattle.tree_images.specs.Notes.{NotesHold}
-use Rattle.tree_images.proofs.LateMarks.{and_true, or_left, or_right}
+use Rattle.tree_images.proofs.LateMarks.{or_left, or_right}
 use Rattle.tree_images.proofs.NodeSteps.{elsewhere}
 
 pub some_weaker : (o : Option ℕ) (P Q : ℕ → Type 0) → ((n : ℕ) → P n → Q n) → IfSome o P → IfSome o Q

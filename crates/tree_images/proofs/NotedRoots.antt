@@ -1,20 +1,19 @@
 -- What a checkpoint noted, where nodes are split, a tree is made, or a checkpoint begins.
-use Rattle.std.proofs.Common.{◌≡◌, ◌≤◌, ◌<◌, ◌+◌, ◌-◌, ◌==◌, ◌&&◌, ◌||◌, ◌⊎◌, inl, inr, ℕ, zero, suc, Bool, true, false, not, cond, List, [], ◌∷◌, Option, None, Some, IsSome, is_some, option_map, length, refl, ap, sym, subst, ◌∙◌, arith, is_eq, eq-eqb}
+use Rattle.std.proofs.Common.{◌≡◌, ◌<◌, ◌-◌, ◌==◌, ◌&&◌, ◌||◌, ◌⊎◌, inl, inr, ℕ, zero, suc, Bool, true, false, not, cond, List, [], ◌∷◌, Option, None, Some, IsSome, is_some, length, refl, ap, sym, subst, ◌∙◌, arith, is_eq, eq-eqb}
 use Rattle.std.specs.Prelude.{IfSome}
 use Rattle.std.specs.List.{list_any}
 use Rattle.std.specs.Map.{keys_of}
 use Rattle.std.proofs.lemmas.Bool.{true≢false, cases_order}
 use Rattle.std.proofs.lemmas.Option.{none-some, same_Some}
-use Rattle.std.proofs.lemmas.List.{get_or_past}
 use Rattle.je_order.specs.Order.{name_cmp}
 use Rattle.je_order.specs.declared.name.Name.{Name}
 use Rattle.record_map.specs.Cells.{value_at}
 use Rattle.record_map.proofs.NameLaws.{same_or_other, name_same, other_stays, same_gets}
 use Rattle.tree_nodes.specs.declared.node.Node.{Node}
-use Rattle.tree_nodes.specs.Nodes.{NodeRow, IsOver, IsUpTo, is_dirty, least, noted_as}
+use Rattle.tree_nodes.specs.Nodes.{NodeRow, IsOver, is_dirty, least, noted_as}
 use Rattle.tree_nodes.specs.Levels.{row_of, AreParts}
 use Rattle.tree_nodes.specs.Lows.{low_up_to}
-use Rattle.tree_nodes.specs.Noted.{AreNoted, is_low_over, is_to_note, noted_row}
+use Rattle.tree_nodes.specs.Noted.{AreNoted, is_low_over, is_to_note}
 use Rattle.tree_nodes.proofs.LevelLaws.{is_level}
 use Rattle.tree_nodes.proofs.NoteLaws.{noted_keys, noted_was}
 use Rattle.db_tree.specs.declared.node_at.NodeAt.{NodeAt}

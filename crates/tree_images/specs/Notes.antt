@@ -1,5 +1,5 @@
 -- What a checkpoint that began in this life of the environment keeps of the nodes of a tree that fits its log.
-use Rattle.std.specs.Prelude.{◌≡◌, ◌==◌, ◌&&◌, ◌||◌, ℕ, suc, nat_le, nat_lt, Bool, true, false, List, Option, Some, IfSome, length, map}
+use Rattle.std.specs.Prelude.{◌≡◌, ◌==◌, ◌&&◌, ◌||◌, ℕ, suc, nat_le, nat_lt, Bool, true, false, List, Some, IfSome, length, map}
 use Rattle.std.specs.List.{list_any}
 use Rattle.je_order.specs.declared.name.Name.{Name}
 use Rattle.log_entry.specs.declared.entry.Entry.{Entry}

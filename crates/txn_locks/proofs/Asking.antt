@@ -1,5 +1,5 @@
 -- What a request comes to.
-use Rattle.std.proofs.Common.{◌≡◌, ℕ, Bool, true, false, cond, not, ◌&&◌, ◌||◌, List, [], ◌∷◌, ◌++◌, map, Some, None, Option, refl, ap, sym, ◌∙◌, subst, ⊎_elim}
+use Rattle.std.proofs.Common.{◌≡◌, ℕ, Bool, true, false, cond, ◌&&◌, List, [], ◌∷◌, ◌++◌, map, Some, None, Option, refl, ap, sym, ◌∙◌, subst, ⊎_elim}
 use mathlib.Core.Path.{fun_ext}
 use Rattle.std.specs.Option.{is_some, option_map_or, IfSome, IfNone}
 use Rattle.std.proofs.lemmas.Bool.{cases_Bool, cond-true, cond-false, or_from, or_left}
@@ -10,7 +10,7 @@ use Rattle.lock_mode.specs.declared.lock_type.LockType.{LockType}
 use Rattle.waits_for.specs.Cycles.{is_in}
 use Rattle.lock_table.specs.declared.lock.Lock.{Lock}
 use Rattle.lock_table.specs.declared.record_id.RecordId.{RecordId}
-use Rattle.lock_table.specs.Locks.{lock_of, has_lock, held_by, is_blocked, blocker, after_ask, after_cancel}
+use Rattle.lock_table.specs.Locks.{lock_of, held_by, is_blocked, blocker, after_ask, after_cancel}
 use Rattle.lock_table.specs.Records.{is_record}
 use Rattle.lock_table.specs.Table.{Locks, locks_at, pending_at}
 use Rattle.lock_table.proofs.QueueMaps.{record_is}
@@ -27,7 +27,7 @@ use Rattle.txn_locks.specs.declared.locked.Locked.{Locked}
 use Rattle.txn_locks.specs.Taking.{state_of, with_got, stop_of, IsTurn}
 use Rattle.txn_locks.specs.Undoing.{IsBack, IsOneGot}
 use Rattle.txn_locks.proofs.States.{same_state, told_nothing, waits_nowhere}
-use Rattle.txn_locks.proofs.Backs.{Queue, back_at}
+use Rattle.txn_locks.proofs.Backs.{back_at}
 
 -- what a manager's request says, in one record
 pub record IsRequested (t : TxnId) (at : RecordId) (m : LockType) (wait : Bool) (v w : Locks) (q : Requested) : Type 0 where

@@ -1,10 +1,9 @@
 -- A lock that was got and is given back.
-use Rattle.std.proofs.Common.{◌≡◌, Bool, true, false, cond, not, ◌&&◌, ◌||◌, List, [], ◌∷◌, ◌++◌, reverse, map, Some, None, Option, refl, ap, ap₂, sym, ◌∙◌, subst, ⊎_elim}
-use Rattle.std.specs.List.{find, list_any, filter, AllByRecursion}
+use Rattle.std.proofs.Common.{◌≡◌, true, false, cond, not, ◌||◌, List, [], ◌∷◌, ◌++◌, reverse, map, Some, None, Option, refl, ap, ap₂, sym, ◌∙◌, subst, ⊎_elim}
+use Rattle.std.specs.List.{find, AllByRecursion}
 use Rattle.std.specs.Option.{option_map, is_some}
 use Rattle.std.proofs.lemmas.List.{reverse-append}
-use Rattle.std.proofs.lemmas.List.Folds.{list_any-append}
-use Rattle.std.proofs.lemmas.Bool.{cond_both, cases_Bool, cond-true, cond-false, or_parts, or_from, or_left, or_right, both_ways, not_from_true}
+use Rattle.std.proofs.lemmas.Bool.{cond_both, cases_Bool, cond-true, cond-false, or_parts, both_ways, not_from_true}
 use Rattle.je_order.specs.declared.txn_id.TxnId.{TxnId}
 use Rattle.je_order.specs.Transactions.{is_same_txn}
 use Rattle.je_order.proofs.TxnIds.{same_itself}
@@ -13,7 +12,7 @@ use Rattle.lock_mode.specs.declared.lock_type.LockType.TheVariants.{Read, Write,
 use Rattle.lock_mode.specs.Modes.{upgraded, can_be_held}
 use Rattle.lock_table.specs.declared.lock.Lock.{Lock}
 use Rattle.lock_table.specs.declared.record_id.RecordId.{RecordId}
-use Rattle.lock_table.specs.Locks.{lock_of, is_of, has_lock, without_txn, held_by, is_blocked, upgraded_by, set_by, with_lock, granted, after_ask, after_give_back, WasHeld, IsSettled}
+use Rattle.lock_table.specs.Locks.{lock_of, is_of, has_lock, without_txn, held_by, is_blocked, upgraded_by, set_by, with_lock, granted, after_ask, after_give_back, IsSettled}
 use Rattle.lock_table.specs.Records.{is_record}
 use Rattle.lock_table.specs.Table.{Locks, locks_at, pending_at}
 use Rattle.lock_table.proofs.QueueMaps.{record_is}

@@ -1,5 +1,5 @@
 -- One need after another.
-use Rattle.std.proofs.Common.{◌≡◌, ℕ, ◌<◌, ◌≤◌, ◌+◌, Bool, true, false, cond, ◌||◌, reverse, List, [], ◌∷◌, ◌++◌, length, get_or, drop, map, Some, None, Option, refl, ap, sym, ◌∙◌, subst, ⊎_elim}
+use Rattle.std.proofs.Common.{◌≡◌, ℕ, ◌<◌, ◌≤◌, ◌+◌, Bool, true, false, ◌||◌, reverse, List, [], ◌∷◌, ◌++◌, length, get_or, drop, map, Some, None, Option, refl, ap, sym, ◌∙◌, subst, ⊎_elim}
 use Rattle.std.specs.List.{slice_get, list_any}
 use Rattle.std.specs.Option.{is_some, IfNone, IfSome}
 use Rattle.std.proofs.lemmas.List.{drop_more, drop_all}
@@ -7,8 +7,6 @@ use Rattle.std.proofs.lemmas.List.Folds.{list_any-append}
 use Rattle.std.proofs.lemmas.Option.{slice_get-get_or}
 use Rattle.std.proofs.lemmas.Bool.{cases_Bool, cond-true, cond-false, or_left, or_right}
 use Rattle.je_order.specs.declared.txn_id.TxnId.{TxnId}
-use Rattle.lock_mode.specs.declared.lock_type.LockType.{LockType}
-use Rattle.lock_mode.specs.declared.lock_type.LockType.TheVariants.{Read}
 use Rattle.lock_table.specs.declared.lock.Lock.{Lock}
 use Rattle.lock_table.specs.declared.record_id.RecordId.{RecordId}
 use Rattle.lock_table.specs.Locks.{lock_of, held_by}

@@ -1,10 +1,9 @@
 -- READ locks that were got and go.
-use Rattle.std.proofs.Common.{◌≡◌, ℕ, ◌<◌, ◌≤◌, ◌+◌, Bool, true, false, cond, not, ◌&&◌, ◌||◌, List, [], ◌∷◌, ◌++◌, length, get_or, drop, map, Some, None, Option, refl, ap, ap₂, sym, ◌∙◌, subst, ⊎_elim}
-use mathlib.Core.Path.{fun_ext}
-use Rattle.std.specs.List.{filter, list_any, list_all, AllByRecursion}
+use Rattle.std.proofs.Common.{◌≡◌, ℕ, ◌<◌, ◌≤◌, ◌+◌, Bool, true, false, cond, not, ◌||◌, List, [], ◌∷◌, ◌++◌, length, get_or, drop, map, Some, None, Option, refl, ap, ap₂, sym, ◌∙◌, subst, ⊎_elim}
+use Rattle.std.specs.List.{filter, list_any, AllByRecursion}
 use Rattle.std.specs.Option.{is_some, IfSome}
 use Rattle.std.proofs.lemmas.List.{drop_more, drop_all}
-use Rattle.std.proofs.lemmas.Bool.{cond_both, cases_Bool, cond-true, cond-false, and_left, and_parts, or_parts, both_ways, not_from_true}
+use Rattle.std.proofs.lemmas.Bool.{cond_both, cases_Bool, cond-true, cond-false, and_left, and_parts, both_ways, not_from_true}
 use Rattle.je_order.specs.declared.txn_id.TxnId.{TxnId}
 use Rattle.je_order.specs.Transactions.{is_same_txn}
 use Rattle.je_order.proofs.TxnIds.{same_itself}
@@ -17,22 +16,22 @@ use Rattle.lock_table.specs.Locks.{lock_of, is_of, has_lock, without_txn, held_b
 use Rattle.lock_table.specs.Records.{is_record}
 use Rattle.lock_table.specs.Table.{Locks, locks_at, pending_at}
 use Rattle.lock_table.proofs.QueueMaps.{record_is}
-use Rattle.lock_table.proofs.Owners.{held_each, upgraded_txn}
+use Rattle.lock_table.proofs.Owners.{upgraded_txn}
 use Rattle.lock_table.proofs.RecordCalls.{settled_ask, granted_in, none_of}
 use Rattle.lock_table.proofs.CallSteps.{blocked_some}
 use Rattle.lock_mgr.specs.Deadlock.{NoDeadlock}
 use Rattle.store_model.specs.declared.isolation.Isolation.{Isolation}
-use Rattle.store_model.specs.declared.isolation.Isolation.TheVariants.{ReadUncommitted, ReadCommitted, RepeatableRead, Serializable}
+use Rattle.store_model.specs.declared.isolation.Isolation.TheVariants.{ReadCommitted}
 use Rattle.store_model.specs.declared.need.Need.{Need}
 use Rattle.je_answers.specs.Standing.{LockState}
-use Rattle.je_answers.specs.Locking.{Queues, record_of, got, all_got, granted_part, first_blocked, is_stopped, owner_before, given_back}
+use Rattle.je_answers.specs.Locking.{Queues, record_of, got, all_got, granted_part, first_blocked, is_stopped, owner_before}
 use Rattle.txn_locks.specs.declared.got.Got.{Got}
 use Rattle.txn_locks.specs.declared.locked.Locked.{Locked}
 use Rattle.txn_locks.specs.declared.locked.Locked.TheVariants.{Ready, Waiting, NotAvailable, Victims}
 use Rattle.txn_locks.specs.Taking.{state_of, with_got, with_all, with_granted, when_answered, is_read, are_reads, IsStoppedAt, HasToWait, IsLocked, IfAnswered, IsTaking}
-use Rattle.txn_locks.specs.Undoing.{IsBack, HasNoRead, AreReadsAmong}
+use Rattle.txn_locks.specs.Undoing.{HasNoRead, AreReadsAmong}
 use Rattle.txn_locks.proofs.States.{same_state, waits_nowhere}
-use Rattle.txn_locks.proofs.Backs.{Queue, held_none, held_some, held_here, held_there, held_pushed, back_at, not_asked}
+use Rattle.txn_locks.proofs.Backs.{Queue, held_none, held_pushed, back_at, not_asked}
 use Rattle.txn_locks.proofs.NeedSteps.{taking_begins, taking_more, taking_stops, taking_ends, from_place}
 
 -- ---- own locks are in nobody's own way

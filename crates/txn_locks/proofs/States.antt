@@ -1,5 +1,5 @@
 -- Two states of locks that are the same at each record and transaction.
-use Rattle.std.proofs.Common.{◌≡◌, Bool, true, false, cond, List, Option, None, Some, refl, ap, ap₂, sym, ◌∙◌, subst}
+use Rattle.std.proofs.Common.{◌≡◌, false, cond, List, Option, None, refl, ap, ap₂, sym, subst}
 use mathlib.Core.Path.{fun_ext}
 use Rattle.std.specs.Option.{option_map_or}
 use Rattle.std.proofs.lemmas.Bool.{cond_both}
@@ -8,7 +8,7 @@ use Rattle.je_order.specs.Transactions.{is_same_txn}
 use Rattle.je_order.proofs.TxnIds.{same_is}
 use Rattle.lock_table.specs.declared.lock.Lock.{Lock}
 use Rattle.lock_table.specs.declared.record_id.RecordId.{RecordId}
-use Rattle.lock_table.specs.Locks.{has_lock, IsSettled}
+use Rattle.lock_table.specs.Locks.{has_lock}
 use Rattle.lock_table.specs.Table.{Locks, locks_at, pending_at}
 use Rattle.lock_mgr.specs.Deadlock.{NoDeadlock}
 use Rattle.lock_mgr.proofs.NoDeadlockLaws.{no_wait}

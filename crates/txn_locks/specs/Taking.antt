@@ -1,5 +1,5 @@
 -- What a call of a transaction does to the locks, one need after another. Which need is stopped and what is then taken are je_answers' definitions.
-use Rattle.std.specs.Prelude.{◌≡◌, ℕ, ◌<◌, ◌∷◌, [], List, Option, None, Some, Bool, true, false, ◌&&◌, if◌then◌else◌, length, map}
+use Rattle.std.specs.Prelude.{◌≡◌, ℕ, ◌<◌, [], List, Option, None, Some, Bool, true, false, length, map}
 use Rattle.std.specs.List.{slice_get, list_all}
 use Rattle.je_order.specs.declared.txn_id.TxnId.{TxnId}
 use Rattle.lock_mode.specs.declared.lock_type.LockType.{LockType}

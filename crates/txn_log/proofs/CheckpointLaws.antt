@@ -6,7 +6,7 @@ use Rattle.je_disk.specs.Moments.{History, now}
 use Rattle.store_model.specs.declared.change.Change.{Change}
 use Rattle.store_model.specs.declared.store.Store.{Store}
 use Rattle.log_entry.specs.declared.entry.Entry.{Entry}
-use Rattle.log_file.specs.Log.{Log, IsLog}
+use Rattle.log_file.specs.Log.{Log}
 use Rattle.log_buffer.specs.declared.buffer.LogBuffer.{LogBuffer}
 use Rattle.log_buffer.specs.declared.log_pos.LogPos.{LogPos}
 use Rattle.log_buffer.specs.Buffer.{disk_of, end_of, file_max_of, last_of}
@@ -19,17 +19,15 @@ use Rattle.log_replay.proofs.ListLaws.{all_of_map}
 use Rattle.log_trees.specs.Placed.{Placed, placed}
 use Rattle.log_meaning.specs.Ending.{Ends}
 use Rattle.log_meaning.specs.Growth.{is_neutral}
-use Rattle.log_meaning.specs.Recovery.{Recovers}
 use Rattle.log_meaning.specs.Stands.{Stands}
 use Rattle.log_meaning.specs.Transactions.{last_lsn}
 use Rattle.log_meaning.proofs.Appending.{neutrals_stand}
 use Rattle.log_meaning.proofs.Ending.{ends_recover}
 use Rattle.log_meaning.proofs.Recovering.{neutrals_recover}
-use Rattle.crash_recovery.specs.Appending.{AreAppendedBehind, HaveRoom}
+use Rattle.crash_recovery.specs.Appending.{HaveRoom}
 use Rattle.crash_recovery.specs.Recovery.{RecoversLog}
 use Rattle.crash_recovery.proofs.LongerLogs.{longer_is_named, longer_recovers}
 use Rattle.txn_log.specs.Own.{OwnChange, is_live}
-use Rattle.txn_log.specs.Gives.{GivesRecordsWith}
 use Rattle.txn_log.specs.Buffers.{HasAdded, HasGiven}
 use Rattle.txn_log.specs.Checkpoints.{AreNeutral, EndParts, end_entry, IsEndOf, MayHaveEnd, NeutralsAreGiven, NeutralsAreRecovered, TriedNeutralsAreRecovered, EndIsGiven, EndIsRecovered, TriedEndIsRecovered}
 use Rattle.txn_log.proofs.BufferLaws.{rises, longer_placed}

@@ -3,31 +3,27 @@ use Rattle.std.proofs.Common.{◌≡◌, ℕ, zero, suc, ◌==◌, ◌≤◌, �
 use Rattle.std.specs.List.{AllByRecursion}
 use Rattle.std.proofs.lemmas.Bool.{eqb-true}
 use Rattle.std.proofs.Math.Nat.{le_trans}
-use Rattle.je_disk.specs.Moments.{History, now}
-use Rattle.store_model.specs.declared.change.Change.{Change}
-use Rattle.store_model.specs.declared.store.Store.{Store}
+use Rattle.je_disk.specs.Moments.{History}
 use Rattle.log_entry.specs.Encoding.{size_of}
 use Rattle.log_entry.specs.declared.entry.Entry.{Entry}
 use Rattle.log_entry.specs.declared.entry.Entry.TheVariants.{FileHeader, Put, Delete, Migrated, Commit, In, Bin, BinDelta, CkptStart, CkptEnd, FileSummary}
 use Rattle.log_file.specs.Log.{Log}
-use Rattle.log_buffer.specs.declared.buffer.LogBuffer.{LogBuffer}
 use Rattle.log_buffer.specs.declared.log_pos.LogPos.{LogPos}
-use Rattle.log_buffer.specs.Buffer.{disk_of, end_of, file_max_of}
+use Rattle.log_buffer.specs.Buffer.{end_of, file_max_of}
 use Rattle.log_buffer.specs.Flip.{placed_at, end_after}
-use Rattle.log_buffer.specs.Growth.{longer, log_with_all}
+use Rattle.log_buffer.specs.Growth.{log_with_all}
 use Rattle.log_buffer.specs.Laws.{placed_by}
-use Rattle.log_buffer.specs.Log.{HasLog, log_with}
+use Rattle.log_buffer.specs.Log.{log_with}
 use Rattle.log_replay.specs.Wrong.{or_else}
 use Rattle.log_trees.specs.Placed.{Placed, placed}
-use Rattle.log_meaning.specs.Checkpoint.{Checkpoint, checkpoint_in, last_checkpoint, last_end, no_checkpoint}
+use Rattle.log_meaning.specs.Checkpoint.{Checkpoint, checkpoint_in, last_end, no_checkpoint}
 use Rattle.log_meaning.specs.Redo.{Redo, redo_entry, redo_all, pushed, emptied, set_at, unset_at}
 use Rattle.log_trees.specs.Changes.{LoggedChange}
 use Rattle.je_order.proofs.Lists.{all_push}
 use Rattle.log_meaning.specs.Found.{HasFilesFrom}
 use Rattle.log_meaning.specs.Recovery.{IsFirstFile, IsRedoLsn}
 use Rattle.log_meaning.proofs.RedoLaws.{last_end-push}
-use Rattle.crash_recovery.specs.Recovery.{RecoversLog}
-use Rattle.txn_log.specs.Checkpoints.{AreNoEnds, BeginsUpTo, EndParts, EndsFrom, EndsFromEnd, EndsFromStays, RedoIsNeeded, WaitsFrom, end_entry}
+use Rattle.txn_log.specs.Checkpoints.{AreNoEnds, BeginsUpTo, EndsFromEnd, EndsFromStays, RedoIsNeeded, WaitsFrom, end_entry}
 use Rattle.txn_log.proofs.BufferLaws.{longer_placed}
 use Rattle.txn_log.proofs.Recovering.{leaves_all}
 

@@ -22,7 +22,7 @@ use Rattle.je_answers.specs.Standing.{Standing}
 use Rattle.je_answers.specs.Views.{Target, view_in, occupied_in, changes_with, with_numbers, outcome_of, needs_in}
 use Rattle.log_replay.specs.Rows.{are_right, pair_of}
 use Rattle.db_catalog.specs.declared.found_db.FoundDb.{FoundDb}
-use Rattle.index_map.specs.Laws.{db_at, index_at, indexes_at, known, over_of}
+use Rattle.index_map.specs.Laws.{db_at, indexes_at, known, over_of}
 use Rattle.txn_views.specs.declared.found_target.FoundTarget.{FoundTarget}
 use Rattle.txn_views.specs.declared.db_change.DbChange.{DbChange}
 use Rattle.txn_views.specs.declared.outcome_plan.OutcomePlan.{OutcomePlan}

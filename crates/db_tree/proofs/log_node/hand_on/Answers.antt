@@ -1,4 +1,4 @@
-use Rattle.std.proofs.Common.{ℕ, suc, Option, Some, ap, refl, sym, subst, add-one, ◌+◌, ◌∙◌, ◌≤◌, inl, inr}
+use Rattle.std.proofs.Common.{ℕ, suc, Option, Some, ap, sym, subst, add-one, ◌+◌, ◌∙◌, inr}
 use Rattle.tree_nodes.specs.Levels.{HasMarkedAt}
 use Rattle.db_tree.specs.NodeSteps.{mark_above}
 use Rattle.db_tree.proofs.NodeLogging.{handed_on}

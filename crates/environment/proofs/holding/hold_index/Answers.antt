@@ -1,4 +1,4 @@
-use Rattle.std.proofs.Common.{◌≡◌, ◌∙◌, Option, Some, ℕ, IfOk, ap, sym, subst}
+use Rattle.std.proofs.Common.{◌∙◌, Some, sym}
 use Rattle.environment.specs.Catalog.{named_next}
 use Rattle.environment.proofs.HoldingLaws.{gone_again}
 use Rattle.environment.proofs.holding.hold_index.Goals as goal

@@ -1,5 +1,5 @@
 use Rattle.std.proofs.Common.{drop, ◌+◌}
-use Rattle.in_tree.proofs.FillLaws.{fills_begin, fills_turn, fills_step, fills_high, fills_end}
+use Rattle.in_tree.proofs.FillLaws.{fills_begin, fills_turn, fills_step, fills_end}
 use Rattle.in_tree.proofs.filling.fill.Goals as goal
 
 pub loop-row-init : goal.loop-row-init

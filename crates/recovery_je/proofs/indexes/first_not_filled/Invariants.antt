@@ -1,7 +1,6 @@
-use Rattle.std.proofs.Common.{◌≡◌, not, find, drop, option_map}
-use Rattle.std.specs.List.{AllByRecursion}
+use Rattle.std.proofs.Common.{drop}
 use Rattle.recovery_je.specs.Checking.{values_in}
-use Rattle.recovery_je.specs.Indexing.{IsReadable, IsLeftOf, is_filled}
+use Rattle.recovery_je.specs.Indexing.{IsLeftOf}
 use Rattle.recovery_je.proofs.indexes.first_not_filled.Given as goal
 
 abbrev pub invariant-loop-record : goal.invariant-loop-record

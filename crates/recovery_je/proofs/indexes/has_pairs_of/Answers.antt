@@ -1,9 +1,7 @@
-use Rattle.std.proofs.Common.{◌∙◌, sym, ap, ap₂, map, List}
+use Rattle.std.proofs.Common.{◌∙◌, ap, ap₂, map, List}
 use Rattle.store_model.specs.Store.{Pair}
 use Rattle.store_model.specs.declared.kind.Kind.TheVariants.{Plain, Dup}
-use Rattle.record_tree.specs.declared.record_ref.RecordRef.{RecordRef}
 use Rattle.record_tree.specs.Stored.{values_of, lent}
-use Rattle.secondary.specs.declared.key_pair.KeyPair.{KeyPair}
 use Rattle.secondary.specs.Pairs.{keyed_pairs, pairs_in}
 use Rattle.log_replay.specs.Rows.{Row, pair_of}
 use Rattle.log_replay.specs.Indexed.{are_same_pairs}

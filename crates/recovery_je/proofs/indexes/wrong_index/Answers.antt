@@ -1,8 +1,5 @@
-use Rattle.std.proofs.Common.{◌≡◌, ◌∙◌, ap, sym, List, Option, ℕ}
-use Rattle.je_order.specs.declared.name.Name.{Name}
-use Rattle.record_tree.specs.Stored.{Stored, values_of}
-use Rattle.log_replay.proofs.IndexedLaws.{indexes_are_judged}
-use Rattle.log_replay.specs.Rows.{Rows, IsRising}
+use Rattle.std.proofs.Common.{◌∙◌, ap}
+use Rattle.record_tree.specs.Stored.{values_of}
 use Rattle.recovery_je.specs.Checking.{values_in}
 use Rattle.recovery_je.proofs.MeaningLaws.{values_rise}
 use Rattle.recovery_je.proofs.AnswerLaws.{ok_weaker}

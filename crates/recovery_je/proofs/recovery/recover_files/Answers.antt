@@ -1,5 +1,4 @@
 use Rattle.std.proofs.Common.{◌≡◌, ◌∙◌, sym, subst, map, arith, Err, Option, None, List, ℕ}
-use Rattle.log_meaning.specs.Meaning.{Meaning}
 use Rattle.log_meaning.specs.Reading.{reading_of, meaning_in}
 use Rattle.recovery_je.specs.declared.recovered.Recovered.{Recovered}
 use Rattle.recovery_je.specs.Files.{AreRead}

@@ -1,6 +1,6 @@
 use Rattle.std.proofs.Common.{sym}
 use Rattle.txn_locks.specs.Taking.{state_of}
-use Rattle.txn_locks.proofs.ReadNeeds.{answered_all, answered_each, at_level}
+use Rattle.txn_locks.proofs.ReadNeeds.{answered_all, at_level}
 use Rattle.txn_locks.proofs.reading.give_back_at.Goals as goal
 
 pub returns-then-keeps_reads : goal.returns-then-keeps_reads

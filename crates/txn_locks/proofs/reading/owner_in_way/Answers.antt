@@ -1,6 +1,6 @@
 use Rattle.std.proofs.Common.{refl, sym, ◌∙◌}
 use Rattle.txn_locks.specs.Taking.{state_of}
-use Rattle.txn_locks.proofs.ReadNeeds.{passed_begins, passed_next, passed_halts, passed_over}
+use Rattle.txn_locks.proofs.ReadNeeds.{passed_begins, passed_next, passed_halts}
 use Rattle.txn_locks.proofs.reading.owner_in_way.Goals as goal
 
 pub loop-need-init : goal.loop-need-init

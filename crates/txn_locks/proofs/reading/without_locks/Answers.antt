@@ -1,4 +1,4 @@
-use Rattle.std.proofs.Common.{◌≡◌, None, Some, Option, subst}
+use Rattle.std.proofs.Common.{◌≡◌, None, Option, subst}
 use Rattle.std.specs.Option.{IfNone, IfSome}
 use Rattle.je_order.specs.declared.txn_id.TxnId.{TxnId}
 use Rattle.store_model.specs.declared.need.Need.{Need}

@@ -1,9 +1,8 @@
-use Rattle.std.proofs.Common.{◌≡◌, Option, sym, subst}
+use Rattle.std.proofs.Common.{Option, sym, subst}
 use Rattle.lock_table.specs.declared.record_id.RecordId.{RecordId}
-use Rattle.std.proofs.lemmas.Result.{on_err_weaker}
 use Rattle.txn_locks.specs.declared.locked.Locked.{Locked}
 use Rattle.txn_locks.specs.Taking.{state_of, IsTurn}
-use Rattle.txn_locks.proofs.Asking.{IsRequested, turn_is, got_noted, err_state}
+use Rattle.txn_locks.proofs.Asking.{IsRequested, turn_is, got_noted}
 use Rattle.txn_locks.proofs.taking.take_one.Goals as goal
 
 pub returns-clause-turn : goal.returns-clause-turn

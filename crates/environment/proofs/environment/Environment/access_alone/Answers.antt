@@ -1,4 +1,3 @@
-use Rattle.environment.proofs.AutoEnds.{errs_come, not_come}
 use Rattle.environment.proofs.environment.Environment.access_alone.Goals as goal
 
 pub run_alone-requires-clause-here : goal.run_alone-requires-clause-here

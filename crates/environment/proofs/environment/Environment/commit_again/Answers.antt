@@ -1,4 +1,4 @@
-use Rattle.std.proofs.Common.{◌∙◌, ◌+◌, ℕ, List, Err, ap, count_by, sym}
+use Rattle.std.proofs.Common.{◌∙◌, ◌+◌, ℕ, Err, ap, count_by}
 use Rattle.store_model.specs.declared.record_change.RecordChange.{RecordChange}
 use Rattle.je_answers.specs.Views.{changes_with, needs_in, outcome_of, with_numbers}
 use Rattle.sessions.specs.AtStanding.{owing, with_own}

@@ -1,6 +1,5 @@
 -- What a call changes is logged with its Commit, or not, where no transaction is under way.
-use Rattle.std.proofs.Common.{◌≤◌, ◌+◌, ℕ, Ok, Err, ap, sym, subst, arith, ◌∙◌}
-use Rattle.store_model.specs.declared.answer.Answer.{Answer}
+use Rattle.std.proofs.Common.{◌≤◌, ◌+◌, ℕ, Ok, Err, sym, subst, arith, ◌∙◌}
 use Rattle.je_answers.specs.Events.{auto_active, begun}
 use Rattle.je_answers.specs.Views.{needs_in}
 use Rattle.log_replay.specs.Rows.{numbers_of}

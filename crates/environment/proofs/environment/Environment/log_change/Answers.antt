@@ -4,8 +4,6 @@ use Rattle.log_buffer.specs.Buffer.{disk_of}
 use Rattle.in_tree.specs.Observed.{cells_of}
 use Rattle.index_map.specs.Map.{HasIndexes}
 use Rattle.db_names.specs.Names.{HasNames}
-use Rattle.index_map.specs.declared.index_map.IndexMap.{IndexMap}
-use Rattle.db_names.specs.declared.db_names.DbNames.{DbNames}
 use Rattle.txn_core.proofs.Committing.{few_new}
 use Rattle.engine.specs.Contents.{known}
 use Rattle.engine.specs.Steps.{txn_of}
@@ -13,7 +11,7 @@ use Rattle.engine.specs.Whole.{contents_of}
 use Rattle.engine.proofs.CallLaws.{model}
 use Rattle.engine.proofs.LogLaws.{made_new, made_there}
 use Rattle.environment.specs.Catalog.{IsPlannedAs}
-use Rattle.environment.proofs.CatalogEnds.{alone_at, none_performs}
+use Rattle.environment.proofs.CatalogEnds.{alone_at}
 use Rattle.environment.proofs.CatalogLogged.{are_filling, free_filled, free_names, logs_performs}
 use Rattle.environment.proofs.CatalogStanding.{alone_of}
 use Rattle.environment.proofs.FollowLaws.{follows_call, not_held}

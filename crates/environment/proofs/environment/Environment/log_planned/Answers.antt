@@ -1,4 +1,4 @@
-use Rattle.std.proofs.Common.{◌≤◌, ◌==◌, ◌∙◌, ℕ, List, ap, arith, sym, subst}
+use Rattle.std.proofs.Common.{◌==◌, ◌∙◌, ℕ, List, ap, arith, sym, subst}
 use Rattle.std.proofs.lemmas.Bool.{eqb-true}
 use Rattle.std.proofs.lemmas.List.{nil_from_length}
 use Rattle.in_tree.specs.Observed.{cells_of}

@@ -1,5 +1,5 @@
 -- Changes of a transaction under way are logged, or not.
-use Rattle.std.proofs.Common.{◌≡◌, ◌∙◌, None, ℕ, List, IfSome, false, true, map, refl, sym, subst}
+use Rattle.std.proofs.Common.{◌≡◌, ◌∙◌, None, ℕ, List, IfSome, false, true, refl, sym, subst}
 use Rattle.std.specs.List.{AllByRecursion}
 use Rattle.log_entry.specs.Body.{IsEntry}
 use Rattle.record_map.specs.Cells.{value_at}
@@ -11,7 +11,6 @@ use Rattle.in_tree.specs.Observed.{cells_of, has_tree_of}
 use Rattle.je_answers.specs.Views.{with_numbers}
 use Rattle.sessions.specs.AtStanding.{with_own}
 use Rattle.txn_locks.specs.Taking.{state_of}
-use Rattle.txn_log.specs.Own.{tree_of}
 use Rattle.txn_views.specs.Laws.{own_names}
 use Rattle.environment.specs.Writing.{WritesAll, WritesOwn}
 use Rattle.environment.proofs.EarlyLaws.{same_buffer}

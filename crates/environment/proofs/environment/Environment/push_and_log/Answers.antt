@@ -1,4 +1,4 @@
-use Rattle.std.proofs.Common.{◌≡◌, ◌∙◌, List, map, true, ap, sym, subst}
+use Rattle.std.proofs.Common.{◌∙◌, List, map, ap, sym, subst}
 use Rattle.std.specs.List.{AllByRecursion}
 use Rattle.je_order.specs.declared.txn_id.TxnId.{TxnId}
 use Rattle.log_entry.specs.Body.{IsEntry}
@@ -7,7 +7,6 @@ use Rattle.record_tree.specs.declared.tree_change.TreeChange.{TreeChange}
 use Rattle.je_answers.specs.Views.{changes_with, needs_in, outcome_of}
 use Rattle.txn_log.specs.Own.{tree_of}
 use Rattle.txn_views.specs.Laws.{own_names}
-use Rattle.environment.specs.Valid.{active_number}
 use Rattle.environment.specs.Writing.{MayWrite}
 use Rattle.environment.proofs.OwnEnds.{entries_now, is_active_, last_db_now, may_write, none_pushed, valid_now}
 use Rattle.environment.proofs.environment.Environment.push_and_log.Goals as goal

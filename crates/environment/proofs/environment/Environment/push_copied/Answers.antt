@@ -1,7 +1,6 @@
-use Rattle.std.proofs.Common.{◌≡◌, List, ℕ, true, refl, sym, subst}
+use Rattle.std.proofs.Common.{◌≡◌, List, ℕ, true, refl, subst}
 use Rattle.je_order.specs.declared.txn_id.TxnId.{TxnId}
 use Rattle.store_model.specs.declared.record_change.RecordChange.{RecordChange}
-use Rattle.je_answers.specs.Views.{with_numbers}
 use Rattle.sessions.specs.AtStanding.{with_own}
 use Rattle.sessions.specs.Taking.{HasTaken}
 use Rattle.environment.specs.Valid.{active_number}

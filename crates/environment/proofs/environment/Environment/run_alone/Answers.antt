@@ -1,4 +1,4 @@
-use Rattle.std.proofs.Common.{ℕ, List, ◌≡◌, ◌∙◌, ◌+◌, refl, ap, sym, subst}
+use Rattle.std.proofs.Common.{ℕ, List, ◌∙◌, ◌+◌, refl, ap, sym, subst}
 use Rattle.store_model.specs.declared.answer.Answer.{Answer}
 use Rattle.store_model.specs.declared.victim.Victim.{Victim}
 use Rattle.store_model.specs.Evaluation.{Outcome}

@@ -1,4 +1,4 @@
-use Rattle.std.proofs.Common.{◌∙◌, ◌+◌, refl, sym}
+use Rattle.std.proofs.Common.{◌+◌, refl}
 use Rattle.je_answers.specs.Events.{auto_active, begun}
 use Rattle.environment.specs.Auto.{with_sessions}
 use Rattle.environment.proofs.AutoCalls.{begun_sessions, its_active, may_take, needs_auto, number_is, ready_is, stopped_is, taken_auto}

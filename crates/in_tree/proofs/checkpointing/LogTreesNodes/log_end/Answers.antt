@@ -1,6 +1,4 @@
-use Rattle.std.proofs.Common.{ap, refl}
-use Rattle.record_tree.specs.declared.tree_err.TreeErr.TheVariants.{Fault, Full}
-use Rattle.in_tree.proofs.Checked.{ends_with}
+use Rattle.std.proofs.Common.{ap}
 use Rattle.tree_images.specs.Notes.{is_start}
 use Rattle.in_tree.proofs.Checkpoints.{end_names, plain_grows}
 use Rattle.in_tree.proofs.checkpointing.LogTreesNodes.log_end.Goals as goal

@@ -1,9 +1,8 @@
-use Rattle.std.proofs.Common.{◌≡◌, ◌∙◌, ◌≤◌, ◌∷◌, [], ℕ, ap, refl, subst, sym}
+use Rattle.std.proofs.Common.{◌∙◌, ap, subst, sym}
 use Rattle.log_entry.specs.declared.entry.Entry.TheVariants.{CkptStart}
 use Rattle.in_tree.specs.Observed.{grew_none}
 use Rattle.record_tree.specs.Occupied.{AreSame}
-use Rattle.record_tree.specs.declared.node_place.NodePlace.{NodePlace}
-use Rattle.dirty_nodes.specs.Forest.{HasAllNumbers, is_noted_in, is_to_note_in}
+use Rattle.dirty_nodes.specs.Forest.{HasAllNumbers, is_to_note_in}
 use Rattle.in_tree.specs.declared.trees.Trees.{Trees}
 use Rattle.in_tree.specs.Forest.{cells_seen, is_there}
 use Rattle.in_tree.specs.Limits.{HasRoomFor, commit_sizes}

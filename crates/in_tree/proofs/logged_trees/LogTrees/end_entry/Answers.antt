@@ -1,4 +1,4 @@
-use Rattle.std.proofs.Common.{refl, rules, sym, subst, arith, List, ◌≡◌, ◌∙◌}
+use Rattle.std.proofs.Common.{rules, subst, arith}
 use Rattle.std.specs.List.{AllByRecursion}
 use Rattle.log_entry.specs.Items.{IsRoot}
 use Rattle.in_tree.proofs.logged_trees.LogTrees.end_entry.Goals as goal

@@ -1,4 +1,4 @@
-use Rattle.std.proofs.Common.{◌≡◌, ◌<◌, ◌+◌, ◌++◌, ◌⊎◌, ◌∙◌, ℕ, min, nat_lt, true, false, List, Some, None, ap, sym, subst, refl, length}
+use Rattle.std.proofs.Common.{◌≡◌, ◌<◌, ◌+◌, ◌++◌, ◌⊎◌, ◌∙◌, min, nat_lt, true, false, List, Some, None, sym, subst, refl}
 use Rattle.record_tree.specs.declared.tree_err.TreeErr.TheVariants.{Full, IdsEnded}
 use Rattle.db_tree.specs.Shapes.{new_shape}
 use Rattle.record_tree.specs.declared.tree_change.TreeChange.{TreeChange}

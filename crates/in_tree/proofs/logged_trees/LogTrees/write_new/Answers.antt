@@ -4,7 +4,6 @@ use Rattle.in_tree.proofs.Checked.{tried_before}
 use Rattle.in_tree.proofs.FillReady.{fill_grows, filling_some}
 use Rattle.in_tree.proofs.TreesGrown.{trees_stay}
 use Rattle.in_tree.proofs.Waits.{same_waits}
-use Rattle.in_tree.specs.Shapes.{shapes_of}
 use Rattle.in_tree.specs.Waits.{waits_in}
 use Rattle.in_tree.proofs.logged_trees.LogTrees.write_new.Goals as goal
 

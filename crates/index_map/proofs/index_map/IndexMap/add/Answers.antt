@@ -1,6 +1,5 @@
-use Rattle.std.proofs.Common.{ℕ, nat_cmp, Some, Option}
+use Rattle.std.proofs.Common.{nat_cmp, Some}
 use Rattle.std.specs.BTreeMap.{get}
-use Rattle.index_map.specs.declared.index_map.IndexMap.{IndexMap}
 use Rattle.index_map.proofs.Changes.{map_added, taken_back, updated}
 use Rattle.index_map.proofs.index_map.IndexMap.add.Goals as goal
 

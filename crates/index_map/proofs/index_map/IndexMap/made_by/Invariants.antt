@@ -1,4 +1,4 @@
-use Rattle.std.proofs.Common.{◌≡◌, ◌+◌, take, map, true}
+use Rattle.std.proofs.Common.{◌≡◌, take, map, true}
 use Rattle.record_tree.specs.Stored.{lent}
 use Rattle.log_replay.specs.Rows.{Row, are_distinct, catalog_number}
 use Rattle.index_map.specs.Made.{made_in}

@@ -1,6 +1,6 @@
-use Rattle.std.proofs.Common.{◌∙◌, ◌≡◌, sym, ℕ, Option, Some, None, nat_cmp}
+use Rattle.std.proofs.Common.{◌∙◌, sym, None, nat_cmp}
 use Rattle.std.specs.BTreeMap.{get}
-use Rattle.index_map.proofs.Changes.{map_removed, none_removed, same_entries, updated}
+use Rattle.index_map.proofs.Changes.{map_removed, same_entries, updated}
 use Rattle.index_map.proofs.index_map.IndexMap.remove.Goals as goal
 
 pub returns-in-Some : goal.returns-in-Some

@@ -1,8 +1,7 @@
-use Rattle.std.proofs.Common.{List, Bool, ap, sym, subst}
+use Rattle.std.proofs.Common.{List, Bool, sym, subst}
 use Rattle.script_run.specs.declared.recorded.Recorded.{Recorded}
 use Rattle.script_run.specs.Ends.{AreEndsStopped}
 use Rattle.script_run.proofs.GivenLaws.{given_same, given_step, step_skipped}
-use Rattle.script_run.proofs.Resting.{goes_on_with}
 use Rattle.script_run.proofs.running.Running.give_step.Goals as goal
 
 pub returns-then-self-clause-given : goal.returns-then-self-clause-given
