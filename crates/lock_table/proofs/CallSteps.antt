@@ -1,27 +1,37 @@
 -- Single steps of the calls.
-use Rattle.std.proofs.Common.{◌≡◌, ◌<◌, Bool, true, false, cond, ◌&&◌, ◌||◌, List, [], ◌∷◌, length, map, Some, None, Option, refl, ap, sym, ◌∙◌, subst, ◌⊎◌, inl, inr, ⊎_elim, arith}
-use Rattle.std.specs.List.{filter}
-use Rattle.std.specs.Option.{is_some, IsSome}
+use Rattle.std.proofs.Common.{◌≡◌, Bool, true, false, cond, ◌&&◌, ◌||◌, List, [], ◌∷◌, ◌++◌, map, Some, None, Option, refl, ap, sym, ◌∙◌, subst, ◌⊎◌, inl, inr, ⊎_elim}
+use Rattle.std.specs.List.{filter, list_any}
+use Rattle.std.specs.Map.{lookup}
+use Rattle.std.specs.Option.{is_some, option_map_or, unwrap_or, IsSome}
 use Rattle.std.specs.Ordering.{is_eq}
-use Rattle.std.specs.BTreeSet.{BTreeSet, contains}
+use Rattle.std.proofs.lemmas.List.Folds.{list_any-append}
 use Rattle.std.proofs.lemmas.Cmp.{tied_itself}
-use Rattle.std.proofs.lemmas.Bool.{cases_Bool, both_ways, cond-true, cond-false, and_parts, false_from_ne_true}
+use Rattle.std.proofs.lemmas.Bool.{cases_Bool, both_ways, cond-true, cond-false, and_parts, or_cases, or_from, false_from_ne_true}
 use Rattle.je_order.specs.declared.txn_id.TxnId.{TxnId}
 use Rattle.lock_mode.specs.declared.lock_type.LockType.{LockType}
 use Rattle.lock_table.specs.declared.lock.Lock.{Lock}
 use Rattle.lock_table.specs.declared.record_id.RecordId.{RecordId}
 use Rattle.lock_table.specs.contracts.record_id.RecordIdOrd.TheImpl.Laws as order
-use Rattle.lock_table.specs.Locks.{has_lock, is_blocking, is_blocked, lesser, least, blocker, after_ask, after_cancel, after_release, IsSettled}
+use Rattle.lock_table.specs.Locks.{has_lock, is_blocking, is_blocked, lesser, least, blocker, after_cancel, after_release, IsSettled}
 use Rattle.je_order.specs.Transactions.{is_same_txn}
-use Rattle.lock_table.specs.Records.{record_cmp, is_record, queue_at}
+use Rattle.lock_table.specs.Records.{is_record, queue_at}
 use Rattle.lock_table.specs.Table.{IsOut}
 use Rattle.je_order.proofs.TxnIds.{same_is}
-use Rattle.lock_table.proofs.QueueMaps.{record_is}
-use Rattle.lock_table.proofs.RecordCalls.{release_nothing, cancel_nothing}
-use Rattle.lock_table.proofs.WholeTable.{cancel_asked, Queue}
+use Rattle.lock_table.proofs.QueueMaps.{IsChanged, record_is}
+use Rattle.lock_table.proofs.RecordCalls.{settled_release, out_released, release_nothing, cancel_nothing}
+use Rattle.lock_table.proofs.WholeTable.{Queue}
 
 pub record_same : (r : RecordId) → is_record r r ≡ true
 record_same r = ap is_eq (tied_itself order.total-law r)
+
+pub record_either : (a b : RecordId) → is_record a b ≡ is_record b a
+record_either a b = ⊎_elim
+    (λ h. h ∙ sym (turn a b h))
+    (λ h. h ∙ sym (false_from_ne_true (is_record b a) (λ k. both_ways (is_record a b) h (turn b a k))))
+    (cases_Bool (is_record a b))
+  where
+    turn : (a b : RecordId) → is_record a b ≡ true → is_record b a ≡ true
+    turn a b h = subst (λ (x : RecordId). is_record x a ≡ true) (record_is a b h) (record_same a)
 
 pub listed_from : (new old b : Bool) → new ≡ cond b true old → new ≡ false → (old ≡ false) × (b ≡ false)
 listed_from new old true e n = absurd (both_ways new n e)
@@ -43,14 +53,20 @@ blocked_some w (o ∷ os) = ⊎_elim
         picks true x y = refl
         picks false x y = refl
 
--- a wait that was put down and taken back
-pub undone : (Q M N : RecordId → Queue) (at : RecordId) (w : Lock) → ((r : RecordId) → has_lock w.txn (Q r).1 ≡ false) → is_blocked (Q at).0 w ≡ true
-    → ((r : RecordId) → M r ≡ cond (is_record at r) (after_ask w (Q r)) (Q r)) → ((r : RecordId) → N r ≡ cond (is_record at r) (after_cancel w.txn (M r)) (M r)) → (r : RecordId) → N r ≡ Q r
-undone Q M N at w free b m n r = ⊎_elim
-    (λ h. let e = record_is at r h in
-    n r ∙ (cond-true (is_record at r) (after_cancel w.txn (M r)) (M r) h ∙ (ap (after_cancel w.txn) (m r ∙ cond-true (is_record at r) (after_ask w (Q r)) (Q r) h) ∙ cancel_asked w (Q r) (free r) (subst (λ (x : RecordId). is_blocked (Q x).0 w ≡ true) e b))))
-    (λ h. n r ∙ (cond-false (is_record at r) (after_cancel w.txn (M r)) (M r) h ∙ (m r ∙ cond-false (is_record at r) (after_ask w (Q r)) (Q r) h)))
-    (cases_Bool (is_record at r))
+-- a transaction that is told of an owner in its way is told to wait here
+pub told_at : (w : Lock) (os : List Lock) (at : RecordId) (o : Option TxnId) → o ≡ blocker w os → is_blocked os w ≡ true → option_map_or (λ _. Some at) o None ≡ Some at
+told_at w os at o is b = there o (ap is_some is ∙ (sym (blocked_some w os) ∙ b))
+  where
+    there : (o : Option TxnId) → is_some o ≡ true → option_map_or (λ _. Some at) o None ≡ Some at
+    there None h = absurd (both_ways false refl h)
+    there (Some t) h = refl
+
+-- the queue that the map has at a record
+pub queue_there : (records : List (RecordId × Queue)) (at : RecordId) (v : Queue) → Some v ≡ lookup (is_record at) records → v ≡ queue_at at records
+queue_there records at v has = ap (λ o. unwrap_or o ([], [])) has
+
+pub out_written : (t : TxnId) (old new : List (RecordId × Queue)) (at : RecordId) (v w : Queue) → Some v ≡ lookup (is_record at) old → IsChanged old new at (Some w) → (IsOut t v → IsOut t w) → IsOut t (queue_at at old) → IsOut t (queue_at at new)
+out_written t old new at v w has u k o = subst (IsOut t) (queue_there new at w (sym (u at ∙ cond-true (is_record at at) (Some w) (lookup (is_record at) old) (record_same at)))) (k (subst (IsOut t) (sym (queue_there old at v has)) o))
 
 -- nobody of the transaction waits
 pub not_pending : (t : TxnId) (Q : RecordId → Queue) (p : Option RecordId) → ((r : RecordId) → has_lock t (Q r).1 ≡ true → p ≡ Some r) → None ≡ p → (r : RecordId) → Q r ≡ after_cancel t (Q r)
@@ -73,38 +89,36 @@ cancelled t Q N p at told some n r = ⊎_elim
     there r k = let e = told r k in cc
 
 -- ---- a release, record by record
-abbrev pub has : BTreeSet RecordId → RecordId → Bool
-has s r = contains record_cmp s r
-
 -- a record was released, or it is as it was and is still on the list
-abbrev pub IsUnderWay : TxnId → List (RecordId × Queue) → List (RecordId × Queue) → BTreeSet RecordId → Type 0
-IsUnderWay t old now list = (r : RecordId) → ((queue_at r now ≡ after_release t (queue_at r old)) × (has list r ≡ false)) ⊎ ((queue_at r now ≡ queue_at r old) × (has list r ≡ true))
+abbrev pub IsUnderWay : TxnId → List (RecordId × Queue) → List (RecordId × Queue) → List RecordId → Type 0
+IsUnderWay t old now list = (r : RecordId) → (queue_at r now ≡ after_release t (queue_at r old)) ⊎ ((queue_at r now ≡ queue_at r old) × (list_any (is_record r) list ≡ true))
 
-pub release_begins : (t : TxnId) (old : List (RecordId × Queue)) (list : BTreeSet RecordId) → ((r : RecordId) → IsSettled (queue_at r old)) → ((r : RecordId) → has list r ≡ false → IsOut t (queue_at r old)) → IsUnderWay t old old list
-release_begins t old list s l r = ⊎_elim (λ h. inr (refl, h)) (λ h. inl (sym (release_nothing t (queue_at r old) (s r) (l r h)), h)) (cases_Bool (has list r))
+pub release_begins : (t : TxnId) (old : List (RecordId × Queue)) (list : List RecordId) → ((r : RecordId) → IsSettled (queue_at r old)) → ((r : RecordId) → list_any (is_record r) list ≡ false → IsOut t (queue_at r old)) → IsUnderWay t old old list
+release_begins t old list s l r = ⊎_elim (λ h. inr (refl, h)) (λ h. inl (sym (release_nothing t (queue_at r old) (s r) (l r h)))) (cases_Bool (list_any (is_record r) list))
 
-pub release_step : (t : TxnId) (old now next : List (RecordId × Queue)) (list less : BTreeSet RecordId) (at : RecordId) → IsUnderWay t old now list → has list at ≡ true
-    → ((r : RecordId) → has less r ≡ cond (is_record at r) false (has list r)) → ((r : RecordId) → queue_at r next ≡ cond (is_record at r) (after_release t (queue_at r now)) (queue_at r now)) → IsUnderWay t old next less
-release_step t old now next list less at u m l n r = ⊎_elim
-    (λ h. let e = record_is at r h in let k : has list r ≡ true = subst (λ (x : RecordId). has list x ≡ true) e m in
-    ⊎_elim (λ d. absurd (both_ways (has list r) d.1 k)) (λ d. inl (n r ∙ (cond-true (is_record at r) (after_release t (queue_at r now)) (queue_at r now) h ∙ ap (after_release t) d.0), l r ∙ cond-true (is_record at r) false (has list r) h)) (u r))
-    (λ h. let q = n r ∙ cond-false (is_record at r) (after_release t (queue_at r now)) (queue_at r now) h in let k = l r ∙ cond-false (is_record at r) false (has list r) h in
-    ⊎_elim (λ d. inl (q ∙ d.0, k ∙ d.1)) (λ d. inr (q ∙ d.0, k ∙ d.1)) (u r))
+-- a record that the list has twice is released twice, and the second time changes nothing
+pub release_step : (t : TxnId) (old now next : List (RecordId × Queue)) (list less : List RecordId) (at : RecordId) → ((r : RecordId) → IsSettled (queue_at r old)) → IsUnderWay t old now list → list ≡ less ++ at ∷ []
+    → ((r : RecordId) → queue_at r next ≡ cond (is_record at r) (after_release t (queue_at r now)) (queue_at r now)) → IsUnderWay t old next less
+release_step t old now next list less at s u is n r = ⊎_elim
+    (λ h. let q = n r ∙ cond-true (is_record at r) (after_release t (queue_at r now)) (queue_at r now) h in
+    ⊎_elim (λ d. inl (q ∙ (ap (after_release t) d ∙ release_nothing t (after_release t (queue_at r old)) (settled_release t (queue_at r old) (s r)) (out_released t (queue_at r old))))) (λ d. inl (q ∙ ap (after_release t) d.0)) (u r))
+    (λ h. let q = n r ∙ cond-false (is_record at r) (after_release t (queue_at r now)) (queue_at r now) h in
+    ⊎_elim (λ d. inl (q ∙ d)) (λ d. inr (q ∙ d.0, still r h (sym (ap (list_any (is_record r)) is) ∙ d.1))) (u r))
     (cases_Bool (is_record at r))
+  where
+    still : (r : RecordId) → is_record at r ≡ false → list_any (is_record r) (less ++ at ∷ []) ≡ true → list_any (is_record r) less ≡ true
+    still r h k = ⊎_elim (λ i. i) (λ i. absurd (both_ways (is_record r at || false) (or_from (is_record r at) false (record_either r at ∙ h) refl) i))
+        (or_cases (list_any (is_record r) less) (is_record r at || false) (sym (list_any-append (is_record r) less (at ∷ [])) ∙ k))
 
-pub release_ends : (t : TxnId) (old now : List (RecordId × Queue)) (list : BTreeSet RecordId) → IsUnderWay t old now list → list.keys ≡ [] → (r : RecordId) → queue_at r now ≡ after_release t (queue_at r old)
-release_ends t old now list u e r = ⊎_elim (λ d. d.0) (λ d. absurd (both_ways (has list r) (ap (λ ks. contains record_cmp (record { keys = ks }) r) e) d.1)) (u r)
-
-pub nil_of_none : (xs : List RecordId) (P : Type 0) → (0 < length xs → P) → (P → ⊥) → xs ≡ []
-nil_of_none [] P some none = refl
-nil_of_none (x ∷ xs) P some none = absurd (none (some (omega arith)))
+pub release_ends : (t : TxnId) (old now : List (RecordId × Queue)) (list : List RecordId) → IsUnderWay t old now list → list ≡ [] → (r : RecordId) → queue_at r now ≡ after_release t (queue_at r old)
+release_ends t old now list u e r = ⊎_elim (λ d. d) (λ d. absurd (both_ways (list_any (is_record r) list) (ap (list_any (is_record r)) e) d.1)) (u r)
 
 -- ---- what is given back
-pub given_out : (t : TxnId) (r at : RecordId) (u : TxnId) (Q : RecordId → Queue) (new old : Bool) → new ≡ cond (is_same_txn u t && is_record at r) false old → has_lock u (Q at).0 ≡ false → has_lock u (Q at).1 ≡ false → new ≡ false → (old ≡ false) ⊎ (IsOut t (Q r))
-given_out t r at u Q new old e a b n = ⊎_elim
+pub given_out : (t : TxnId) (r at : RecordId) (u : TxnId) (Q : RecordId → Queue) (old : Bool) → has_lock u (Q at).0 ≡ false → has_lock u (Q at).1 ≡ false → (old ≡ false) ⊎ ((is_same_txn u t && is_record at r) ≡ true) → (old ≡ false) ⊎ (IsOut t (Q r))
+given_out t r at u Q old a b n = ⊎_elim
+    (λ h. inl h)
     (λ h. let p = and_parts (is_same_txn u t) (is_record at r) h in inr (subst (λ (x : RecordId). IsOut t (Q x)) (record_is at r p.1) (subst (λ (x : TxnId). IsOut x (Q at)) (same_is u t p.0) (a, b))))
-    (λ h. inl (sym (e ∙ cond-false (is_same_txn u t && is_record at r) false old h) ∙ n))
-    (cases_Bool (is_same_txn u t && is_record at r))
+    n
 
 pub some_held : (o : Option LockType) → IsSome o → (h : LockType) × (o ≡ Some h)
 some_held None h = absurd (both_ways false refl h)

@@ -1,20 +1,18 @@
 -- Locks of no more than READ that go, in the map of queues.
 use Rattle.std.proofs.Common.{◌≡◌, true, false, cond, List, [], ◌∷◌, Some, None, Option, refl, ap, sym, ◌∙◌, subst, ◌⊎◌, inl, inr, ⊎_elim}
-use Rattle.std.specs.List.{list_any, IsDistinct}
-use Rattle.std.proofs.lemmas.Map.Keys.{IsDistinct-head, IsDistinct-tail}
-use Rattle.std.proofs.lemmas.Bool.{cases_Bool, both_ways, or_parts, or_cases, cond-true, cond-false}
+use Rattle.std.specs.List.{list_any}
+use Rattle.std.proofs.lemmas.Bool.{cases_Bool, both_ways, or_cases, cond-true, cond-false}
 use Rattle.je_order.specs.declared.txn_id.TxnId.{TxnId}
-use Rattle.je_order.proofs.Lists.{each_none}
 use Rattle.lock_mode.specs.declared.lock_type.LockType.{LockType}
 use Rattle.lock_mode.specs.declared.lock_type.LockType.TheVariants.{Read}
 use Rattle.lock_table.specs.declared.lock.Lock.{Lock}
 use Rattle.lock_table.specs.declared.record_id.RecordId.{RecordId}
-use Rattle.lock_table.specs.Locks.{held_by, after_give_back, read_given_back, after_read}
+use Rattle.lock_table.specs.Locks.{held_by, after_give_back, read_given_back, after_read, IsSettled}
 use Rattle.lock_table.specs.Records.{is_record, queue_at}
 use Rattle.lock_table.specs.Table.{IsOut}
 use Rattle.lock_table.proofs.QueueMaps.{record_is}
-use Rattle.lock_table.proofs.CallSteps.{record_same}
-use Rattle.lock_table.proofs.QueueReads.{read_nothing}
+use Rattle.lock_table.proofs.CallSteps.{record_either}
+use Rattle.lock_table.proofs.QueueReads.{read_nothing, read_twice}
 
 abbrev pub Queue : Type 0
 Queue = List Lock × List Lock
@@ -39,47 +37,25 @@ more_stays Q at t held is more r = ⊎_elim
     (cases_Bool (is_record at r))
 
 -- ---- all records of a transaction
--- READ is gone from a record, or it is as it was and is still to come; each comes once
-pub record IsReadUnderWay (t : TxnId) (old now : List (RecordId × Queue)) (rest : List RecordId) : Type 0 where
-  pub each : (r : RecordId) → ((queue_at r now ≡ after_read t (queue_at r old)) × (list_any (is_record r) rest ≡ false)) ⊎ ((queue_at r now ≡ queue_at r old) × (list_any (is_record r) rest ≡ true))
-  pub apart : IsDistinct is_record rest
+-- READ is gone from a record, or it is as it was and is still to come
+abbrev pub IsReadUnderWay : TxnId → List (RecordId × Queue) → List (RecordId × Queue) → List RecordId → Type 0
+IsReadUnderWay t old now rest = (r : RecordId) → (queue_at r now ≡ after_read t (queue_at r old)) ⊎ ((queue_at r now ≡ queue_at r old) × (list_any (is_record r) rest ≡ true))
 
-pub read_begins : (t : TxnId) (old : List (RecordId × Queue)) (keys : List RecordId) → ((r : RecordId) → list_any (is_record r) keys ≡ false → IsOut t (queue_at r old)) → IsDistinct is_record keys → IsReadUnderWay t old old keys
-read_begins t old keys out apart = record {
-  each = λ r. ⊎_elim (λ h. inr (refl, h)) (λ h. inl (sym (read_nothing t (queue_at r old) (out r h).0), h)) (cases_Bool (list_any (is_record r) keys));
-  apart = apart;
-}
+pub read_begins : (t : TxnId) (old : List (RecordId × Queue)) (list : List RecordId) → ((r : RecordId) → list_any (is_record r) list ≡ false → IsOut t (queue_at r old)) → IsReadUnderWay t old old list
+read_begins t old list out r = ⊎_elim (λ h. inr (refl, h)) (λ h. inl (sym (read_nothing t (queue_at r old) (out r h).0))) (cases_Bool (list_any (is_record r) list))
 
--- one record more
-read_one_more : (t : TxnId) (old now next : List (RecordId × Queue)) (at : RecordId) (rest : List RecordId) → IsReadUnderWay t old now (at ∷ rest)
+-- one record more; a record that comes twice is as after the first time
+pub read_step : (t : TxnId) (old now next : List (RecordId × Queue)) (at : RecordId) (left rest : List RecordId) → ((r : RecordId) → IsSettled (queue_at r old)) → left ≡ at ∷ rest → IsReadUnderWay t old now left
     → ((r : RecordId) → queue_at r next ≡ cond (is_record at r) (after_read t (queue_at r now)) (queue_at r now)) → IsReadUnderWay t old next rest
-read_one_more t old now next at rest u n = record { each = each; apart = IsDistinct-tail is_record at rest u.apart }
+read_step t old now next at left rest s is u n r = ⊎_elim
+    (λ h. let q = n r ∙ cond-true (is_record at r) (after_read t (queue_at r now)) (queue_at r now) h in
+    ⊎_elim (λ d. inl (q ∙ (ap (after_read t) d ∙ read_twice t (queue_at r old) (s r)))) (λ d. inl (q ∙ ap (after_read t) d.0)) (u r))
+    (λ h. let q = n r ∙ cond-false (is_record at r) (after_read t (queue_at r now)) (queue_at r now) h in
+    ⊎_elim (λ d. inl (q ∙ d)) (λ d. inr (q ∙ d.0, still r h (sym (ap (list_any (is_record r)) is) ∙ d.1))) (u r))
+    (cases_Bool (is_record at r))
   where
-    alone : list_any (is_record at) rest ≡ false
-    alone = each_none (is_record at) rest (IsDistinct-head is_record at rest u.apart)
-
-    here : (r : RecordId) → is_record at r ≡ true → ((queue_at r next ≡ after_read t (queue_at r old)) × (list_any (is_record r) rest ≡ false)) ⊎ ((queue_at r next ≡ queue_at r old) × (list_any (is_record r) rest ≡ true))
-    here r h = let e = record_is at r h in
-        let first : is_record r at ≡ true = subst (λ (x : RecordId). is_record x at ≡ true) e (record_same at) in
-        ⊎_elim
-        (λ d. absurd (both_ways (is_record r at) (or_parts (is_record r at) (list_any (is_record r) rest) d.1).0 first))
-        (λ d. inl (n r ∙ (cond-true (is_record at r) (after_read t (queue_at r now)) (queue_at r now) h ∙ ap (after_read t) d.0), subst (λ (x : RecordId). list_any (is_record x) rest ≡ false) e alone))
-        (u.each r)
-
-    there : (r : RecordId) → is_record at r ≡ false → ((queue_at r next ≡ after_read t (queue_at r old)) × (list_any (is_record r) rest ≡ false)) ⊎ ((queue_at r next ≡ queue_at r old) × (list_any (is_record r) rest ≡ true))
-    there r h =
-        let q = n r ∙ cond-false (is_record at r) (after_read t (queue_at r now)) (queue_at r now) h in
-        ⊎_elim
-        (λ d. inl (q ∙ d.0, (or_parts (is_record r at) (list_any (is_record r) rest) d.1).1))
-        (λ d. inr (q ∙ d.0, ⊎_elim (λ i. absurd (both_ways (is_record at r) h (subst (λ (x : RecordId). is_record at x ≡ true) (sym (record_is r at i)) (record_same at)))) (λ i. i) (or_cases (is_record r at) (list_any (is_record r) rest) d.1)))
-        (u.each r)
-
-    each : (r : RecordId) → ((queue_at r next ≡ after_read t (queue_at r old)) × (list_any (is_record r) rest ≡ false)) ⊎ ((queue_at r next ≡ queue_at r old) × (list_any (is_record r) rest ≡ true))
-    each r = ⊎_elim (here r) (there r) (cases_Bool (is_record at r))
-
-pub read_step : (t : TxnId) (old now next : List (RecordId × Queue)) (at : RecordId) (left rest : List RecordId) → left ≡ at ∷ rest → IsReadUnderWay t old now left
-    → ((r : RecordId) → queue_at r next ≡ cond (is_record at r) (after_read t (queue_at r now)) (queue_at r now)) → IsReadUnderWay t old next rest
-read_step t old now next at left rest is u n = read_one_more t old now next at rest (subst (IsReadUnderWay t old now) is u) n
+    still : (r : RecordId) → is_record at r ≡ false → list_any (is_record r) (at ∷ rest) ≡ true → list_any (is_record r) rest ≡ true
+    still r h k = ⊎_elim (λ i. absurd (both_ways (is_record r at) (record_either r at ∙ h) i)) (λ i. i) (or_cases (is_record r at) (list_any (is_record r) rest) k)
 
 pub read_ends : (t : TxnId) (old now : List (RecordId × Queue)) (rest : List RecordId) → rest ≡ [] → IsReadUnderWay t old now rest → (r : RecordId) → queue_at r now ≡ after_read t (queue_at r old)
-read_ends t old now rest is u r = ⊎_elim (λ d. d.0) (λ d. absurd (both_ways (list_any (is_record r) rest) (ap (list_any (is_record r)) is) d.1)) (u.each r)
+read_ends t old now rest is u r = ⊎_elim (λ d. d) (λ d. absurd (both_ways (list_any (is_record r) rest) (ap (list_any (is_record r)) is) d.1)) (u r)

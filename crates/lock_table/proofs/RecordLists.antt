@@ -1,15 +1,21 @@
 -- A change of one transaction's list of records, read at every transaction and record.
-use Rattle.std.proofs.Common.{◌≡◌, Bool, true, false, cond, ◌&&◌, List, [], Result, Ok, Err, OnErr, Some, None, Option, refl, ap, sym, ◌∙◌, subst, ⊎_elim}
+use Rattle.std.proofs.Common.{◌≡◌, ◌<◌, ℕ, length, get_or, Bool, true, false, cond, ◌&&◌, ◌||◌, List, [], ◌∷◌, ◌++◌, ◌⊎◌, inl, inr, ap₂, Vec, IsPermutation, Result, Ok, Err, OnErr, Some, None, Option, refl, ap, sym, ◌∙◌, subst, ⊎_elim}
+use Rattle.std.specs.declared.alloc.Global.{Global}
 use Rattle.std.specs.Ordering.{nat_cmp, is_eq}
-use Rattle.std.specs.Option.{option_map_or}
-use Rattle.std.specs.BTreeSet.{BTreeSet, contains}
+use Rattle.std.specs.Option.{option_map_or, is_some, IfSome}
+use Rattle.std.specs.List.{list_any}
 use Rattle.std.proofs.lemmas.Bool.{cases_Bool, both_ways}
+use Rattle.std.proofs.lemmas.List.{get_or_default}
+use Rattle.std.proofs.lemmas.List.Folds.{list_any-append, list_any_at}
+use Rattle.std.proofs.lemmas.List.Sorted.{list_any-IsPermutation}
 use Rattle.je_order.specs.declared.txn_id.TxnId.{TxnId}
 use Rattle.lock_table.specs.declared.record_id.RecordId.{RecordId}
 use Rattle.je_order.specs.Transactions.{is_same_txn}
-use Rattle.lock_table.specs.Records.{record_cmp, is_record}
+use Rattle.lock_table.specs.Records.{is_record}
 use Rattle.lock_table.specs.Table.{at_txn, is_listed}
-use Rattle.je_order.proofs.TxnIds.{same_is, at_same}
+use Rattle.je_order.proofs.TxnIds.{same_is, same_itself, at_same}
+use Rattle.lock_table.proofs.QueueMaps.{record_is}
+use Rattle.lock_table.proofs.CallSteps.{record_same, record_either, listed_from}
 
 -- what stands at one transaction is another, and all else is as it was
 abbrev pub IsChangedAt : {X : Type 0} → List (TxnId × X) → List (TxnId × X) → TxnId → Option X → Type 0
@@ -25,11 +31,11 @@ changed_there old new u w c t h = c t ∙ ap (λ b. cond b w (at_txn t old)) (at
 pub changed_at : {X : Type 0} (old new : List (TxnId × X)) (u : TxnId) (w : Option X) → IsChangedAt old new u w → (t : TxnId) → at_txn t new ≡ cond (is_same_txn u t) w (at_txn t old)
 changed_at old new u w c t = c t ∙ ap (λ b. cond b w (at_txn t old)) (at_same u t)
 
-abbrev reads : RecordId → Option (BTreeSet RecordId) → Bool
-reads r o = option_map_or (λ s. contains record_cmp s r) o false
+abbrev reads : RecordId → Option (Vec RecordId Global) → Bool
+reads r o = option_map_or (λ s. list_any (is_record r) s.items) o false
 
-pub list_written : (old new : List (TxnId × BTreeSet RecordId)) (u : TxnId) (at : RecordId) (b : Bool) (v w : BTreeSet RecordId) → Some v ≡ at_txn u old
-    → ((r : RecordId) → contains record_cmp w r ≡ cond (is_record at r) b (contains record_cmp v r)) → IsChangedAt old new u (Some w)
+pub list_written : (old new : List (TxnId × Vec RecordId Global)) (u : TxnId) (at : RecordId) (b : Bool) (v w : Vec RecordId Global) → Some v ≡ at_txn u old
+    → ((r : RecordId) → list_any (is_record r) w.items ≡ cond (is_record at r) b (list_any (is_record r) v.items)) → IsChangedAt old new u (Some w)
     → (t : TxnId) (r : RecordId) → is_listed new t r ≡ cond (is_same_txn u t && is_record at r) b (is_listed old t r)
 list_written old new u at b v w has is c t r = ⊎_elim
     (λ h. let k : Some v ≡ at_txn t old = subst (λ (x : TxnId). Some v ≡ at_txn x old) (same_is u t h) has in
@@ -37,17 +43,17 @@ list_written old new u at b v w has is c t r = ⊎_elim
     (λ h. ap (reads r) (changed_there old new u (Some w) c t h) ∙ sym (ap (λ x. cond (x && is_record at r) b (is_listed old t r)) h))
     (cases_Bool (is_same_txn u t))
 
-pub list_same : (old new : List (TxnId × BTreeSet RecordId)) (u : TxnId) (v w : BTreeSet RecordId) → Some v ≡ at_txn u old → w.keys ≡ v.keys → IsChangedAt old new u (Some w)
+pub list_same : (old new : List (TxnId × Vec RecordId Global)) (u : TxnId) (v w : Vec RecordId Global) → Some v ≡ at_txn u old → w.items ≡ v.items → IsChangedAt old new u (Some w)
     → (t : TxnId) (r : RecordId) → is_listed new t r ≡ is_listed old t r
 list_same old new u v w has is c t r = ⊎_elim
     (λ h. let k : Some v ≡ at_txn t old = subst (λ (x : TxnId). Some v ≡ at_txn x old) (same_is u t h) has in
-    let d : contains record_cmp w r ≡ contains record_cmp v r = ap (λ ks. contains record_cmp (record { keys = ks }) r) is in
+    let d : list_any (is_record r) w.items ≡ list_any (is_record r) v.items = ap (list_any (is_record r)) is in
     ap (reads r) (changed_here old new u (Some w) c t h) ∙ (d ∙ ap (reads r) k))
     (λ h. ap (reads r) (changed_there old new u (Some w) c t h))
     (cases_Bool (is_same_txn u t))
 
-pub list_added : (old new : List (TxnId × BTreeSet RecordId)) (u : TxnId) (at : RecordId) (w : BTreeSet RecordId) → None ≡ at_txn u old
-    → ((r : RecordId) → contains record_cmp w r ≡ cond (is_record at r) true false) → IsChangedAt old new u (Some w)
+pub list_added : (old new : List (TxnId × Vec RecordId Global)) (u : TxnId) (at : RecordId) (w : Vec RecordId Global) → None ≡ at_txn u old
+    → ((r : RecordId) → list_any (is_record r) w.items ≡ cond (is_record at r) true false) → IsChangedAt old new u (Some w)
     → (t : TxnId) (r : RecordId) → is_listed new t r ≡ cond (is_same_txn u t && is_record at r) true (is_listed old t r)
 list_added old new u at w none is c t r = ⊎_elim
     (λ h. let k : None ≡ at_txn t old = subst (λ (x : TxnId). None ≡ at_txn x old) (same_is u t h) none in
@@ -59,9 +65,51 @@ pub on_err : {T E P : Type 0} (r : Result T E) → P → OnErr r P
 on_err (Ok x) p = tt
 on_err (Err e) p = p
 
--- the first key of an empty set
-pub first_key : (v w : BTreeSet RecordId) (k : RecordId) → v.keys ≡ [] → ((r : RecordId) → contains record_cmp w r ≡ cond (is_record k r) true (contains record_cmp v r)) → (r : RecordId) → contains record_cmp w r ≡ cond (is_record k r) true false
-first_key v w k e u r = u r ∙ ap (λ ks. cond (is_record k r) true (contains record_cmp (record { keys = ks }) r)) e
+-- a list with one record more at its end
+pub pushed : (vs ws : List RecordId) (k at r : RecordId) → k ≡ at → ws ≡ vs ++ k ∷ [] → list_any (is_record r) ws ≡ cond (is_record at r) true (list_any (is_record r) vs)
+pushed vs ws k at r e is = ap (list_any (is_record r)) is ∙ (list_any-append (is_record r) vs (k ∷ []) ∙ either (list_any (is_record r) vs) (is_record r k) (is_record at r) (ap (is_record r) e ∙ record_either r at))
+  where
+    either : (a b c : Bool) → b ≡ c → (a || (b || false)) ≡ cond c true a
+    either true true c e = last c e
+      where
+        last : (c : Bool) → true ≡ c → true ≡ cond c true true
+        last true e = refl
+        last false e = refl
+    either true false c e = last c e
+      where
+        last : (c : Bool) → false ≡ c → true ≡ cond c true true
+        last true e = refl
+        last false e = refl
+    either false true c e = ap (λ x. cond x true false) e
+    either false false c e = ap (λ x. cond x true false) e
+
+-- the record that was listed last is listed
+pub listed_now : (t : TxnId) (at : RecordId) (new old : Bool) → new ≡ cond (is_same_txn t t && is_record at at) true old → new ≡ false → (P : Type 0) → P
+listed_now t at new old e n P = absurd (both_ways (is_same_txn t t && is_record at at) (listed_from new old (is_same_txn t t && is_record at at) e n).1 (ap₂ (λ a b. a && b) (same_itself t) (record_same at)))
+
+-- a record that was found in a list and taken out of it
+pub the_same : (xs : List RecordId) (i : ℕ) (x at : RecordId) → i < length xs → x ≡ get_or xs i x → is_record at (get_or xs i at) ≡ true → is_record at x ≡ true
+the_same xs i x at within is there = ap (is_record at) (is ∙ get_or_default xs i x at within) ∙ there
+
+-- a record that was found in a transaction's list is listed
+pub stands : (lists : List (TxnId × Vec RecordId Global)) (t : TxnId) (at : RecordId) (v : Vec RecordId Global) → Some v ≡ at_txn t lists → (xs : List RecordId) → xs ≡ v.items → (o : Option ℕ)
+    → IfSome o (λ i. i < length xs) → IfSome o (λ i. is_record at (get_or xs i at) ≡ true) → is_some o ≡ true → is_listed lists t at ≡ true
+stands lists t at v has xs is None within there h = absurd (both_ways false refl h)
+stands lists t at v has xs is (Some i) within there h = sym (ap (reads at) has) ∙ (ap (list_any (is_record at)) (sym is) ∙ list_any_at (is_record at) xs i at within there)
+
+-- a list without one of its records
+pub unlisted : (old new : List (TxnId × Vec RecordId Global)) (u : TxnId) (at x : RecordId) (v w : Vec RecordId Global) → Some v ≡ at_txn u old → IsPermutation v.items (x ∷ w.items) → is_record at x ≡ true → IsChangedAt old new u (Some w)
+    → (t : TxnId) (r : RecordId) → is_listed new t r ≡ false → (is_listed old t r ≡ false) ⊎ ((is_same_txn u t && is_record at r) ≡ true)
+unlisted old new u at x v w has is same c t r n = ⊎_elim
+    (λ h. let k : Some v ≡ at_txn t old = subst (λ (x : TxnId). Some v ≡ at_txn x old) (same_is u t h) has in
+    let m : list_any (is_record r) w.items ≡ false = sym (ap (reads r) (changed_here old new u (Some w) c t h)) ∙ n in
+    let p : list_any (is_record r) v.items ≡ (is_record r x || list_any (is_record r) w.items) = list_any-IsPermutation (is_record r) v.items (x ∷ w.items) is in
+    ⊎_elim
+    (λ i. inr (ap₂ (λ a b. a && b) h (subst (λ (y : RecordId). is_record at y ≡ true) (sym (record_is r x i)) same)))
+    (λ i. inl (sym (ap (reads r) k) ∙ (p ∙ ap₂ (λ a b. a || b) i m)))
+    (cases_Bool (is_record r x)))
+    (λ h. inl (sym (ap (reads r) (changed_there old new u (Some w) c t h)) ∙ n))
+    (cases_Bool (is_same_txn u t))
 
 pub unless : {X : Type 0} (n o : Option X) (s b : Bool) → n ≡ cond (s && b) None o → s ≡ false → n ≡ o
 unless n o true b e h = absurd (both_ways true h refl)

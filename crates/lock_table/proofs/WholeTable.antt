@@ -1,6 +1,6 @@
 -- What each call keeps of the whole table.
-use Rattle.std.proofs.Common.{◌≡◌, refl, Bool, true, false, cond, not, ◌&&◌, List, [], ◌∷◌, ◌++◌, Some, None, Option, ap, sym, ◌∙◌, subst, ◌⊎◌, ⊎_elim}
-use Rattle.std.proofs.lemmas.Bool.{cases_Bool, or_parts, both_ways, cond-true, cond-false, and_cases, and_parts}
+use Rattle.std.proofs.Common.{◌≡◌, Bool, true, false, cond, not, ◌&&◌, List, [], ◌∷◌, ◌++◌, Some, None, Option, ap, sym, ◌∙◌, subst, ◌⊎◌, ⊎_elim}
+use Rattle.std.proofs.lemmas.Bool.{cases_Bool, or_parts, both_ways, cond-true, cond-false, and_parts}
 use Rattle.je_order.specs.declared.txn_id.TxnId.{TxnId}
 use Rattle.lock_mode.specs.declared.lock_type.LockType.{LockType}
 use Rattle.lock_table.specs.declared.lock.Lock.{Lock}
@@ -21,10 +21,10 @@ Queue = List Lock × List Lock
 pub sound_ask : (Q Q2 : RecordId → Queue) (L L2 : TxnId → RecordId → Bool) (P P2 : TxnId → Option RecordId) (at : RecordId) (w : Lock)
     → IsSound Q L P → ((r : RecordId) → has_lock w.txn (Q r).1 ≡ false)
     → ((r : RecordId) → Q2 r ≡ cond (is_record at r) (after_ask w (Q r)) (Q r))
-    → ((t : TxnId) (r : RecordId) → L2 t r ≡ false → (L t r ≡ false) × ((is_same_txn w.txn t && is_record at r) ≡ false))
+    → ((t : TxnId) (r : RecordId) → L2 t r ≡ false → L t r ≡ false) → (L2 w.txn at ≡ false → IsOut w.txn (Q at) → IsOut w.txn (Q2 at))
     → (is_blocked (Q at).0 w ≡ true → P2 w.txn ≡ Some at) → ((t : TxnId) → is_same_txn w.txn t ≡ false → P2 t ≡ P t)
     → IsSound Q2 L2 P2
-sound_ask Q Q2 L L2 P P2 at w s free q l p1 p2 = record { settled = settled; waits = waits; listed = listed }
+sound_ask Q Q2 L L2 P P2 at w s free q l l2 p1 p2 = record { settled = settled; waits = waits; listed = listed }
   where
     here : (r : RecordId) → is_record at r ≡ true → Q2 r ≡ after_ask w (Q r)
     here r h = q r ∙ cond-true (is_record at r) (after_ask w (Q r)) (Q r) h
@@ -54,9 +54,11 @@ sound_ask Q Q2 L L2 P P2 at w s free q l p1 p2 = record { settled = settled; wai
         (cases_Bool (is_record at r))
 
     listed : (t : TxnId) (r : RecordId) → L2 t r ≡ false → IsOut t (Q2 r)
-    listed t r h = let k = l t r h in let o = s.listed t r k.0 in ⊎_elim
-        (λ i. let n : is_same_txn w.txn t ≡ false = ⊎_elim (λ e. e) (λ e. absurd (both_ways (is_record at r) e i)) (and_cases (is_same_txn w.txn t) (is_record at r) k.1) in
-        subst (IsOut t) (sym (here r i)) (out_ask t w (Q r) o (same_either t w.txn ∙ n)))
+    listed t r h = let o = s.listed t r (l t r h) in ⊎_elim
+        (λ i. ⊎_elim
+        (λ e. subst (λ (y : RecordId). L2 t y ≡ false → IsOut t (Q y) → IsOut t (Q2 y)) (record_is at r i) (subst (λ (x : TxnId). L2 x at ≡ false → IsOut x (Q at) → IsOut x (Q2 at)) (same_is w.txn t e) l2) h o)
+        (λ n. subst (IsOut t) (sym (here r i)) (out_ask t w (Q r) o (same_either t w.txn ∙ n)))
+        (cases_Bool (is_same_txn w.txn t)))
         (λ i. subst (IsOut t) (sym (there r i)) o)
         (cases_Bool (is_record at r))
 
@@ -135,16 +137,12 @@ sound_forget Q L P P2 u s p = record { settled = s.settled; waits = waits; liste
 pub sound_told : (Q Q2 : RecordId → Queue) (L L2 : TxnId → RecordId → Bool) (P P2 : TxnId → Option RecordId) (at : RecordId) (w : Lock) (told : Option RecordId)
     → IsSound Q L P → ((r : RecordId) → has_lock w.txn (Q r).1 ≡ false)
     → ((r : RecordId) → Q2 r ≡ cond (is_record at r) (after_ask w (Q r)) (Q r))
-    → ((t : TxnId) (r : RecordId) → L2 t r ≡ cond (is_same_txn w.txn t && is_record at r) true (L t r))
+    → ((t : TxnId) (r : RecordId) → L2 t r ≡ false → L t r ≡ false) → (L2 w.txn at ≡ false → IsOut w.txn (Q at) → IsOut w.txn (Q2 at))
     → (is_blocked (Q at).0 w ≡ true → told ≡ Some at) → ((t : TxnId) → P2 t ≡ cond (is_same_txn w.txn t) told (P t))
     → IsSound Q2 L2 P2
-sound_told Q Q2 L L2 P P2 at w told s free q l is p =
-    sound_ask Q Q2 L L2 P P2 at w s free q (λ t r. from (is_same_txn w.txn t && is_record at r) (L2 t r) (L t r) (l t r))
+sound_told Q Q2 L L2 P P2 at w told s free q l l2 is p =
+    sound_ask Q Q2 L L2 P P2 at w s free q l l2
     (λ b. p w.txn ∙ (cond-true (is_same_txn w.txn w.txn) told (P w.txn) (same_itself w.txn) ∙ is b)) (λ t h. p t ∙ cond-false (is_same_txn w.txn t) told (P t) h)
-  where
-    from : (b new old : Bool) → new ≡ cond b true old → new ≡ false → (old ≡ false) × (b ≡ false)
-    from true new old e n = absurd (both_ways new n e)
-    from false new old e n = (sym e ∙ n, refl)
 
 -- the same queues and pending records, with at least as much listed
 pub sound_same : (Q Q2 : RecordId → Queue) (L L2 : TxnId → RecordId → Bool) (P P2 : TxnId → Option RecordId)

@@ -1,6 +1,7 @@
 -- The lock table as two lists: the records with their owners and waits, and where each transaction last began to wait.
-use Rattle.std.specs.Prelude.{◌≡◌, ℕ, Bool, true, false, not, List, [], ◌==◌, map}
-use Rattle.std.specs.List.{filter, flat_map, AllByRecursion}
+use Rattle.std.specs.Prelude.{◌≡◌, ℕ, Bool, true, false, not, List, [], ◌==◌, map, Vec}
+use Rattle.std.specs.List.{filter, flat_map, list_any, AllByRecursion}
+use Rattle.std.specs.declared.alloc.Global.{Global}
 use Rattle.std.specs.declared.option.Option.{Option}
 use Rattle.std.specs.declared.option.Option.TheVariants.{None, Some}
 use Rattle.std.specs.Option.{option_map_or}
@@ -14,7 +15,7 @@ use Rattle.lock_table.specs.declared.asked.Asked.{Asked}
 use Rattle.lock_table.specs.declared.asked.Asked.TheVariants.{Granted, Blocked}
 use Rattle.lock_table.specs.declared.record_id.RecordId.{RecordId}
 use Rattle.lock_table.specs.Locks.{is_range, has_lock, waited_for, least, IsSettled}
-use Rattle.lock_table.specs.Records.{record_cmp, queue_at}
+use Rattle.lock_table.specs.Records.{is_record, queue_at}
 
 -- the value of a lock table: the records, each with its owners and, in order of arrival, its waits; and for each transaction the record on which it was last told to wait, if it has neither asked, cancelled nor ended since
 pub record Locks : Type 0 where
@@ -81,9 +82,9 @@ owner_in Granted = None
 owner_in (Blocked owner) = Some owner
 
 -- ---- inside
--- the transaction's records list this one
-abbrev pub is_listed : List (TxnId × BTreeSet RecordId) → TxnId → RecordId → Bool
-is_listed lists t r = option_map_or (λ s. contains record_cmp s r) (at_txn t lists) false
+-- the transaction's records list this one; the list may have more than those where it has a lock or a wait, and a record twice
+abbrev pub is_listed : List (TxnId × Vec RecordId Global) → TxnId → RecordId → Bool
+is_listed lists t r = option_map_or (λ s. list_any (is_record r) s.items) (at_txn t lists) false
 
 -- the transaction is neither an owner nor waits
 abbrev pub IsOut : TxnId → List Lock × List Lock → Type 0
@@ -96,7 +97,7 @@ pub record IsSound (Q : RecordId → List Lock × List Lock) (L : TxnId → Reco
   pub listed : (t : TxnId) (r : RecordId) → L t r ≡ false → IsOut t (Q r)
 
 -- the same of what the table keeps
-abbrev pub IsTable : List (RecordId × (List Lock × List Lock)) → List (TxnId × BTreeSet RecordId) → List (TxnId × RecordId) → Type 0
+abbrev pub IsTable : List (RecordId × (List Lock × List Lock)) → List (TxnId × Vec RecordId Global) → List (TxnId × RecordId) → Type 0
 IsTable records lists pending = IsSound (λ r. queue_at r records) (is_listed lists) (λ t. at_txn t pending)
 
 -- the transaction is in the set

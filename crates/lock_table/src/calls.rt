@@ -1,31 +1,32 @@
 // The calls' work, over the three maps that a lock table keeps.
 ghost use Rattle.std.specs.Prelude.{◌≡◌, ◌&&◌, not, true, false, None, Some, ◌⊎◌, if◌then◌else◌, IfOk, OnOk, OnErr};
-ghost use Rattle.std.specs.BTreeSet.{contains as set_has};
+ghost use Rattle.std.specs.List.{list_any};
+ghost use Rattle.std.specs.Map.{lookup};
 ghost use Rattle.std.specs.Option.{option_map_or};
 ghost use Rattle.je_order.specs.declared.txn_id.TxnId.{TxnId};
 ghost use Rattle.lock_mode.specs.declared.lock_type.LockType.{LockType};
 ghost use Rattle.lock_table.specs.declared.record_id.RecordId.{RecordId};
 ghost use Rattle.lock_table.specs.Locks.{has_lock, held_by, blocker, is_blocked, after_ask, after_cancel, after_read, after_release, after_give_back, WasHeld, IsSettled};
 ghost use Rattle.je_order.specs.Transactions.{is_same_txn};
-ghost use Rattle.lock_table.specs.Records.{record_cmp, is_record, queue_at};
+ghost use Rattle.lock_table.specs.Records.{is_record, queue_at};
 ghost use Rattle.lock_table.specs.Table.{at_txn, owner_in, is_listed, IsOut, IsSameTable, IsTable};
 
-use crate::listed::{list_at, unlist_at};
+use crate::listed::{list_at, list_new, list_wait, unlist_at};
 use crate::queue::Queue;
 use crate::queues::{
-    ask_at, cancel_at, give_back_at, owners_at, read_back_at, release_at, waits_at,
+    cancel_at, first_queue, give_back_at, owners_at, read_back_at, release_at, waits_at,
 };
 use crate::{Asked, Lock, RecordId, lists};
 use je_order::{TxnId, copy_of};
 use lock_mode::LockType;
 use std::alloc::{AllocError, Global};
-use std::collections::{BTreeMap, BTreeSet};
+use std::collections::BTreeMap;
 
 // A request: it waits exactly where it conflicts with another owner. Running out of memory changes
 // nothing.
 pub(crate) fn ask_in(
     queues: &mut BTreeMap<RecordId, Queue>,
-    lists: &mut BTreeMap<TxnId, BTreeSet<RecordId>>,
+    lists: &mut BTreeMap<TxnId, Vec<RecordId>>,
     pending: &mut BTreeMap<TxnId, RecordId>,
     alloc: Global,
     at: &RecordId,
@@ -39,63 +40,115 @@ pub(crate) fn ask_in(
     ensures pending { IfOk result (λ asked. (t : TxnId) → at_txn t pending.new.entries ≡ (if is_same_txn lock.txn t then option_map_or (λ _. Some at.now) (owner_in asked) None else at_txn t pending.old.entries)) }
     ensures err { OnErr result (IsSameTable (record { records = queues.old.entries; pending = pending.old.entries }) (record { records = queues.new.entries; pending = pending.new.entries })) }
 {
-    let Some(owner) = lists::blocker_in(owners_at(queues, at), lock) else {
-        grant_now(queues, lists, pending, alloc, at, lock)?;
-        return Ok(Asked::Granted);
-    };
-    wait_now(queues, lists, pending, alloc, at, lock)?;
-    Ok(Asked::Blocked { owner })
+    if let Some(queue) = queues.get_mut(at) {
+        let asked = ask_there(queue, lists, pending, alloc, at, lock)?;
+        return Ok(asked);
+    }
+    ask_first(queues, lists, alloc, at, lock)?;
+    let _ = pending.remove(&lock.txn);
+    Ok(Asked::Granted)
 }
 
-// A request that conflicts with no other owner.
-fn grant_now(
-    queues: &mut BTreeMap<RecordId, Queue>,
-    lists: &mut BTreeMap<TxnId, BTreeSet<RecordId>>,
+// A request for a record that has owners or waits. Running out of memory changes neither.
+fn ask_there(
+    queue: &mut Queue,
+    lists: &mut BTreeMap<TxnId, Vec<RecordId>>,
     pending: &mut BTreeMap<TxnId, RecordId>,
     alloc: Global,
     at: &RecordId,
     lock: Lock,
-) -> Result<(), AllocError>
-    requires table { IsTable queues.old.entries lists.old.entries pending.old.entries }
-    requires free { (r : RecordId) → has_lock lock.txn (queue_at r queues.old.entries).1 ≡ false }
-    requires clear { is_blocked (queue_at at.now queues.old.entries).0 lock ≡ false }
-    ensures table { IsTable queues.new.entries lists.new.entries pending.new.entries }
-    ensures queues { OnOk result ((r : RecordId) → queue_at r queues.new.entries ≡ (if is_record at.now r then after_ask lock (queue_at r queues.old.entries) else queue_at r queues.old.entries)) }
-    ensures pending { OnOk result ((t : TxnId) → at_txn t pending.new.entries ≡ (if is_same_txn lock.txn t then None else at_txn t pending.old.entries)) }
-    ensures err { OnErr result (IsSameTable (record { records = queues.old.entries; pending = pending.old.entries }) (record { records = queues.new.entries; pending = pending.new.entries })) }
+) -> Result<Asked, AllocError>
+    requires free { has_lock lock.txn queue.old.1 ≡ false }
+    ensures answer { IfOk result (λ asked. owner_in asked ≡ blocker lock queue.old.0) }
+    ensures queue { OnOk result (queue.new ≡ after_ask lock queue.old) }
+    ensures pending { IfOk result (λ asked. (t : TxnId) → at_txn t pending.new.entries ≡ (if is_same_txn lock.txn t then option_map_or (λ _. Some at.now) (owner_in asked) None else at_txn t pending.old.entries)) }
+    ensures kept { (t : TxnId) (r : RecordId) → is_listed lists.new.entries t r ≡ false → is_listed lists.old.entries t r ≡ false }
+    ensures listed { is_listed lists.new.entries lock.txn at.now ≡ false → IsOut lock.txn queue.old → IsOut lock.txn queue.new }
+    ensures err { OnErr result (queue.new ≡ queue.old) }
+    ensures err_pending { OnErr result ((t : TxnId) → at_txn t pending.new.entries ≡ at_txn t pending.old.entries) }
 {
-    list_at(lists, alloc, lock.txn, at)?;
-    ask_at(queues, alloc, at, lock)?;
-    let _ = pending.remove(&lock.txn);
+    let Some(owner) = lists::blocker_in(queue.owners(), lock) else {
+        grant_there(queue, lists, alloc, at, lock)?;
+        let _ = pending.remove(&lock.txn);
+        return Ok(Asked::Granted);
+    };
+    wait_there(queue, lists, pending, alloc, at, lock)?;
+    Ok(Asked::Blocked { owner })
+}
+
+// A request that conflicts with no other owner. A type that is never held is not listed.
+fn grant_there(
+    queue: &mut Queue,
+    lists: &mut BTreeMap<TxnId, Vec<RecordId>>,
+    alloc: Global,
+    at: &RecordId,
+    lock: Lock,
+) -> Result<(), AllocError>
+    requires clear { is_blocked queue.old.0 lock ≡ false }
+    ensures queue { OnOk result (queue.new ≡ after_ask lock queue.old) }
+    ensures kept { (t : TxnId) (r : RecordId) → is_listed lists.new.entries t r ≡ false → is_listed lists.old.entries t r ≡ false }
+    ensures listed { is_listed lists.new.entries lock.txn at.now ≡ false → IsOut lock.txn queue.old → IsOut lock.txn queue.new }
+    ensures err { OnErr result (queue.new ≡ queue.old) }
+{
+    if matches!(lock.mode, LockType::RangeInsert) {
+        return Ok(());
+    }
+    list_new(lists, alloc, lock.txn, at, queue.owners())?;
+    queue.ask(lock)?;
     Ok(())
 }
 
 // A request that conflicts with another owner.
-fn wait_now(
-    queues: &mut BTreeMap<RecordId, Queue>,
-    lists: &mut BTreeMap<TxnId, BTreeSet<RecordId>>,
+fn wait_there(
+    queue: &mut Queue,
+    lists: &mut BTreeMap<TxnId, Vec<RecordId>>,
     pending: &mut BTreeMap<TxnId, RecordId>,
     alloc: Global,
     at: &RecordId,
     lock: Lock,
 ) -> Result<(), AllocError>
-    requires table { IsTable queues.old.entries lists.old.entries pending.old.entries }
-    requires free { (r : RecordId) → has_lock lock.txn (queue_at r queues.old.entries).1 ≡ false }
-    requires blocked { is_blocked (queue_at at.now queues.old.entries).0 lock ≡ true }
-    ensures table { IsTable queues.new.entries lists.new.entries pending.new.entries }
-    ensures queues { OnOk result ((r : RecordId) → queue_at r queues.new.entries ≡ (if is_record at.now r then after_ask lock (queue_at r queues.old.entries) else queue_at r queues.old.entries)) }
+    requires free { has_lock lock.txn queue.old.1 ≡ false }
+    requires blocked { is_blocked queue.old.0 lock ≡ true }
+    ensures queue { OnOk result (queue.new ≡ after_ask lock queue.old) }
     ensures pending { OnOk result ((t : TxnId) → at_txn t pending.new.entries ≡ (if is_same_txn lock.txn t then Some at.now else at_txn t pending.old.entries)) }
-    ensures err { OnErr result (IsSameTable (record { records = queues.old.entries; pending = pending.old.entries }) (record { records = queues.new.entries; pending = pending.new.entries })) }
+    ensures kept { (t : TxnId) (r : RecordId) → is_listed lists.new.entries t r ≡ false → is_listed lists.old.entries t r ≡ false }
+    ensures listed { is_listed lists.new.entries lock.txn at.now ≡ false → IsOut lock.txn queue.old → IsOut lock.txn queue.new }
+    ensures err { OnErr result (queue.new ≡ queue.old) }
+    ensures err_pending { OnErr result ((t : TxnId) → at_txn t pending.new.entries ≡ at_txn t pending.old.entries) }
 {
-    list_at(lists, alloc, lock.txn, at)?;
-    ask_at(queues, alloc, at, lock)?;
+    list_wait(lists, alloc, lock.txn, at, queue.owners())?;
+    queue.ask(lock)?;
     match note_wait(pending, lock.txn, at) {
         Ok(()) => Ok(()),
         Err(failed) => {
-            cancel_at(queues, at, lock.txn);
+            queue.cancel(lock.txn);
             Err(failed)
         }
     }
+}
+
+// A request for a record that has neither owner nor wait: it is granted.
+fn ask_first(
+    queues: &mut BTreeMap<RecordId, Queue>,
+    lists: &mut BTreeMap<TxnId, Vec<RecordId>>,
+    alloc: Global,
+    at: &RecordId,
+    lock: Lock,
+) -> Result<(), AllocError>
+    requires none { None ≡ lookup (is_record at.now) queues.old.entries }
+    ensures queues { OnOk result ((r : RecordId) → queue_at r queues.new.entries ≡ (if is_record at.now r then after_ask lock (queue_at r queues.old.entries) else queue_at r queues.old.entries)) }
+    ensures kept { (t : TxnId) (r : RecordId) → is_listed lists.new.entries t r ≡ false → is_listed lists.old.entries t r ≡ false }
+    ensures listed { is_listed lists.new.entries lock.txn at.now ≡ false → IsOut lock.txn (queue_at at.now queues.old.entries) → IsOut lock.txn (queue_at at.now queues.new.entries) }
+    ensures err { OnErr result ((r : RecordId) → queue_at r queues.new.entries ≡ queue_at r queues.old.entries) }
+{
+    let queue = first_queue(alloc, lock)?;
+    if queue.is_empty() {
+        return Ok(());
+    }
+    list_at(lists, alloc, lock.txn, at)?;
+    let key = copy_of(at)?;
+    queues.insert(key, queue)?;
+    Ok(())
 }
 
 // Notes that a transaction waits on a record. Running out of memory changes nothing.
@@ -152,24 +205,26 @@ pub(crate) fn forget_in(
 // The locks of a transaction that are no more than READ go. It takes no memory.
 pub(crate) fn read_back_in(
     queues: &mut BTreeMap<RecordId, Queue>,
-    lists: &BTreeMap<TxnId, BTreeSet<RecordId>>,
+    lists: &BTreeMap<TxnId, Vec<RecordId>>,
     txn: TxnId,
 )
+    requires settled { (r : RecordId) → IsSettled (queue_at r queues.old.entries) }
     requires listed { (r : RecordId) → is_listed lists.now.entries txn r ≡ false → IsOut txn (queue_at r queues.old.entries) }
     ensures { (r : RecordId) → queue_at r queues.new.entries ≡ after_read txn (queue_at r queues.old.entries) }
 {
     let Some(list) = lists.get(&txn) else {
         return;
     };
-    read_back_each(queues, list, txn);
+    read_back_each(queues, list.as_slice(), txn);
 }
 
 // The transaction's locks on these records go, where they are no more than READ.
-fn read_back_each(queues: &mut BTreeMap<RecordId, Queue>, list: &BTreeSet<RecordId>, txn: TxnId)
-    requires listed { (r : RecordId) → set_has record_cmp list.now r ≡ false → IsOut txn (queue_at r queues.old.entries) }
+fn read_back_each(queues: &mut BTreeMap<RecordId, Queue>, list: &[RecordId], txn: TxnId)
+    requires settled { (r : RecordId) → IsSettled (queue_at r queues.old.entries) }
+    requires listed { (r : RecordId) → list_any (is_record r) list.now ≡ false → IsOut txn (queue_at r queues.old.entries) }
     ensures { (r : RecordId) → queue_at r queues.new.entries ≡ after_read txn (queue_at r queues.old.entries) }
 {
-    for at in list.iter() {
+    for at in list {
         read_back_at(queues, at, txn);
     }
 }
@@ -177,7 +232,7 @@ fn read_back_each(queues: &mut BTreeMap<RecordId, Queue>, list: &BTreeSet<Record
 // All locks and the wait of a transaction go. It takes no memory.
 pub(crate) fn release_in(
     queues: &mut BTreeMap<RecordId, Queue>,
-    lists: &mut BTreeMap<TxnId, BTreeSet<RecordId>>,
+    lists: &mut BTreeMap<TxnId, Vec<RecordId>>,
     txn: TxnId,
 )
     requires settled { (r : RecordId) → IsSettled (queue_at r queues.old.entries) }
@@ -192,13 +247,13 @@ pub(crate) fn release_in(
 }
 
 // The transaction's locks and waits on these records go.
-fn release_each(queues: &mut BTreeMap<RecordId, Queue>, list: BTreeSet<RecordId>, txn: TxnId)
+fn release_each(queues: &mut BTreeMap<RecordId, Queue>, list: Vec<RecordId>, txn: TxnId)
     requires settled { (r : RecordId) → IsSettled (queue_at r queues.old.entries) }
-    requires listed { (r : RecordId) → set_has record_cmp list r ≡ false → IsOut txn (queue_at r queues.old.entries) }
+    requires listed { (r : RecordId) → list_any (is_record r) list.items ≡ false → IsOut txn (queue_at r queues.old.entries) }
     ensures { (r : RecordId) → queue_at r queues.new.entries ≡ after_release txn (queue_at r queues.old.entries) }
 {
     let mut list = list;
-    while let Some(at) = list.pop_first() {
+    while let Some(at) = list.pop() {
         release_at(queues, &at, txn);
     }
 }
@@ -206,7 +261,7 @@ fn release_each(queues: &mut BTreeMap<RecordId, Queue>, list: BTreeSet<RecordId>
 // The transaction's lock on a record is what it was before. It takes no memory.
 pub(crate) fn give_back_in(
     queues: &mut BTreeMap<RecordId, Queue>,
-    lists: &mut BTreeMap<TxnId, BTreeSet<RecordId>>,
+    lists: &mut BTreeMap<TxnId, Vec<RecordId>>,
     txn: TxnId,
     at: &RecordId,
     was: Option<LockType>,

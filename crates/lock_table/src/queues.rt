@@ -9,7 +9,7 @@ ghost use Rattle.lock_table.specs.Records.{is_record, queue_at};
 
 use crate::queue::Queue;
 use crate::{Lock, RecordId, lists};
-use je_order::{TxnId, copy_of};
+use je_order::TxnId;
 use lock_mode::LockType;
 use std::alloc::{AllocError, Global};
 use std::collections::BTreeMap;
@@ -35,34 +35,12 @@ pub(crate) fn waits_at<'a>(queues: &'a BTreeMap<RecordId, Queue>, at: &RecordId)
 }
 
 // The owners and the waits of a record on which one lock was asked for.
-fn first_queue(alloc: Global, lock: Lock) -> Result<Queue, AllocError>
+pub(crate) fn first_queue(alloc: Global, lock: Lock) -> Result<Queue, AllocError>
     ensures { IfOk result (λ queue. queue ≡ after_ask lock ([], [])) }
 {
     let mut queue = Queue::new(alloc);
     queue.ask(lock)?;
     Ok(queue)
-}
-
-// A transaction asks for a lock on a record. Running out of memory changes nothing.
-pub(crate) fn ask_at(
-    queues: &mut BTreeMap<RecordId, Queue>,
-    alloc: Global,
-    at: &RecordId,
-    lock: Lock,
-) -> Result<(), AllocError>
-    ensures ok { OnOk result ((r : RecordId) → queue_at r queues.new.entries ≡ (if is_record at.now r then after_ask lock (queue_at r queues.old.entries) else queue_at r queues.old.entries)) }
-    ensures err { OnErr result ((r : RecordId) → queue_at r queues.new.entries ≡ queue_at r queues.old.entries) }
-{
-    if let Some(queue) = queues.get_mut(at) {
-        return queue.ask(lock);
-    }
-    let queue = first_queue(alloc, lock)?;
-    if queue.is_empty() {
-        return Ok(());
-    }
-    let key = copy_of(at)?;
-    queues.insert(key, queue)?;
-    Ok(())
 }
 
 // A transaction's wait on a record is taken back. It takes no memory.

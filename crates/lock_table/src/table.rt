@@ -31,7 +31,9 @@ use std::marker::Model;
 #[derive(Drop)]
 pub struct LockTable {
     queues: BTreeMap<RecordId, Queue>,
-    lists: BTreeMap<TxnId, BTreeSet<RecordId>>,
+    // Of each transaction the records where it has a lock or a wait, and maybe others: a list is cheap to
+    // add to.
+    lists: BTreeMap<TxnId, Vec<RecordId>>,
     pending: BTreeMap<TxnId, RecordId>,
     // Those that asked for a lock of a range type since they began.
     ranging: BTreeSet<TxnId>,
