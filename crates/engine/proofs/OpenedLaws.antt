@@ -66,7 +66,7 @@ use Rattle.engine.proofs.WholeLaws.{file_is}
 use Rattle.engine.proofs.ClosedLaws.{guarded_none}
 use Rattle.engine.proofs.NumberLaws.{kept_numbers}
 use Rattle.engine.proofs.OpeningLaws.{AreLogFiles, File, found_ends, found_named, no_corruption, starts_in}
-use Rattle.engine.proofs.RecoveredLaws.{AreRecovered, among_within, are_quiet, are_recovered, each_among, or_true, recovered_environment, recovered_rising, recovered_store, rows_of_cells, same_numbers, trees_made}
+use Rattle.engine.proofs.RecoveredLaws.{AreRecovered, among_within, are_quiet, are_recovered, each_among, or_true, recovered_environment, recovered_rising, recovered_store, rows_of_cells, same_named_numbers, same_numbers, trees_made}
 
 -- a file that is begun adds no entry
 pub entries_begun : (before : Log) (f : ℕ) → entries_of (before ++ (f, []) ∷ []) ≡ entries_of before
@@ -379,6 +379,8 @@ module _ {D : Type 0} where
             (kept_numbers rows r.last_db gives.listed.environment (gives.listed.rising 0) (subst (λ (b : ℕ). AllByRecursion (λ n. n ≤ b) (numbers_of rows)) last_db gives.numbers));
         held = w.held;
         observed = w.are;
+        named = same_named_numbers (restarted (placed (log_in w.held))) rows
+            (are_recovered (restarted (placed (log_in w.held))) (has_tree_in r.trees) (stored_within r.trees) (cells_of engine.trees) w.is.trees is.begun.cells);
         meaning = meaning_read r;
         means = w.is.meaning_is;
         means_store = refl;

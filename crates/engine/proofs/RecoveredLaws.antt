@@ -9,7 +9,9 @@ use Rattle.je_order.proofs.Lists.{all_weaker}
 use Rattle.record_map.specs.Cells.{value_at}
 use Rattle.record_tree.specs.Occupied.{AllCells, Occupied, write_in}
 use Rattle.record_tree.specs.Stored.{AllStored, Stored}
-use Rattle.log_replay.specs.Rows.{IsRising, Row, Rows, catalog_number, is_environment, numbers_of, store_of}
+use Rattle.store_model.specs.Evaluation.{plain_name}
+use Rattle.log_replay.specs.Logging.{number_named, record_in}
+use Rattle.log_replay.specs.Rows.{IsRising, Row, Rows, catalog_number, data_at, is_environment, number_or_0, numbers_of, store_of}
 use Rattle.log_replay.proofs.RowLaws.{rising-nil}
 use Rattle.log_meaning.specs.Meaning.{rows_of}
 use Rattle.log_meaning.specs.Redo.{Redo}
@@ -81,6 +83,10 @@ same_catalog redo rows is = is.kept 0 refl
 
 pub same_numbers : (redo : Redo) (rows : Rows) → AreRecovered redo rows → numbers_of rows ≡ numbers_of (rows_of redo)
 same_numbers redo rows is = ap (λ (l : List Row). map (λ (r : Row). catalog_number r.1) l) (same_catalog redo rows is)
+
+-- each name has its number there
+pub same_named_numbers : (redo : Redo) (rows : Rows) → AreRecovered redo rows → (name : List ℕ) → number_named rows name ≡ number_named (rows_of redo) name
+same_named_numbers redo rows is name = ap (λ (l : List Row). number_or_0 (record_in (data_at (plain_name name) l))) (same_catalog redo rows is)
 
 -- and so are the databases that it names
 same_named : (redo : Redo) (rows : Rows) → AreRecovered redo rows → AllByRecursion (λ n. rows n ≡ rows_of redo n) (numbers_of (rows_of redo))

@@ -16,9 +16,11 @@ use Rattle.checkpointer.specs.declared.checkpointer.Checkpointer.{Checkpointer}
 use Rattle.log_buffer.specs.Buffer.{end_of}
 use Rattle.log_buffer.specs.Flip.{header_size, pos_lsn}
 use Rattle.log_buffer.specs.Log.{EndsAt, ReadAs, ReadAsBut}
+use Rattle.log_replay.specs.Logging.{number_named}
 use Rattle.log_replay.specs.declared.last_file.LastFile.{LastFile}
 use Rattle.log_trees.specs.Placed.{placed}
-use Rattle.log_meaning.specs.Meaning.{Meaning}
+use Rattle.log_meaning.specs.Checkpoint.{restarted}
+use Rattle.log_meaning.specs.Meaning.{Meaning, rows_of}
 use Rattle.log_meaning.specs.Reading.{reading_of}
 use Rattle.db_names.specs.declared.db_names.DbNames.{DbNames}
 use Rattle.index_map.specs.declared.index_map.IndexMap.{IndexMap}
@@ -125,7 +127,7 @@ pub record AreNumbers (store : Store) (last_db : ℕ) (numbers : List ℕ → �
   pub apart : (name other : List ℕ) → IsSome (database_of name store) → numbers name ≡ numbers other → name ≡ other
 
 -- where the model stands when an environment with these files was opened: at what the files mean that were read, which are the disk's if it
--- is observable; nothing is under way
+-- is observable, each database with the number that their catalog gives it; nothing is under way
 pub record StartsAt (observable : Bool) (files : Files) (opening : Store) (st : Standing) : Type 0 where
   pub alone_at : Alone
   pub st_is : st ≡ alone alone_at
@@ -137,6 +139,7 @@ pub record StartsAt (observable : Bool) (files : Files) (opening : Store) (st : 
   pub numbers : AreNumbers opening alone_at.last_db alone_at.numbers
   pub held : List (ℕ × List ℕ)
   pub observed : observable ≡ true → AreFiles files held
+  pub named : (name : List ℕ) → alone_at.numbers name ≡ number_named (rows_of (restarted (placed (log_in held)))) name
   pub meaning : Meaning
   pub means : reading_of held ≡ Ok meaning
   pub means_store : meaning.store ≡ opening
