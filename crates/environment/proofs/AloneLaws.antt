@@ -30,6 +30,8 @@ use Rattle.engine.specs.Limits.{IsWithin, Reach}
 use Rattle.engine.specs.Opening.{reach_in}
 use Rattle.engine.specs.Whole.{AreTrees, IsAt as EngineIsAt, IsOpened as EngineIsOpened, IsOpenedSafely as EngineIsOpenedSafely, contents, reach_of as engine_reach, KeepsIndexes, KeepsNames}
 use Rattle.engine.proofs.TxnGives.{gives_with_none}
+use Rattle.serial_replay.specs.Reached.{IsReached}
+use Rattle.environment.proofs.ReachedLaws.{starts_reached}
 use Rattle.environment.proofs.Databases.{known_from}
 use Rattle.environment.specs.Valid.{AreBare, AreAt, IsValidWith, Lives, owed_by, fitting, waiting_in}
 use Rattle.environment.specs.Whole.{IsAt, IsOpened, IsOpenedSafely, reach_of}
@@ -124,11 +126,12 @@ module _ {D : Type 0} where
 
   pub wide : (most : ℕ) (observable : Bool) (state : State) (e : Environment D) (st : Standing) → EngineIsAt most observable state e.engine st →
       ((p : Alone) → AreSessionsAt e.sessions (alone p)) → AreNamesOf e.written.by_txn.entries (λ t. []) (committed (cells_of e.engine.trees)) → KeepsIndexes e.engine → KeepsNames e.engine →
-      IsAt most observable state e st
-  wide most observable state e st here at names has_indexes has_names = record {
+      IsReached st → IsAt most observable state e st
+  wide most observable state e st here at names has_indexes has_names reached = record {
     at = wide_at most observable state e.engine e.sessions e.written.by_txn.entries st here at names has_indexes has_names;
     right = λ none. subst AreRight (sym here.at.st_is) (alone-is_right here.at.alone_at);
     bare = λ none. subst AreBare (sym here.at.st_is) tt;
+    reached = reached;
   }
 
   -- ---- how far it reaches
@@ -152,7 +155,7 @@ module _ {D : Type 0} where
     opened.0,
     record {
       starts = opened.1.starts;
-      here = wide most observable state e opened.0 opened.1.here at (names_none e.written.by_txn.entries (committed (cells_of e.engine.trees)) none) has_indexes has_names;
+      here = wide most observable state e opened.0 opened.1.here at (names_none e.written.by_txn.entries (committed (cells_of e.engine.trees)) none) has_indexes has_names (starts_reached observable files opening opened.0 opened.1.starts);
       reach = subst (λ (r : Reach). IsWithin r (reach_in opened.1.starts.held opened.1.starts.meaning)) (sym (reach_alone e opened.1.here.at.alone_at (at opened.1.here.at.alone_at))) opened.1.reach;
     },
   )
@@ -162,7 +165,7 @@ module _ {D : Type 0} where
   opened_wide_safely most files opening history e opened at none has_indexes has_names = record {
     st = opened.st;
     starts = opened.starts;
-    here = wide most true (now history) e opened.st opened.here at (names_none e.written.by_txn.entries (committed (cells_of e.engine.trees)) none) has_indexes has_names;
+    here = wide most true (now history) e opened.st opened.here at (names_none e.written.by_txn.entries (committed (cells_of e.engine.trees)) none) has_indexes has_names (starts_reached true files opening opened.st opened.starts);
     reach = subst (λ (r : Reach). IsWithin r (reach_in opened.starts.held opened.starts.meaning)) (sym (reach_alone e opened.here.at.alone_at (at opened.here.at.alone_at))) opened.reach;
     stable = opened.stable;
     guarded = opened.guarded;

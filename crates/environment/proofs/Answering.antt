@@ -38,6 +38,7 @@ use Rattle.engine.specs.Limits.{IsBounded, IsWithin, last_number, limit_by, most
 use Rattle.engine.proofs.GuardedCalls.{guarded_along}
 use Rattle.engine.proofs.GuardedEvents.{guarded_idle, guarded_grown, guarded_tried}
 use Rattle.engine.proofs.ReachLaws.{planned_few}
+use Rattle.serial_replay.proofs.Attempts.{reached_goes-on}
 use Rattle.environment.specs.declared.environment.Environment.{Environment}
 use Rattle.environment.specs.declared.outcome.Outcome.{Outcome}
 use Rattle.environment.specs.Answering.{AnswersCall}
@@ -178,6 +179,7 @@ module _ {D : Type 0} where
               at = has.here;
               right = λ after. standings_stay-right has.limit st (Called session line call answer victims) none (here.right none) has.answers;
               bare = λ after. standings_stay-bare has.limit st (Called session line call answer victims) none (here.right none) (here.bare none) has.answers;
+              reached = reached_goes-on has.limit st (Called session line call answer victims) here.reached has.answers;
             };
           }
 
@@ -196,7 +198,7 @@ module _ {D : Type 0} where
         stays = tt;
       }
       answers_call (Err error) comes near = record {
-        goes_on = λ most st here. let has = comes most st here in record { at = has.here; right = here.right; bare = here.bare };
+        goes_on = λ most st here. let has = comes most st here in record { at = has.here; right = here.right; bare = here.bare; reached = here.reached };
         exact = λ most st here. tt;
         numbered = λ most st here. tt;
         grows = λ most st here. within_more old new (written_call st session call) (comes most st here).near;

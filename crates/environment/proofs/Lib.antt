@@ -1,4 +1,6 @@
--- Where the life of an environment began.
+-- The store that files mean is a right one, so an environment that was opened stands at a beginning.
+pub mod RightStores
+pub mod ReachedLaws
 -- What an environment knows of its databases.
 pub mod Databases
 pub mod Bases

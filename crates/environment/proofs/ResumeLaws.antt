@@ -1,5 +1,7 @@
 -- A waiting call goes on.
 use mathlib.Core.Path.{fun_ext}
+use Rattle.serial_replay.proofs.Attempts.{reached_goes-on}
+use Rattle.serial_replay.specs.Reached.{IsReached}
 use Rattle.environment.specs.Valid.{fitting}
 use Rattle.std.proofs.Common.{◌≡◌, ◌∙◌, ℕ, Bool, true, false, cond, not, ◌==◌, List, [], ◌∷◌, filter, is_some, Option, None, Some, Result, Ok, Err, OnErr, ap, ap₂, refl, sym, subst, inl, inr, arith}
 use Rattle.std.specs.List.{AllByRecursion}
@@ -295,6 +297,7 @@ module _ {D : Type 0} where
             at = subst (λ (x : Standing). StandsAt most observable history new x) (sym (after_is most st line m o g)) has.here;
             right = λ after. standings_stay-right has.limit st (resumed_by session line o) g.none (here.right g.none) said;
             bare = λ after. standings_stay-bare has.limit st (resumed_by session line o) g.none (here.right g.none) (here.bare g.none) said;
+            reached = reached_goes-on has.limit st (resumed_by session line o) here.reached said;
           };
         }
 
@@ -308,6 +311,7 @@ module _ {D : Type 0} where
       at = left;
       right = λ after. standings_stay-right None st (End session) none (here.right none) tt;
       bare = λ after. standings_stay-bare None st (End session) none (here.right none) (here.bare none) tt;
+      reached = reached_goes-on None st (End session) here.reached tt;
     }
 
     pub resumes_call : (result : Result Outcome AllocError) →
@@ -391,6 +395,7 @@ module _ {D : Type 0} (observable : Bool) (history : D → History) (old : Envir
     at = resumed_at most observable history old s st m.wait here.at (stands st m.wait m.its m.ready here.at.sessions_at);
     right = λ none. absurd (not_none st i.failed none);
     bare = λ none. absurd (not_none st i.failed none);
+    reached = subst IsReached i.after (reached_goes-on None st (Resume session line (Invalid first) []) here.reached i.answered);
   })
 
   limit_none : (changes : List Change) (owed : ℕ) → changes ≡ [] → HasLimit old owed changes None

@@ -34,6 +34,8 @@ use Rattle.standing_laws.specs.Right.{AreRight}
 use Rattle.engine.specs.declared.kept.Kept.{Kept}
 use Rattle.engine.specs.Limits.{IsBoundedBy, IsWithin}
 use Rattle.engine.proofs.GuardedCalls.{guarded_along}
+use Rattle.serial_replay.specs.Reached.{IsReached}
+use Rattle.serial_replay.proofs.Attempts.{reached_goes-on}
 use Rattle.environment.specs.declared.environment.Environment.{Environment}
 use Rattle.environment.specs.declared.written.OwnNames.{OwnNames}
 use Rattle.environment.specs.declared.written.Written.{Written}
@@ -175,28 +177,28 @@ module _ {D : Type 0} (observable : Bool) (history : D → History) (sync_out re
       turned : (limit : Option Answer) (step : Step) (answer : Answer) → IsLimited (log_limit limit) step st.in_checkpoint answer → IsTurned st.fault limit step st.in_checkpoint answer
       turned limit step answer is = subst (λ (f : Option Cause). IsTurned f limit step st.in_checkpoint answer) (sym none) is
 
-      pub done_appended : (limit : Option Answer) (line : ℕ) (step : Step) (answer : Answer) (begun : Bool) → AreRight st → AreBare st → IsBoundedBy (reach_behind (reach_of old) st (Turn line step answer)) limit →
+      pub done_appended : (limit : Option Answer) (line : ℕ) (step : Step) (answer : Answer) (begun : Bool) → AreRight st → AreBare st → IsReached st → IsBoundedBy (reach_behind (reach_of old) st (Turn line step answer)) limit →
           IsLimited (log_limit limit) step st.in_checkpoint answer → after_turn step st answer ≡ record st { in_checkpoint = begun } → HasAppended old new st begun →
           HasDone most observable (state_of new) old new st (Turn line step answer)
-      done_appended limit line step answer begun right bare bounded answers path h = record {
+      done_appended limit line step answer begun right bare reached bounded answers path h = record {
         limit = limit;
         bounded = bounded;
         answered = turned limit step answer answers;
-        here = subst (IsAt most observable (state_of new) new) (sym path) (record { at = at_appended begun h; right = λ calm. right_marked st begun right; bare = λ calm. bare });
+        here = subst (IsAt most observable (state_of new) new) (sym path) (record { at = at_appended begun h; right = λ calm. right_marked st begun right; bare = λ calm. bare; reached = subst IsReached path (reached_goes-on limit st (Turn line step answer) reached (turned limit step answer answers)) });
       }
 
-      pub done_fault : (line : ℕ) (step : Step) → IsLimited (log_limit None) step st.in_checkpoint DiskFault → after_turn step st DiskFault ≡ faulted st → HasNotAppended old new →
+      pub done_fault : (line : ℕ) (step : Step) → IsReached st → IsLimited (log_limit None) step st.in_checkpoint DiskFault → after_turn step st DiskFault ≡ faulted st → HasNotAppended old new →
           HasDone most observable (state_of new) old new st (Turn line step DiskFault)
-      done_fault line step answers path h = record {
+      done_fault line step reached answers path h = record {
         limit = None;
         bounded = inl refl;
         answered = turned None step DiskFault answers;
-        here = subst (IsAt most observable (state_of new) new) (sym path) (record { at = at_fault h; right = λ calm. absurd (none-some Disk (sym calm)); bare = λ calm. absurd (none-some Disk (sym calm)) });
+        here = subst (IsAt most observable (state_of new) new) (sym path) (record { at = at_fault h; right = λ calm. absurd (none-some Disk (sym calm)); bare = λ calm. absurd (none-some Disk (sym calm)); reached = subst IsReached path (reached_goes-on None st (Turn line step DiskFault) reached (turned None step DiskFault answers)) });
       }
 
       -- there was no memory
-      pub left_appended : AreRight st → AreBare st → HasAppended old new st st.in_checkpoint → IsAt most observable (state_of new) new st
-      left_appended right bare h = record { at = at_appended st.in_checkpoint h; right = λ calm. right; bare = λ calm. bare }
+      pub left_appended : AreRight st → AreBare st → IsReached st → HasAppended old new st st.in_checkpoint → IsAt most observable (state_of new) new st
+      left_appended right bare reached h = record { at = at_appended st.in_checkpoint h; right = λ calm. right; bare = λ calm. bare; reached = reached }
 
     pub log_appended : (st : Standing) (begun : Bool) → HasAppended old new st begun → IsLogStep observable history sync_out read_out read_of false old.engine.trees.log new.engine.trees.log []
     log_appended st begun h = inr (record { entries = h.entries; grew = h.grew.fitting.grew; recovers = h.recovers })
@@ -226,11 +228,11 @@ module _ {D : Type 0} (observable : Bool) (history : D → History) (sync_out re
   Turned most old new st line step (Ok answer) = HasTurned most old new st line step answer
   Turned most old new st line step (Err error) = HasNotTurned most old new st
 
-  module _ (most : ℕ) (old new : Environment D) (stays : HasStayed old new) (st : Standing) (at : StandsAt most observable history old st) (none : st.fault ≡ None) (right : AreRight st) (bare : AreBare st) (line : ℕ) where
+  module _ (most : ℕ) (old new : Environment D) (stays : HasStayed old new) (st : Standing) (at : StandsAt most observable history old st) (none : st.fault ≡ None) (right : AreRight st) (bare : AreBare st) (reached : IsReached st) (line : ℕ) where
     pub turned_appended : (limit : Option Answer) (step : Step) (answer : Answer) (begun : Bool) → is_disk_fault answer ≡ false → IsBoundedBy (reach_behind (reach_of old) st (Turn line step answer)) limit →
         IsLimited (log_limit limit) step st.in_checkpoint answer → after_turn step st answer ≡ record st { in_checkpoint = begun } → HasAppended old new st begun → HasTurned most old new st line step answer
     turned_appended limit step answer begun quiet bounded answers path h = record {
-      done = done_appended old new stays most st at none limit line step answer begun right bare bounded answers path h;
+      done = done_appended old new stays most st at none limit line step answer begun right bare reached bounded answers path h;
       near = near old new stays most st at none begun line step answer h;
       log = subst (λ (b : Bool). IsLogStep observable history sync_out read_out read_of b old.engine.trees.log new.engine.trees.log []) (sym quiet) (log_appended old new stays st begun h);
       fault = ap (λ (s : Standing). s.fault) path ∙ none ∙ sym (ap (λ (b : Bool). cond b (Some Disk) None) quiet);
@@ -240,7 +242,7 @@ module _ {D : Type 0} (observable : Bool) (history : D → History) (sync_out re
 
     pub turned_fault : (step : Step) → IsLimited (log_limit None) step st.in_checkpoint DiskFault → after_turn step st DiskFault ≡ faulted st → HasNotAppended old new → HasTurned most old new st line step DiskFault
     turned_fault step answers path h = record {
-      done = done_fault old new stays most st at none line step answers path h;
+      done = done_fault old new stays most st at none line step reached answers path h;
       near = near_fault old new stays most st at none line step h;
       log = log_fault old new stays h;
       fault = ap (λ (s : Standing). s.fault) path;
@@ -250,7 +252,7 @@ module _ {D : Type 0} (observable : Bool) (history : D → History) (sync_out re
 
     pub turned_not : (h : HasAppended old new st st.in_checkpoint) → h.entries ≡ [] → HasNotTurned most old new st
     turned_not h is = record {
-      left = left_appended old new stays most st at none right bare h;
+      left = left_appended old new stays most st at none right bare reached h;
       near = stays_near old new stays most st at none st.in_checkpoint h is;
       log = h.grew.fitting.none is;
       never_falls = h.grew.fitting.never_falls;

@@ -34,6 +34,7 @@ use Rattle.checkpointer.specs.Numbers.{earlier_of}
 use Rattle.checkpointer.specs.Steps.{end_of as end_by}
 use Rattle.sessions.specs.AtStanding.{AreSessionsAt, owing}
 use Rattle.standing_laws.specs.Right.{AreRight}
+use Rattle.serial_replay.specs.Reached.{IsReached}
 use Rattle.environment.specs.declared.environment.Environment.{Environment}
 use Rattle.engine.specs.Limits.{IsBoundedBy}
 use Rattle.environment.specs.Limits.{reach_behind}
@@ -48,7 +49,7 @@ use Rattle.environment.proofs.TurnedLogs.{image_neutral, recovers_end, recovers_
 use Rattle.environment.proofs.TurningLaws.{HasAppended, HasNotAppended, Turned, full_is_bounded, turned_appended, turned_fault, turned_not, valid_moved}
 
 module _ {D : Type 0} (observable : Bool) (history : D → History) (sync_out read_out : D → Option ℕ) (read_of : D → ℕ) (faults : D → ℕ) where
-  module _ (most : ℕ) (old new : Environment D) (stays : HasStayed old new) (st : Standing) (at : StandsAt most observable history old st) (none : st.fault ≡ None) (right : AreRight st) (bare : AreBare st) (line : ℕ) where
+  module _ (most : ℕ) (old new : Environment D) (stays : HasStayed old new) (st : Standing) (at : StandsAt most observable history old st) (none : st.fault ≡ None) (right : AreRight st) (bare : AreBare st) (reached : IsReached st) (line : ℕ) where
     abbrev log_old : LogBuffer D
     log_old = old.engine.trees.log
 
@@ -147,10 +148,10 @@ module _ {D : Type 0} (observable : Bool) (history : D → History) (sync_out re
     ok : (limit : Option Answer) (step : Step) (answer : Answer) (begun : Bool) → is_disk_fault answer ≡ false → IsBoundedBy (reach_behind (reach_of old) st (Turn line step answer)) limit →
         IsLimited (log_limit limit) step st.in_checkpoint answer → after_turn step st answer ≡ record st { in_checkpoint = begun } → Appended begun → To step (Ok answer)
     ok limit step answer begun quiet bounded answers path h =
-        turned_appended observable history sync_out read_out read_of faults most old new stays st at none right bare line limit step answer begun quiet bounded answers path h
+        turned_appended observable history sync_out read_out read_of faults most old new stays st at none right bare reached line limit step answer begun quiet bounded answers path h
 
     fault : (step : Step) → IsLimited (log_limit None) step st.in_checkpoint DiskFault → after_turn step st DiskFault ≡ faulted st → NotAppended → To step (Ok DiskFault)
-    fault step answers path h = turned_fault observable history sync_out read_out read_of faults most old new stays st at none right bare line step answers path h
+    fault step answers path h = turned_fault observable history sync_out read_out read_of faults most old new stays st at none right bare reached line step answers path h
 
     bounded : (step : Step) (entry : Entry) → IsFullFor log_old (entry ∷ []) (owing st) → IsBoundedBy (reach_behind (reach_of old) st (Turn line step LogFull)) (Some LogFull)
     bounded step entry full = full_is_bounded observable history sync_out read_out read_of faults old new stays most st at none line step entry full
@@ -158,7 +159,7 @@ module _ {D : Type 0} (observable : Bool) (history : D → History) (sync_out re
     -- where there was no memory
     not_done : (step : Step) (error : AllocError) → Got [] × IsStill old new → To step (Err error)
     unfolding none_appended still_appended appended
-    not_done step error h = turned_not observable history sync_out read_out read_of faults most old new stays st at none right bare line (none_appended h.0 h.1) refl
+    not_done step error h = turned_not observable history sync_out read_out read_of faults most old new stays st at none right bare reached line (none_appended h.0 h.1) refl
 
     -- ---- a beginning
 
@@ -281,7 +282,7 @@ module _ {D : Type 0} (observable : Bool) (history : D → History) (sync_out re
       (most : ℕ) (st : Standing) (line : ℕ) → IsAt most observable (now (history (disk_of old))) old st → Turned observable history sync_out read_out read_of faults most old new st line step result
   take_turned old new step result stays valid steps most st line here =
       let none : st.fault ≡ None = sym here.at.fault ∙ valid in
-      step_turned most old new stays st here.at none (here.right none) (here.bare none) line step result (steps st here.at.sessions_at)
+      step_turned most old new stays st here.at none (here.right none) (here.bare none) here.reached line step result (steps st here.at.sessions_at)
 
   -- ---- after a fault
 

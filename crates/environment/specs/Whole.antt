@@ -28,6 +28,7 @@ use Rattle.engine.specs.Limits.{IsBoundedBy, IsWithin, Reach, limit_by}
 use Rattle.engine.specs.Opening.{StartsAt, reach_in}
 use Rattle.engine.specs.Whole.{CanGoOn as EngineCanGoOn, disk_of as disk_below}
 use Rattle.sessions.specs.declared.all_sessions.Sessions.{Sessions}
+use Rattle.serial_replay.specs.Reached.{IsReached}
 use Rattle.standing_laws.specs.Right.{AreRight}
 use Rattle.environment.specs.Valid.{AreAt, AreBare, owed_by, fitting}
 use Rattle.environment.specs.declared.environment.Environment.{Environment}
@@ -39,12 +40,13 @@ module _ {D : Type 0} where
   abbrev pub disk_of : Environment D → D
   disk_of environment = disk_below environment.engine
 
-  -- the environment, whose files have at most so many bytes, is where the model stands
+  -- the environment, whose files have at most so many bytes, is where the model stands, to which a journal has led, so that each index is right
   pub record IsAt (most : ℕ) (observable : Bool) (state : State) (environment : Environment D) (st : Standing) : Type 0 where
     pub at : AreAt most observable state environment.engine.trees.log (cells_of environment.engine.trees) (has_tree_of environment.engine.trees) (fitting environment.engine.trees) environment.engine.kept environment.sessions
         environment.written.by_txn.entries st
     pub right : st.fault ≡ None → AreRight st
     pub bare : st.fault ≡ None → AreBare st
+    pub reached : IsReached st
 
   -- the numbers leave room for another step
   abbrev pub CanGoOn : Environment D → Type 0

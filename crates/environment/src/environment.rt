@@ -10,6 +10,7 @@ ghost use Rattle.je_answers.specs.After.{after_event, after_events};
 ghost use Rattle.je_answers.specs.Events.{IsAnswered};
 ghost use Rattle.je_answers.specs.Journal.{durability_of as durability_in, first_ready};
 ghost use Rattle.txn_core.specs.Totals.{totals_of};
+ghost use Rattle.serial_replay.specs.Laws.{IsIndexedAt};
 ghost use Rattle.engine.specs.Limits.{IsWithin, reach_after};
 ghost use Rattle.engine.specs.Steps.{IsNumbered};
 ghost use Rattle.environment.specs.Calls.{HasCause, MayResume, called};
@@ -166,4 +167,10 @@ impl<D: Disk> Environment<D> {
     {
         self.engine.kept.totals
     }
+
+    /// Each index of the committed store has the pairs of its primary's records, and until a fault so it has in
+    /// what each transaction sees. This holds from the opening on, after each event.
+    pub fn indexes_are_right(&self)
+        ensures { (most : ℕ) (st : Standing) → IsAt most D.observable (now (D.history (disk_of self.now))) self.now st → IsIndexedAt st }
+    {}
 }

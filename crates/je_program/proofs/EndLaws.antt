@@ -19,7 +19,7 @@ use Rattle.engine.specs.Files.{HasCorruption, HasWrongIndex, Means}
 use Rattle.engine.specs.Opening.{HasNoNumbers}
 use Rattle.store_model.specs.Indexes.{AreIndexed}
 use Rattle.log_replay.specs.Indexed.{wrong_index}
-use Rattle.je_program.proofs.RightStores.{none_wrong}
+use Rattle.environment.proofs.RightStores.{none_wrong}
 use Rattle.je_program.specs.Program.{EndsBy, IsStopped, RunsIf}
 use Rattle.je_program.specs.Run.{cause_of_journal, cause_of_room}
 

@@ -14,7 +14,5 @@ pub mod UntouchedLaws
 pub mod BeginLaws
 -- How a program ends whose environment was not opened.
 pub mod StopLaws
--- The store that files mean is a right one.
-pub mod RightStores
 -- The transactions of a run replay, and none of them wait in a cycle.
 pub mod ReplayLaws

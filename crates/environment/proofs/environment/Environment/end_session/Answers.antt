@@ -5,6 +5,7 @@ use Rattle.log_file.specs.Log.{Log}
 use Rattle.store_model.specs.declared.event.Event.TheVariants.{End}
 use Rattle.standing_laws.proofs.StandingsStay.{standings_stay-right}
 use Rattle.standing_laws.proofs.StandingsBare.{standings_stay-bare}
+use Rattle.serial_replay.proofs.Attempts.{reached_goes-on}
 use Rattle.environment.proofs.EndingLaws.{ended_fault, ended_safely}
 use Rattle.environment.proofs.environment.Environment.end_session.Goals as goal
 
@@ -21,6 +22,7 @@ returns-clause-goes_on g c = λ most st here. record {
     bare = λ none.
         let before = sym (ended_fault (active_of c.args.session st.actives) (without_call c.args.session st)) ∙ none in
         standings_stay-bare None st (End c.args.session) before (here.right before) (here.bare before) tt;
+    reached = reached_goes-on None st (End c.args.session) here.reached tt;
   };
 }
 

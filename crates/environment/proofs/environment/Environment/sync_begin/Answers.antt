@@ -1,5 +1,10 @@
-use Rattle.std.proofs.Common.{None, Some, [], Err, ap, refl, inl, inr}
+use Rattle.std.proofs.Common.{None, Some, Option, [], Err, ap, refl, inl, inr, subst, sym}
 use Rattle.je_disk.specs.Moments.{now}
+use Rattle.serial_replay.proofs.Attempts.{reached_goes-on}
+use Rattle.store_model.specs.declared.answer.Answer.TheVariants.{Done, DiskFault}
+use Rattle.store_model.specs.declared.answer.Fault.{Fault}
+use Rattle.store_model.specs.declared.event.Event.TheVariants.{SyncBegin}
+use Rattle.je_answers.specs.Events.{IsSyncBegun}
 use Rattle.environment.specs.Valid.{fitting}
 use Rattle.je_disk.specs.States.{State}
 use Rattle.log_buffer.specs.Buffer.{disk_of}
@@ -24,7 +29,7 @@ returns-in-Ok-clause-begins g c = λ most st here none.
       works = still_works c.sync_begin.result c.in-Ok.job new c.in-Ok.is c.sync_begin.ensures.cause.failed;
       room = c.in-Ok.ensures.room;
     } in
-    (inl refl, record { at = at_like most g.D.Disk.observable (state (disk_of old)) (state (disk_of new)) old new (cells_of e.engine.trees) (has_tree_of e.engine.trees) (fitting e.engine.trees) e.engine.kept e.sessions e.written.by_txn.entries st (Some st.commits) like here.at; right = λ valid. right_begun st (Some st.commits) (here.right valid); bare = here.bare })
+    (inl refl, record { at = at_like most g.D.Disk.observable (state (disk_of old)) (state (disk_of new)) old new (cells_of e.engine.trees) (has_tree_of e.engine.trees) (fitting e.engine.trees) e.engine.kept e.sessions e.written.by_txn.entries st (Some st.commits) like here.at; right = λ valid. right_begun st (Some st.commits) (here.right valid); bare = here.bare; reached = reached_goes-on None st (SyncBegin Done) here.reached (subst (λ (f : Option Fault). IsSyncBegun f Done) (sym none) (inl refl)) })
 
 pub returns-in-Err-clause-begins : goal.returns-in-Err-clause-begins
 returns-in-Err-clause-begins g c = λ most st here none.
@@ -32,7 +37,7 @@ returns-in-Err-clause-begins g c = λ most st here none.
     let state : g.row.D.Denot → State = λ d. now (g.D.Disk.history d) in
     let old = c.args.self.now.engine.trees.log in
     let new = c.sync_begin.new.self in
-    (inr refl, record { at = at_failed most g.D.Disk.observable (state (disk_of old)) (state (disk_of new)) old new (cells_of e.engine.trees) (cells_of e.engine.trees) (has_tree_of e.engine.trees) (has_tree_of e.engine.trees) (fitting e.engine.trees) (fitting e.engine.trees) e.engine.kept e.sessions e.written.by_txn.entries e.written.by_txn.entries st st.begun c.sync_begin.ensures.file_max here.at; right = λ valid. absurd cc; bare = λ valid. absurd cc })
+    (inr refl, record { at = at_failed most g.D.Disk.observable (state (disk_of old)) (state (disk_of new)) old new (cells_of e.engine.trees) (cells_of e.engine.trees) (has_tree_of e.engine.trees) (has_tree_of e.engine.trees) (fitting e.engine.trees) (fitting e.engine.trees) e.engine.kept e.sessions e.written.by_txn.entries e.written.by_txn.entries st st.begun c.sync_begin.ensures.file_max here.at; right = λ valid. absurd cc; bare = λ valid. absurd cc; reached = reached_goes-on None st (SyncBegin DiskFault) here.reached (subst (λ (f : Option Fault). IsSyncBegun f DiskFault) (sym none) (inr refl)) })
 
 pub returns-in-Ok-clause-crash : goal.returns-in-Ok-clause-crash
 returns-in-Ok-clause-crash g c = λ observed most st start journal none is.

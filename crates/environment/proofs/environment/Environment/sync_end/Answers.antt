@@ -1,8 +1,9 @@
 use Rattle.std.proofs.Common.{[], None, Some, Err, length, ap, refl, inl, inr}
 use Rattle.je_disk.specs.Moments.{now}
+use Rattle.environment.proofs.ReachedLaws.{sync_reached}
 use Rattle.environment.specs.Valid.{fitting}
 use Rattle.je_disk.specs.States.{State}
-use Rattle.store_model.specs.declared.answer.Answer.TheVariants.{Durable}
+use Rattle.store_model.specs.declared.answer.Answer.TheVariants.{DiskFault, Durable}
 use Rattle.log_buffer.specs.Buffer.{disk_of}
 use Rattle.in_tree.specs.Observed.{cells_of, has_tree_of}
 use Rattle.log_file.specs.Log.{Log, entries_of}
@@ -26,7 +27,7 @@ returns-in-Ok-clause-ends g c = λ most st here none.
       works = still_works c.sync_end.result c.in-Ok.field-0 new c.in-Ok.is c.sync_end.ensures.cause.failed;
       room = same.room;
     } in
-    (inl (ap Durable here.at.commits), record { at = at_like most g.D.Disk.observable (state (disk_of old)) (state (disk_of new)) old new (cells_of e.engine.trees) (has_tree_of e.engine.trees) (fitting e.engine.trees) e.engine.kept e.sessions e.written.by_txn.entries st None like here.at; right = λ valid. right_begun st None (here.right valid); bare = here.bare })
+    (inl (ap Durable here.at.commits), record { at = at_like most g.D.Disk.observable (state (disk_of old)) (state (disk_of new)) old new (cells_of e.engine.trees) (has_tree_of e.engine.trees) (fitting e.engine.trees) e.engine.kept e.sessions e.written.by_txn.entries st None like here.at; right = λ valid. right_begun st None (here.right valid); bare = here.bare; reached = sync_reached st (Durable e.engine.kept.commits) here.reached none (inl (ap Durable here.at.commits)) })
 
 pub returns-in-Err-clause-ends : goal.returns-in-Err-clause-ends
 returns-in-Err-clause-ends g c = λ most st here none.
@@ -34,7 +35,7 @@ returns-in-Err-clause-ends g c = λ most st here none.
     let state : g.row.D.Denot → State = λ d. now (g.D.Disk.history d) in
     let old = c.args.self.now.engine.trees.log in
     let new = c.sync_end.new.self in
-    (inr refl, record { at = at_failed most g.D.Disk.observable (state (disk_of old)) (state (disk_of new)) old new (cells_of e.engine.trees) (cells_of e.engine.trees) (has_tree_of e.engine.trees) (has_tree_of e.engine.trees) (fitting e.engine.trees) (fitting e.engine.trees) e.engine.kept e.sessions e.written.by_txn.entries e.written.by_txn.entries st None c.sync_end.ensures.kept.max here.at; right = λ valid. absurd cc; bare = λ valid. absurd cc })
+    (inr refl, record { at = at_failed most g.D.Disk.observable (state (disk_of old)) (state (disk_of new)) old new (cells_of e.engine.trees) (cells_of e.engine.trees) (has_tree_of e.engine.trees) (has_tree_of e.engine.trees) (fitting e.engine.trees) (fitting e.engine.trees) e.engine.kept e.sessions e.written.by_txn.entries e.written.by_txn.entries st None c.sync_end.ensures.kept.max here.at; right = λ valid. absurd cc; bare = λ valid. absurd cc; reached = sync_reached st DiskFault here.reached none (inr refl) })
 
 pub returns-in-Ok-clause-crash : goal.returns-in-Ok-clause-crash
 returns-in-Ok-clause-crash g c = λ observed most st start journal here none is.

@@ -1,8 +1,9 @@
-use Rattle.std.proofs.Common.{◌≡◌, None, ap, inl, refl, sym, subst, ◌∙◌, Option}
+use Rattle.std.proofs.Common.{◌≡◌, None, ap, inl, inr, refl, sym, subst, ◌∙◌, Option}
 use Rattle.je_disk.specs.Moments.{now}
+use Rattle.serial_replay.proofs.Attempts.{reached_goes-on}
 use Rattle.environment.specs.Valid.{fitting}
 use Rattle.je_disk.specs.States.{State}
-use Rattle.store_model.specs.declared.answer.Answer.TheVariants.{Durable, Invalid}
+use Rattle.store_model.specs.declared.answer.Answer.TheVariants.{DiskFault, Durable, Invalid}
 use Rattle.store_model.specs.declared.answer.Fault.{Fault}
 use Rattle.store_model.specs.declared.event.Event.TheVariants.{WriteOut}
 use Rattle.je_answers.specs.Events.{IsWrittenOut}
@@ -11,7 +12,7 @@ use Rattle.in_tree.specs.Observed.{cells_of, has_tree_of}
 use Rattle.engine.proofs.GuardLaws.{guarded_quiet}
 use Rattle.engine.proofs.WholeLaws.{still_works}
 use Rattle.engine.proofs.WriteOutLaws.{not_written_safely, written_safely}
-use Rattle.environment.proofs.Standing.{IsLike, at_like}
+use Rattle.environment.proofs.Standing.{IsLike, at_failed, at_like}
 use Rattle.environment.proofs.environment.Environment.write_out.Goals as goal
 
 pub returns-in-Some-clause-crash : goal.returns-in-Some-clause-crash
@@ -42,6 +43,27 @@ returns-in-Ok-clause-goes_on g c = λ most st here.
         at = at_like most g.D.Disk.observable (state (disk_of old)) (state (disk_of new)) old new (cells_of e.engine.trees) (has_tree_of e.engine.trees) (fitting e.engine.trees) e.engine.kept e.sessions e.written.by_txn.entries st st.begun like here.at;
         right = here.right;
         bare = here.bare;
+        reached = reached_goes-on None st (WriteOut (Durable e.engine.kept.commits)) here.reached (subst (λ (f : Option Fault). IsWrittenOut f st.commits (Durable e.engine.kept.commits)) (sym none) (inl (ap Durable here.at.commits)));
+      };
+    }
+
+pub returns-in-Err-clause-goes_on : goal.returns-in-Err-clause-goes_on
+returns-in-Err-clause-goes_on g c = λ most st here.
+    let e = c.args.self.now in
+    let state : g.row.D.Denot → State = λ d. now (g.D.Disk.history d) in
+    let old = e.engine.trees.log in
+    let new = c.write_out.new.self in
+    let none : st.fault ≡ None = sym here.at.fault ∙ c.in_default.is in
+    let answered : IsWrittenOut st.fault st.commits DiskFault = subst (λ (f : Option Fault). IsWrittenOut f st.commits DiskFault) (sym none) (inr refl) in
+    record {
+      limit = None;
+      bounded = inl refl;
+      answered = answered;
+      here = record {
+        at = at_failed most g.D.Disk.observable (state (disk_of old)) (state (disk_of new)) old new (cells_of e.engine.trees) (cells_of e.engine.trees) (has_tree_of e.engine.trees) (has_tree_of e.engine.trees) (fitting e.engine.trees) (fitting e.engine.trees) e.engine.kept e.sessions e.written.by_txn.entries e.written.by_txn.entries st st.begun c.write_out.ensures.file_max here.at;
+        right = λ valid. absurd cc;
+        bare = λ valid. absurd cc;
+        reached = reached_goes-on None st (WriteOut DiskFault) here.reached answered;
       };
     }
 

@@ -1,0 +1,39 @@
+-- An environment that was opened stands at a beginning, from which journals lead on.
+use Rattle.std.proofs.Common.{◌≡◌, ◌∙◌, ℕ, Bool, List, Option, None, Some, inl, refl, sym, subst}
+use Rattle.je_disk.specs.States.{Files}
+use Rattle.store_model.specs.declared.store.Store.{Store}
+use Rattle.store_model.specs.Indexes.{AreIndexed}
+use Rattle.store_model.specs.Store.{IsStore}
+use Rattle.store_model.specs.declared.answer.Answer.{Answer}
+use Rattle.store_model.specs.declared.answer.Answer.TheVariants.{Done}
+use Rattle.store_model.specs.declared.answer.Fault.{Fault}
+use Rattle.store_model.specs.declared.event.Event.TheVariants.{SyncBegin, SyncEnd}
+use Rattle.je_answers.specs.Standing.{Standing}
+use Rattle.je_answers.specs.After.{after_event}
+use Rattle.je_answers.specs.Events.{Covers, IsSyncBegun, IsSyncEnded}
+use Rattle.engine.specs.Opening.{AreNumbers, StartsAt}
+use Rattle.serial_replay.specs.Laws.{HaveNumbers}
+use Rattle.serial_replay.specs.Reached.{IsBeginning, IsReached}
+use Rattle.serial_replay.proofs.Attempts.{beginnings_are-reached, reached_goes-on}
+use Rattle.environment.proofs.RightStores.{meaning_right}
+
+opening_numbers : (store : Store) (last_db : ℕ) (numbers : List ℕ → ℕ) → AreNumbers store last_db numbers → HaveNumbers store last_db numbers
+opening_numbers store last_db numbers k = record { none = k.none; allocated = k.allocated; apart = k.apart }
+
+pub starts_begins : (observable : Bool) (files : Files) (opening : Store) (st : Standing) → (starts : StartsAt observable files opening st) → IsBeginning starts.alone_at
+starts_begins observable files opening st starts = record {
+  store = subst IsStore (starts.means_store ∙ sym starts.store) (meaning_right starts.held starts.meaning starts.means);
+  numbers = subst (λ (s : Store). HaveNumbers s starts.alone_at.last_db starts.alone_at.numbers) (sym starts.store)
+      (opening_numbers opening starts.alone_at.last_db starts.alone_at.numbers starts.numbers);
+  indexed = subst AreIndexed (sym starts.store) (starts.indexed.indexed refl);
+}
+
+pub starts_reached : (observable : Bool) (files : Files) (opening : Store) (st : Standing) → StartsAt observable files opening st → IsReached st
+starts_reached observable files opening st starts =
+    subst IsReached (sym starts.st_is) (beginnings_are-reached starts.alone_at (starts_begins observable files opening st starts))
+
+-- a sync that began may end
+pub sync_reached : (st : Standing) (answer : Answer) → IsReached st → st.fault ≡ None → Covers (Some st.commits) answer → IsReached (after_event (record st { begun = Some st.commits }) (SyncEnd answer))
+sync_reached st answer reached none covers =
+    let begun : IsReached (record st { begun = Some st.commits }) = reached_goes-on None st (SyncBegin Done) reached (subst (λ (f : Option Fault). IsSyncBegun f Done) (sym none) (inl refl)) in
+    reached_goes-on None (record st { begun = Some st.commits }) (SyncEnd answer) begun (subst (λ (f : Option Fault). IsSyncEnded f (Some st.commits) answer) (sym none) covers)
