@@ -122,7 +122,7 @@ fn hold_other(number: Option<u32>, to: &Word) -> Result<Held, AllocError>
     })
 }
 
-// Takes what is known of a database away, if one goes.
+// Takes what is known of a database away: one that goes, or one that was to be made.
 fn forget(names: &mut DbNames, indexes: &mut IndexMap, gone: Option<u32>)
     ensures names { (was : Names) → HasNames was names.old → HasNames (names_gone gone was) names.new }
     ensures indexes { (made : Made) → HasIndexes made indexes.old → HasIndexes (made_gone gone made) indexes.new }
@@ -139,17 +139,6 @@ fn rename(names: &mut DbNames, renamed: Option<(u32, Word)>)
 {
     if let Some((number, name)) = renamed {
         names.rename(number, name);
-    }
-}
-
-// Takes the name of a new database away again, and the index that it was to be.
-fn undo(names: &mut DbNames, indexes: &mut IndexMap, made: Option<u32>)
-    ensures names { (was : Names) → HasNames was names.old → HasNames (names_gone made was) names.new }
-    ensures indexes { (was : Made) → HasIndexes was indexes.old → HasIndexes (made_gone made was) indexes.new }
-{
-    if let Some(number) = made {
-        names.remove(number);
-        indexes.remove(number);
     }
 }
 
@@ -176,7 +165,7 @@ pub(crate) fn settle(names: &mut DbNames, indexes: &mut IndexMap, held: Held, lo
         forget(names, indexes, gone);
         rename(names, renamed);
     } else {
-        undo(names, indexes, made);
+        forget(names, indexes, made);
         drop(renamed);
     }
 }

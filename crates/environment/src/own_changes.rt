@@ -9,11 +9,13 @@ ghost use Rattle.txn_log.specs.Own.{tree_of};
 ghost use Rattle.txn_views.specs.Laws.{own_name, own_names};
 ghost use Rattle.environment.specs.Writing.{has_record};
 
+use cursor_je::name_ref::name_ref;
 use je_order::{TxnId, copy_of};
-use record_map::{Cell, SortKey};
+use record_map::Cell;
 use record_tree::{Records, TreeChange, TreeName};
 use std::alloc::{AllocError, Global};
 use store_model::RecordChange;
+use txn_core::held_edge::held_name;
 use txn_core::reading::committed_in;
 
 fn copy_change(alloc: Global, db: u32, change: &RecordChange) -> Result<TreeChange, AllocError>
@@ -22,7 +24,7 @@ fn copy_change(alloc: Global, db: u32, change: &RecordChange) -> Result<TreeChan
     match change {
         RecordChange::Set { at, value } => {
             let value = copy_of(value)?;
-            let name = SortKey::new(alloc, copy_of(at)?)?;
+            let name = held_name(alloc, name_ref(at))?;
             Ok(TreeChange {
                 db,
                 name,
@@ -31,7 +33,7 @@ fn copy_change(alloc: Global, db: u32, change: &RecordChange) -> Result<TreeChan
             })
         }
         RecordChange::Unset { at } => {
-            let name = SortKey::new(alloc, copy_of(at)?)?;
+            let name = held_name(alloc, name_ref(at))?;
             Ok(TreeChange {
                 db,
                 name,
@@ -63,7 +65,7 @@ fn copy_name(alloc: Global, db: u32, change: &RecordChange) -> Result<TreeName, 
         RecordChange::Set { at, .. } => at,
         RecordChange::Unset { at } => at,
     };
-    let name = SortKey::new(alloc, copy_of(at)?)?;
+    let name = held_name(alloc, name_ref(at))?;
     Ok(TreeName { db, name })
 }
 

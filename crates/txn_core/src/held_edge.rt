@@ -22,10 +22,13 @@ pub enum HeldEdge {
     End,
 }
 
-/// The name as it is held.
+/// The name as it is held. It takes memory where the key has more than 22 bytes, or the dup any.
 pub fn held_name(alloc: Global, name: NameRef<'_>) -> Result<SortKey, AllocError>
     ensures { IfOk result (λ held. held ≡ name_in name.entry) }
 {
+    if name.dup.is_empty() {
+        return SortKey::plain(alloc, name.key);
+    }
     SortKey::new(alloc, name.to_name(alloc)?)
 }
 
