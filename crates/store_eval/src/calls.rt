@@ -14,7 +14,8 @@ use store_model::{Answer, Call, Change, Database, RecordChange, Store};
 
 /// What a call outside a transaction answers, and the store after it. It walks and copies the whole
 /// store at each call, so it is for small stores. Of the refusals it knows NoDatabase alone: names that
-/// are taken, kinds, limits, log room and numbers are asked elsewhere. The only error is out of memory.
+/// are taken, kinds, limits, log room and numbers are asked elsewhere. It is for stores without indexes:
+/// it keeps none up, and takes one for a database of its pairs. The only error is out of memory.
 pub fn eval(alloc: Global, store: &Store, call: &Call) -> Result<(Answer, Store), AllocError>
     ensures answer { IfOk result (λ r. r.0 ≡ (outcome call.now store.now).answer) }
     ensures store { IfOk result (λ r. r.1 ≡ all_changed (outcome call.now store.now).changes store.now) }

@@ -117,6 +117,39 @@ d\
 \x00\x00\x00\x08\
 \x00\x00\x00\x00\x00\x00\x00\x02";
 
+// File 1 behind the log of the first example: an index i of t by the first byte of the data, which has
+// not the pair of the one record there.
+const WITHOUT_PAIR: &[u8] = b"\
+\x0c\xb4\x01\x32\
+\x01\
+\x00\
+\x00\x00\x00\x00\
+\x00\x00\x00\x0c\
+\x4a\x45\x4c\x47\
+\x00\x00\x00\x01\
+\x00\x00\x00\x01\
+\x0e\x04\x00\x98\
+\x02\
+\x00\
+\x00\x00\x00\x00\
+\x00\x00\x00\x22\
+\x00\x00\x00\x00\x00\x00\x00\x03\
+\x00\x00\x00\x00\
+\x00\x01\
+i\
+\x00\x00\
+\x00\x00\x00\x02\
+\x02\
+\x00\x00\x00\x01\
+\x00\x00\x00\x00\
+\x00\x00\x00\x01\
+\x02\x09\x00\x2b\
+\x05\
+\x00\
+\x00\x00\x00\x1a\
+\x00\x00\x00\x08\
+\x00\x00\x00\x00\x00\x00\x00\x03";
+
 // The log of the first example cut to each length: what it means, and what opening leaves of it, a
 // header at least. From each of these lengths on that many bytes are left.
 #[test]
@@ -164,7 +197,7 @@ fn assert_refused(
 }
 
 // Files, and why they cannot be opened.
-static UNREADABLE: [(&[(u32, &[u8])], &str); 7] = [
+static UNREADABLE: [(&[(u32, &[u8])], &str); 8] = [
     (&[(0, b""), (1, HEADER_1)], "fault damaged 0x0/0x0\n"),
     (&[(0, HEADER_1)], "fault damaged 0x0/0x0\n"),
     (&[(0, HEADER_9)], "fault version 00000000.jdb 9\n"),
@@ -172,6 +205,7 @@ static UNREADABLE: [(&[(u32, &[u8])], &str); 7] = [
     (&[(0, FIRST_LOG), (2, b"")], "fault missing 0x1/0x0\n"),
     (&[(0, NO_NUMBER)], "fault tree 0x0/0x1a\n"),
     (&[(0, WITH_DUP)], "fault tree 0x0/0x54\n"),
+    (&[(0, FIRST_LOG), (1, WITHOUT_PAIR)], "fault index i\n"),
 ];
 
 #[test]

@@ -23,6 +23,8 @@ mod files;
 #[cfg(test)]
 mod fixture;
 #[cfg(test)]
+mod index_locks;
+#[cfg(test)]
 mod indexes;
 #[cfg(test)]
 mod phantoms;
