@@ -1,2 +1,0 @@
--- What a name asks behind it, and lists that do not grow.
-pub mod Inserts
