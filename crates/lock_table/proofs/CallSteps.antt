@@ -1,12 +1,11 @@
 -- Single steps of the calls.
-use Rattle.std.proofs.Common.{◌≡◌, Bool, true, false, cond, ◌&&◌, ◌||◌, List, [], ◌∷◌, ◌++◌, map, Some, None, Option, refl, ap, sym, ◌∙◌, subst, ◌⊎◌, inl, inr, ⊎_elim}
+use Rattle.std.proofs.Common.{◌≡◌, Bool, true, false, cond, ◌&&◌, ◌||◌, List, [], ◌∷◌, map, Some, None, Option, refl, ap, sym, ◌∙◌, subst, ◌⊎◌, inl, inr, ⊎_elim}
 use Rattle.std.specs.List.{filter, list_any}
 use Rattle.std.specs.Map.{lookup}
 use Rattle.std.specs.Option.{is_some, option_map_or, unwrap_or, IsSome}
 use Rattle.std.specs.Ordering.{is_eq}
-use Rattle.std.proofs.lemmas.List.Folds.{list_any-append}
 use Rattle.std.proofs.lemmas.Cmp.{tied_itself}
-use Rattle.std.proofs.lemmas.Bool.{cases_Bool, both_ways, cond-true, cond-false, and_parts, or_cases, or_from, false_from_ne_true}
+use Rattle.std.proofs.lemmas.Bool.{cases_Bool, both_ways, cond-true, cond-false, and_parts, or_cases, false_from_ne_true}
 use Rattle.je_order.specs.declared.txn_id.TxnId.{TxnId}
 use Rattle.lock_mode.specs.declared.lock_type.LockType.{LockType}
 use Rattle.lock_table.specs.declared.lock.Lock.{Lock}
@@ -97,7 +96,7 @@ pub release_begins : (t : TxnId) (old : List (RecordId × Queue)) (list : List R
 release_begins t old list s l r = ⊎_elim (λ h. inr (refl, h)) (λ h. inl (sym (release_nothing t (queue_at r old) (s r) (l r h)))) (cases_Bool (list_any (is_record r) list))
 
 -- a record that the list has twice is released twice, and the second time changes nothing
-pub release_step : (t : TxnId) (old now next : List (RecordId × Queue)) (list less : List RecordId) (at : RecordId) → ((r : RecordId) → IsSettled (queue_at r old)) → IsUnderWay t old now list → list ≡ less ++ at ∷ []
+pub release_step : (t : TxnId) (old now next : List (RecordId × Queue)) (list less : List RecordId) (at : RecordId) → ((r : RecordId) → IsSettled (queue_at r old)) → IsUnderWay t old now list → list ≡ at ∷ less
     → ((r : RecordId) → queue_at r next ≡ cond (is_record at r) (after_release t (queue_at r now)) (queue_at r now)) → IsUnderWay t old next less
 release_step t old now next list less at s u is n r = ⊎_elim
     (λ h. let q = n r ∙ cond-true (is_record at r) (after_release t (queue_at r now)) (queue_at r now) h in
@@ -106,9 +105,8 @@ release_step t old now next list less at s u is n r = ⊎_elim
     ⊎_elim (λ d. inl (q ∙ d)) (λ d. inr (q ∙ d.0, still r h (sym (ap (list_any (is_record r)) is) ∙ d.1))) (u r))
     (cases_Bool (is_record at r))
   where
-    still : (r : RecordId) → is_record at r ≡ false → list_any (is_record r) (less ++ at ∷ []) ≡ true → list_any (is_record r) less ≡ true
-    still r h k = ⊎_elim (λ i. i) (λ i. absurd (both_ways (is_record r at || false) (or_from (is_record r at) false (record_either r at ∙ h) refl) i))
-        (or_cases (list_any (is_record r) less) (is_record r at || false) (sym (list_any-append (is_record r) less (at ∷ [])) ∙ k))
+    still : (r : RecordId) → is_record at r ≡ false → list_any (is_record r) (at ∷ less) ≡ true → list_any (is_record r) less ≡ true
+    still r h k = ⊎_elim (λ i. absurd (both_ways (is_record r at) (record_either r at ∙ h) i)) (λ i. i) (or_cases (is_record r at) (list_any (is_record r) less) k)
 
 pub release_ends : (t : TxnId) (old now : List (RecordId × Queue)) (list : List RecordId) → IsUnderWay t old now list → list ≡ [] → (r : RecordId) → queue_at r now ≡ after_release t (queue_at r old)
 release_ends t old now list u e r = ⊎_elim (λ d. d) (λ d. absurd (both_ways (list_any (is_record r) list) (ap (list_any (is_record r)) e) d.1)) (u r)

@@ -243,18 +243,17 @@ pub(crate) fn release_in(
     let Some(list) = lists.remove(&txn) else {
         return;
     };
-    release_each(queues, list, txn);
+    release_each(queues, list.as_slice(), txn);
 }
 
 // The transaction's locks and waits on these records go.
-fn release_each(queues: &mut BTreeMap<RecordId, Queue>, list: Vec<RecordId>, txn: TxnId)
+fn release_each(queues: &mut BTreeMap<RecordId, Queue>, list: &[RecordId], txn: TxnId)
     requires settled { (r : RecordId) → IsSettled (queue_at r queues.old.entries) }
-    requires listed { (r : RecordId) → list_any (is_record r) list.items ≡ false → IsOut txn (queue_at r queues.old.entries) }
+    requires listed { (r : RecordId) → list_any (is_record r) list.now ≡ false → IsOut txn (queue_at r queues.old.entries) }
     ensures { (r : RecordId) → queue_at r queues.new.entries ≡ after_release txn (queue_at r queues.old.entries) }
 {
-    let mut list = list;
-    while let Some(at) = list.pop() {
-        release_at(queues, &at, txn);
+    for at in list {
+        release_at(queues, at, txn);
     }
 }
 
