@@ -162,6 +162,16 @@ const COMMIT: &[u8] = b"\
 \x00\x00\x00\x08\
 \x00\x00\x00\x00\x00\x00\x00\x01";
 
+// Whether an error names a wrong record that was put at this offset of file 0.
+fn names_record_at(error: &RecoverErr, offset: u32) -> bool {
+    match error {
+        RecoverErr::Corrupt(corruption) => {
+            *corruption == Corruption::Tree(Lsn::new(FileNo(0), offset))
+        }
+        _ => false,
+    }
+}
+
 // Whether the entry at this offset of file 0, which has these pieces, is the first that put a wrong record.
 fn is_wrong_at(alloc: Global, pieces: &[&[u8]], offset: u32) -> bool {
     let mut disk = MemDisk::new(alloc);
@@ -170,10 +180,12 @@ fn is_wrong_at(alloc: Global, pieces: &[&[u8]], offset: u32) -> bool {
             return false;
         }
     }
-    let Err(RecoverErr::Corrupt(corruption)) = recovered_from(alloc, disk) else {
+    let Err(error) = recovered_from(alloc, disk) else {
         return false;
     };
-    corruption == Corruption::Tree(Lsn::new(FileNo(0), offset))
+    let found = names_record_at(&error, offset);
+    drop(error);
+    found
 }
 
 #[test]
