@@ -14,6 +14,7 @@ pub mod error;
 pub mod fetching;
 pub mod laws;
 pub mod log_pos;
+pub mod next_place;
 pub mod opening;
 pub mod reading;
 pub mod reserving;
@@ -28,3 +29,4 @@ pub use laws::{
     zeros_are_torn,
 };
 pub use log_pos::LogPos;
+pub use next_place::NextPlace;
