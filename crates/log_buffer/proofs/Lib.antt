@@ -58,3 +58,5 @@ pub mod CrashOpen
 pub mod DiskFaults
 -- Zeros are no entry, and behind whole entries they are a torn tail.
 mod ZeroTails
+-- Where entries go that are to be appended.
+pub mod NextPlaces

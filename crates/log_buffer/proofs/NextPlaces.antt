@@ -8,7 +8,7 @@ use Rattle.log_buffer.specs.NextPlaces.{IsBehind, IsTakenAt}
 use Rattle.log_buffer.proofs.LogPositions.{all_after, appends_join}
 
 -- entries that pass no last file with another one pass none without it
-within : (file_max : ℕ) (end : LogPos) (sizes : List ℕ) (size : ℕ) → (end_after_all file_max end (sizes ++ size ∷ [])).file ≤ last_file → (end_after_all file_max end sizes).file ≤ last_file
+pub within : (file_max : ℕ) (end : LogPos) (sizes : List ℕ) (size : ℕ) → (end_after_all file_max end (sizes ++ size ∷ [])).file ≤ last_file → (end_after_all file_max end sizes).file ≤ last_file
 within file_max end sizes size le =
     let joined = ap (λ (p : LogPos). p.file) (appends_join file_max end sizes (size ∷ [])) in
     let up = all_after file_max (end_after_all file_max end sizes) (size ∷ []) in

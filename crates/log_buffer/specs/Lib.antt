@@ -11,3 +11,4 @@ pub mod Zeros
 pub mod Growth
 pub mod Written
 pub mod Laws
+pub mod NextPlaces

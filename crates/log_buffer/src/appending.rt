@@ -14,9 +14,8 @@ ghost use Rattle.log_buffer.specs.Crash.{Holds, KeptThrough};
 ghost use Rattle.log_buffer.specs.Growth.{Grew, Tried};
 ghost use Rattle.log_buffer.specs.Flip.{header_size, placed_at, next_file, behind, end_after, pos_lsn};
 ghost use Rattle.log_buffer.specs.Causes.{HasLogCause, FailsByFault};
-ghost use Rattle.log_buffer.specs.NextPlaces.{IsBehind};
 
-use crate::{LogBuffer, LogErr, LogPos, NextPlace};
+use crate::{LogBuffer, LogErr, LogPos};
 use je_disk::Disk;
 use je_lsn::{FileNo, LAST_FILE, Lsn};
 use log_entry::{Entry, EntryRef, ref_size};
@@ -118,16 +117,6 @@ impl<D: Disk> LogBuffer<D> {
         LogPos {
             file: self.file.0,
             offset: u64::from(self.offset),
-        }
-    }
-
-    /// Where the next entries go.
-    pub fn next_place(&self) -> NextPlace
-        ensures { IsBehind (file_max_of self.now) (end_of self.now) [] result }
-    {
-        NextPlace {
-            end: self.pos(),
-            file_max: self.file_max,
         }
     }
 

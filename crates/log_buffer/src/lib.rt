@@ -12,6 +12,7 @@ pub mod buffer;
 pub mod encoding;
 pub mod error;
 pub mod fetching;
+pub mod foreseeing;
 pub mod laws;
 pub mod log_pos;
 pub mod next_place;

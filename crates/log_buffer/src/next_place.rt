@@ -1,12 +1,7 @@
 // Where entries go that are to be appended.
-ghost use Rattle.std.specs.Prelude.{◌≡◌, ◌≤◌, ◌<◌, ◌^◌, ◌++◌, ◌∷◌, [], ℕ, List};
-ghost use Rattle.je_lsn.specs.Naming.{last_file};
-ghost use Rattle.log_buffer.specs.declared.log_pos.LogPos.{LogPos};
-ghost use Rattle.log_buffer.specs.Flip.{end_after, placed_at, pos_lsn};
-ghost use Rattle.log_buffer.specs.NextPlaces.{IsBehind, IsTakenAt};
+ghost use Rattle.std.specs.Prelude.{◌<◌, ◌^◌};
 
 use crate::LogPos;
-use je_lsn::{FileNo, LAST_FILE, Lsn};
 
 /// Where the next entry of a log goes, worked out before it is appended: `LogBuffer::next_place` gives it, and
 /// `take` goes on behind an entry. The log itself stays as it is.
@@ -17,29 +12,4 @@ pub struct NextPlace {
     /// The greatest size in bytes of a file that holds more than one entry behind its header.
     pub(crate) file_max: u32,
     ghost offset: { end.offset < 2 ^ 33 },
-}
-
-impl NextPlace {
-    /// Where the next entry stands, of so many bytes; the one after it goes behind that. Where the log has
-    /// passed its last file the LSN names no entry.
-    pub fn take(&mut self, size: u32) -> Lsn
-        ensures at { (file_max : ℕ) (end : LogPos) (sizes : List ℕ) → IsBehind file_max end sizes self.old → IsTakenAt file_max end sizes size result }
-        ensures next { (file_max : ℕ) (end : LogPos) (sizes : List ℕ) → IsBehind file_max end sizes self.old → IsBehind file_max end (sizes ++ size ∷ []) self.new }
-    {
-        self.step(size)
-    }
-
-    // The same, by where the log ends.
-    fn step(&mut self, size: u32) -> Lsn
-        ensures max { self.new.file_max ≡ self.old.file_max }
-        ensures at { self.old.end.file ≤ last_file → result ≡ pos_lsn (placed_at self.old.file_max self.old.end size) }
-        ensures end { self.old.end.file ≤ last_file → self.new.end ≡ end_after self.old.file_max self.old.end size }
-    {
-        if self.end.file > LAST_FILE {
-            return Lsn::new(FileNo(self.end.file), 0);
-        }
-        let at = self.end.placed(self.file_max, size);
-        self.end = at.behind(size);
-        Lsn::new(FileNo(at.file), at.offset as u32)
-    }
 }
