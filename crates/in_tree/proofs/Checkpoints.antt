@@ -53,6 +53,7 @@ use Rattle.in_tree.specs.Growing.{trees_at, none_due, GrewForest, TreesGrew}
 use Rattle.in_tree.specs.Limits.{GrewFitting, TriedFitting}
 use Rattle.in_tree.specs.Logging.{LogsRoom, TriesImage}
 use Rattle.in_tree.specs.Placing.{due_one}
+use Rattle.in_tree.proofs.Written.{even_sizes}
 use Rattle.in_tree.proofs.Appending.{is_appended}
 use Rattle.in_tree.proofs.DueLogging.{some_entry}
 use Rattle.in_tree.specs.Forest.{Forest}
@@ -263,7 +264,7 @@ module _ {D : Type 0} (observable : Bool) (history : D → History) (sync_out re
       by_logs : LogsRoom observable history sync_out read_out read_of faults place.db (image ∷ []) mid new before.forest forest →
           (e : Entry) × IsImage e × TreesGrew observable history sync_out read_out read_of faults old new before.last_node before.last_node (trees_at before.forest) (trees_at forest) (e ∷ [])
       by_logs l =
-          let one = one_of l.0 l.2 in
+          let one = one_of l.0 (even_sizes l.0 (image ∷ []) l.2) in
           let grew : GrewForest observable history sync_out read_out read_of faults mid new before.forest forest due none_due (one.0 ∷ []) =
           subst (GrewForest observable history sync_out read_out read_of faults mid new before.forest forest due none_due) one.1 (l.3 none_due) in (
             one.0,

@@ -31,9 +31,8 @@ use Rattle.record_map.specs.Cells.{value_at}
 use Rattle.record_map.proofs.NameLaws.{name_same, same_or_other}
 use Rattle.record_tree.specs.Logged.{entry_for, AreImages, IsImage}
 use Rattle.tree_nodes.specs.Nodes.{NodeRow}
-use Rattle.tree_nodes.specs.Levels.{row_of, AreParts}
+use Rattle.tree_nodes.specs.Levels.{row_of}
 use Rattle.tree_nodes.specs.Lows.{lows_of}
-use Rattle.tree_nodes.specs.declared.node.Node.{Node}
 use Rattle.log_trees.specs.Placed.{Placed, placed}
 use Rattle.log_trees.specs.Sound.{Home}
 use Rattle.log_trees.specs.Trees.{data_in, data_of}
@@ -42,10 +41,8 @@ use Rattle.log_meaning.proofs.RedoLaws.{redone-in}
 use Rattle.db_tree.specs.declared.node_at.NodeAt.{NodeAt}
 use Rattle.db_tree.specs.declared.node_image.NodeImage.{NodeImage}
 use Rattle.db_tree.specs.declared.tree.DbTree.{DbTree}
-use Rattle.db_tree.specs.Content.{held_by}
 use Rattle.db_tree.specs.NodeImages.{finished, node_of, IsLoggable}
-use Rattle.db_tree.specs.NodeSteps.{IsLoggedUp, IsNoted}
-use Rattle.db_tree.specs.Trees.{IsTree, IsImageOf}
+use Rattle.db_tree.specs.NodeSteps.{IsLoggedUp}
 use Rattle.db_tree.specs.Waiting.{is_among, is_same_name}
 use Rattle.db_tree.proofs.NodeLogging.{entry_is_last}
 use Rattle.tree_images.specs.Forest.{latest_at, latest_of, logged_at, AreLogged, FitsDue, ForestDue, IsDue, IsLoggedWrite}
@@ -60,6 +57,7 @@ use Rattle.tree_images.proofs.LateMarks.{HasNoStart, and_true, begun_back, begun
 use Rattle.tree_images.proofs.Logged.{none_named}
 use Rattle.tree_images.proofs.NotedNodes.{notes_logged}
 use Rattle.tree_images.proofs.Splits.{lows_height}
+use Rattle.in_tree.specs.Filled.{HasNoted}
 use Rattle.in_tree.specs.Forest.{Forest, Replaces, IsStepIn}
 use Rattle.in_tree.specs.Growing.{trees_at, IsFitDue, GrewTree, GrewForest, GrewSlot}
 use Rattle.in_tree.specs.Limits.{GrewFitting}
@@ -75,17 +73,8 @@ pub fits_of_due : (es : List Placed) (base : ℕ) (home : ℕ → Home) (last d 
 fits_of_due es base home last d tree [] is = record { tree = is.is_tree; imaged = is.due.imaged; recorded = is.due.recorded }
 fits_of_due es base home last d tree (image ∷ images) is = is
 
--- what noting an image at its node did
-pub record HasNoted (image : NodeImage) (at : ℕ) (before after : DbTree) : Type 0 where
-  pub cells : after.cells ≡ before.cells
-  pub parts : AreParts after.levels
-  pub noted : IsSome (value_at image.low (row_of before.levels image.level)) → IsNoted before.levels after.levels image.level image.low at
-  pub up : IsSome (value_at image.low (row_of before.levels image.level)) → IsLoggedUp before.levels after.levels image.level image.low at
-  pub keeps : (es : List Placed) (base : ℕ) (newest : Name → ℕ) → ((n : Node) → value_at image.low (row_of before.levels image.level) ≡ Some n → IsImageOf es before.levels (held_by before.cells) image.level (image.low, n) at) →
-      IsTree es base newest before.levels before.cells → IsTree es base newest after.levels after.cells
-
 -- an image that is due first is logged and noted
-image_noted : (es : List Placed) (base : ℕ) (home : ℕ → Home) (last d : ℕ) (before after : DbTree) (image : NodeImage) (images : List NodeImage) (at : ℕ) → HasNoted image at before after →
+pub image_noted : (es : List Placed) (base : ℕ) (home : ℕ → Home) (last d : ℕ) (before after : DbTree) (image : NodeImage) (images : List NodeImage) (at : ℕ) → HasNoted image at before after →
     AllByRecursion (λ p. p.0 < at) es → IsEntry (finished before.levels image).entry → IsDue es base home last d before (image ∷ images) →
     FitsDue (es ++ (at, (finished before.levels image).entry) ∷ []) base home last d after images
 image_noted es base home last d before after image images at h behind entry is =
@@ -118,7 +107,7 @@ among_rest n nodes k x away h = by_side (or_cases ((n.level == k) && is_same_nam
     by_side (inr rest) = rest
 
 -- what a checkpoint noted is noted still where the image that is due first is logged: its node's mark is the node's above it
-image_notes : (es : List Placed) (base at : ℕ) (e : Entry) (before after : List NodeRow) (image : NodeImage) (images : List NodeImage) → AllByRecursion (λ p. p.0 < at) es → base ≤ at → is_start e ≡ false → length after ≡ length before →
+pub image_notes : (es : List Placed) (base at : ℕ) (e : Entry) (before after : List NodeRow) (image : NodeImage) (images : List NodeImage) → AllByRecursion (λ p. p.0 < at) es → base ≤ at → is_start e ≡ false → length after ≡ length before →
     IsLoggedUp before after image.level image.low at → HasNotes es base (image ∷ images) before → HasNotes (es ++ (at, e) ∷ []) base images after
 image_notes es base at e before after image images behind le plain height up notes start begun_now =
     notes_logged (may_stay es base start (map node_of (image ∷ images)) before) (may_stay (es ++ (at, e) ∷ []) base start (map node_of images) after) before after image.level image.low at up
@@ -153,10 +142,10 @@ image_notes es base at e before after image images behind le plain height up not
             let top : suc image.level ≡ length before = eqb-true (suc image.level) (length before) (both (is_among (map node_of (image ∷ images)) image.level image.low) (suc image.level == length before) due).1 in absurd (omega (arith, lt, top))
 
 -- the images that are due first are of nodes that are there
-due_there_now : (es : List Placed) (base : ℕ) (home : ℕ → Home) (last d : ℕ) (tree : DbTree) (image : NodeImage) (images : List NodeImage) → IsDue es base home last d tree (image ∷ images) → IsSome (value_at image.low (row_of tree.levels image.level))
+pub due_there_now : (es : List Placed) (base : ℕ) (home : ℕ → Home) (last d : ℕ) (tree : DbTree) (image : NodeImage) (images : List NodeImage) → IsDue es base home last d tree (image ∷ images) → IsSome (value_at image.low (row_of tree.levels image.level))
 due_there_now es base home last d tree image images is = is.due.order.0
 
-lows_length : (old new : List NodeRow) → lows_of new ≡ lows_of old → length new ≡ length old
+pub lows_length : (old new : List NodeRow) → lows_of new ≡ lows_of old → length new ≡ length old
 lows_length old new same = sym (lows_height new) ∙ ap (λ (l : List (List Name)). length l) same ∙ lows_height old
 
 -- the tree that took a place
@@ -174,7 +163,7 @@ pub due_there : (db : ℕ) (images : List NodeImage) (d : ℕ) → (d ≡ db →
 due_there db images d away = cond-false (db == d) images [] (ne_eqb db d (λ same. away (sym same)))
 
 -- an image is no beginning of a checkpoint
-image_plain : (e : Entry) → IsImage e → is_start e ≡ false
+pub image_plain : (e : Entry) → IsImage e → is_start e ≡ false
 image_plain (In db node level slots) image = refl
 image_plain (Bin db node slots) image = refl
 image_plain e image = absurd image
@@ -184,9 +173,40 @@ images_plain m p [] all = tt
 images_plain m p (e ∷ images) all = (image_plain e all.0, images_plain m (end_after m p (size_of e)) images all.1)
 
 -- nor is a change
-change_plain : (txn : TxnId) (db : ℕ) (name : Name) (value : Option (List ℕ)) → is_start (entry_for txn db name value) ≡ false
+pub change_plain : (txn : TxnId) (db : ℕ) (name : Name) (value : Option (List ℕ)) → is_start (entry_for txn db name value) ≡ false
 change_plain txn db name None = refl
 change_plain txn db name (Some v) = refl
+
+-- an entry of a change gives its record's data, and stands among the transaction's changes
+pub change_gives : (es : List Placed) (at : ℕ) (txn : TxnId) (db : ℕ) (name : Name) (value : Option (List ℕ)) → AllByRecursion (λ p. p.0 < at) es →
+    IfSome value (λ v. data_of (es ++ (at, entry_for txn db name value) ∷ []) db name at ≡ Some v)
+change_gives es at txn db name None behind = tt
+change_gives es at txn db name (Some v) behind =
+    ap (λ (o : Option Entry). option_and_then (data_in db name) o) (entry_is_last es at (Put txn db name v) (none_named es at behind)) ∙ own_data
+  where
+    own_data : cond ((db == db) && is_eq (name_cmp name name)) (Some v) None ≡ Some v
+    own_data = cond-true ((db == db) && is_eq (name_cmp name name)) (Some v) None (own_name db name)
+
+pub change_counts : (es : List Placed) (base at : ℕ) (txn : TxnId) (db : ℕ) (name : Name) (value : Option (List ℕ)) → base ≤ at → at ≤ logged_at base (es ++ (at, entry_for txn db name value) ∷ []) db name txn.0
+change_counts es base at txn db name value le =
+    subst (λ (r : Redo). at ≤ latest_of db name (r.done ++ r.pending txn.0)) (sym (redone-in base es (at, entry_for txn db name value) le)) (by_value value)
+  where
+    by_value : (v : Option (List ℕ)) → at ≤ latest_of db name ((redo_entry at (entry_for txn db name v) (redone base es)).done ++ (redo_entry at (entry_for txn db name v) (redone base es)).pending txn.0)
+    by_value None =
+        subst (λ (t : Bool). at ≤ latest_of db name ((redone base es).done ++ cond t ((redone base es).pending txn.0 ++ unset_at at db name ∷ []) ((redone base es).pending txn.0))) (sym (eq-eqb txn.0 txn.0 refl))
+        (le_trans (latest_own db name ((redone base es).pending txn.0) (unset_at at db name) (own_name db name)) (latest_behind db name (redone base es).done ((redone base es).pending txn.0 ++ unset_at at db name ∷ [])))
+    by_value (Some v) =
+        subst (λ (t : Bool). at ≤ latest_of db name ((redone base es).done ++ cond t ((redone base es).pending txn.0 ++ set_at at db name v ∷ []) ((redone base es).pending txn.0))) (sym (eq-eqb txn.0 txn.0 refl))
+        (le_trans (latest_own db name ((redone base es).pending txn.0) (set_at at db name v) (own_name db name)) (latest_behind db name (redone base es).done ((redone base es).pending txn.0 ++ set_at at db name v ∷ [])))
+
+-- an entry of a change is one of its transaction
+pub change_own : (es : List Placed) (base at : ℕ) (txn : TxnId) (db : ℕ) (name : Name) (value : Option (List ℕ)) → base ≤ at → has_changed (es ++ (at, entry_for txn db name value) ∷ []) base txn.0 at ≡ true
+change_own es base at txn db name value le =
+    changed_last es base txn.0 at (entry_for txn db name value) le (by_value value)
+  where
+    by_value : (v : Option (List ℕ)) → is_change_by txn.0 (entry_for txn db name v) ≡ true
+    by_value None = eq-eqb txn.0 txn.0 refl
+    by_value (Some v) = eq-eqb txn.0 txn.0 refl
 
 -- there is an entry
 pub some_entry : (e : Entry) → e ∷ [] ≡ [] → ⊥
@@ -208,15 +228,16 @@ module _ {D : Type 0} (observable : Bool) (history : D → History) (sync_out re
   }
 
   -- the same of the image as it was finished
-  pub logs_image : (old new : LogBuffer D) (before after : DbTree) (image done : NodeImage) (at : ℕ) → done ≡ finished before.levels image → IsLoggable done.entry →
+  pub logs_image : (old new : LogBuffer D) (before after : DbTree) (image done : NodeImage) (at : ℕ) → done ≡ finished before.levels image → IsLoggable done.entry → size_of done.entry ≡ size_of image.entry →
       GrewFitting observable history sync_out read_out read_of faults old new (done.entry ∷ []) → at ≡ pos_lsn (placed_at (file_max_of old) (end_of old) (size_of done.entry)) → HasNoted done at before after →
       LogsImage observable history sync_out read_out read_of faults image old new before after
   logs_image old new before after image done at is =
-      subst (λ (i : NodeImage). IsLoggable i.entry → GrewFitting observable history sync_out read_out read_of faults old new (i.entry ∷ []) → at ≡ pos_lsn (placed_at (file_max_of old) (end_of old) (size_of i.entry)) →
+      subst (λ (i : NodeImage). IsLoggable i.entry → size_of i.entry ≡ size_of image.entry → GrewFitting observable history sync_out read_out read_of faults old new (i.entry ∷ []) → at ≡ pos_lsn (placed_at (file_max_of old) (end_of old) (size_of i.entry)) →
       HasNoted i at before after → LogsImage observable history sync_out read_out read_of faults image old new before after) (sym is)
-      (λ loggable grew at_is h. (
+      (λ loggable size grew at_is h. (
         (finished before.levels image).entry,
         loggable.1,
+        size,
         image_logged old new before after image at grew at_is loggable.0 (image_plain (finished before.levels image).entry loggable.1) (record { cells = h.cells; parts = h.parts; noted = h.noted; up = h.up; keeps = h.keeps }),
       ))
 
@@ -265,37 +286,6 @@ module _ {D : Type 0} (observable : Bool) (history : D → History) (sync_out re
             (subst (λ (l : List NodeImage). IsFitDue f.home last db tree (l ++ due db) (placed log) base) (due_here db images) (f.fits db tree (sym was), f.notes db tree (sym was))))
 
   -- ---- a change
-
-  -- an entry of a change gives its record's data, and stands among the transaction's changes
-  change_gives : (es : List Placed) (at : ℕ) (txn : TxnId) (db : ℕ) (name : Name) (value : Option (List ℕ)) → AllByRecursion (λ p. p.0 < at) es →
-      IfSome value (λ v. data_of (es ++ (at, entry_for txn db name value) ∷ []) db name at ≡ Some v)
-  change_gives es at txn db name None behind = tt
-  change_gives es at txn db name (Some v) behind =
-      ap (λ (o : Option Entry). option_and_then (data_in db name) o) (entry_is_last es at (Put txn db name v) (none_named es at behind)) ∙ own_data
-    where
-      own_data : cond ((db == db) && is_eq (name_cmp name name)) (Some v) None ≡ Some v
-      own_data = cond-true ((db == db) && is_eq (name_cmp name name)) (Some v) None (own_name db name)
-
-  change_counts : (es : List Placed) (base at : ℕ) (txn : TxnId) (db : ℕ) (name : Name) (value : Option (List ℕ)) → base ≤ at → at ≤ logged_at base (es ++ (at, entry_for txn db name value) ∷ []) db name txn.0
-  change_counts es base at txn db name value le =
-      subst (λ (r : Redo). at ≤ latest_of db name (r.done ++ r.pending txn.0)) (sym (redone-in base es (at, entry_for txn db name value) le)) (by_value value)
-    where
-      by_value : (v : Option (List ℕ)) → at ≤ latest_of db name ((redo_entry at (entry_for txn db name v) (redone base es)).done ++ (redo_entry at (entry_for txn db name v) (redone base es)).pending txn.0)
-      by_value None =
-          subst (λ (t : Bool). at ≤ latest_of db name ((redone base es).done ++ cond t ((redone base es).pending txn.0 ++ unset_at at db name ∷ []) ((redone base es).pending txn.0))) (sym (eq-eqb txn.0 txn.0 refl))
-          (le_trans (latest_own db name ((redone base es).pending txn.0) (unset_at at db name) (own_name db name)) (latest_behind db name (redone base es).done ((redone base es).pending txn.0 ++ unset_at at db name ∷ [])))
-      by_value (Some v) =
-          subst (λ (t : Bool). at ≤ latest_of db name ((redone base es).done ++ cond t ((redone base es).pending txn.0 ++ set_at at db name v ∷ []) ((redone base es).pending txn.0))) (sym (eq-eqb txn.0 txn.0 refl))
-          (le_trans (latest_own db name ((redone base es).pending txn.0) (set_at at db name v) (own_name db name)) (latest_behind db name (redone base es).done ((redone base es).pending txn.0 ++ set_at at db name v ∷ [])))
-
-  -- an entry of a change is one of its transaction
-  change_own : (es : List Placed) (base at : ℕ) (txn : TxnId) (db : ℕ) (name : Name) (value : Option (List ℕ)) → base ≤ at → has_changed (es ++ (at, entry_for txn db name value) ∷ []) base txn.0 at ≡ true
-  change_own es base at txn db name value le =
-      changed_last es base txn.0 at (entry_for txn db name value) le (by_value value)
-    where
-      by_value : (v : Option (List ℕ)) → is_change_by txn.0 (entry_for txn db name v) ≡ true
-      by_value None = eq-eqb txn.0 txn.0 refl
-      by_value (Some v) = eq-eqb txn.0 txn.0 refl
 
   pub change_written : (old new : LogBuffer D) (before after : Forest) (txn : TxnId) (db : ℕ) (name : Name) (value : Option (List ℕ)) (write : Box Write Global) (at : ℕ) →
       GrewFitting observable history sync_out read_out read_of faults old new (entry_for txn db name value ∷ []) → at ≡ pos_lsn (placed_at (file_max_of old) (end_of old) (size_of (entry_for txn db name value))) →

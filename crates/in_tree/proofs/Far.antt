@@ -1,9 +1,8 @@
 -- Where the log has no room it ends far behind.
-use Rattle.std.proofs.Common.{◌≡◌, ◌≤◌, ◌<◌, ◌+◌, ◌*◌, ◌==◌, ◌++◌, ◌⊎◌, ℕ, zero, suc, List, [], ◌∷◌, Bool, true, false, cond, nat_lt, length, Option, None, Some, is_eq, map, ◌||◌, refl, ap, sym, ◌∙◌, inl, inr, arith}
+use Rattle.std.proofs.Common.{◌≡◌, ◌≤◌, ◌<◌, ◌+◌, ◌*◌, ◌==◌, ◌++◌, ◌⊎◌, ℕ, zero, suc, List, [], ◌∷◌, Bool, true, false, cond, nat_lt, length, Option, None, Some, is_eq, ◌||◌, refl, ap, sym, ◌∙◌, inl, inr, arith}
 use Rattle.std.specs.Ordering.{nat_cmp}
 use Rattle.std.specs.BTreeMap.{get}
 use Rattle.std.proofs.lemmas.Bool.{eq-eqb, ltb-true, le-ltb}
-use Rattle.std.proofs.lemmas.List.{length-map}
 use Rattle.log_buffer.specs.declared.log_pos.LogPos.{LogPos}
 use Rattle.log_buffer.specs.Buffer.{end_of, file_max_of, has_failed}
 use Rattle.log_buffer.specs.Flip.{goes_in, end_after, end_after_all, behind, next_file}
@@ -17,10 +16,11 @@ use Rattle.db_tree.specs.Splits.{nodes_made}
 use Rattle.db_tree.proofs.FewSplits.{images_few}
 use Rattle.in_tree.specs.declared.logged_trees.LogTrees.{LogTrees}
 use Rattle.in_tree.specs.Limits.{change_size, change_sizes, one_made, commit_sizes, sizes_for, end_behind, numbers_drawn, are_too_high, limit_behind}
-use Rattle.in_tree.specs.Filling.{is_filled_too_high, numbers_filled}
+use Rattle.in_tree.specs.Filling.{is_filled_too_high, numbers_filled, sizes_filled}
 use Rattle.in_tree.specs.Observed.{limit_filling_in, limit_in, waits_of}
 use Rattle.in_tree.specs.Shapes.{Shapes, shape_of, shapes_of, shapes_after}
 use Rattle.in_tree.specs.Waits.{waits_below}
+use Rattle.in_tree.proofs.FillReady.{few_rows}
 use Rattle.in_tree.proofs.Forests.{number_cases}
 use Rattle.in_tree.proofs.Waits.{waits_one}
 use Rattle.in_tree.proofs.Preparation.{or_false_left, or_false_right}
@@ -132,7 +132,7 @@ module _ {D : Type 0} where
   -- ---- where they make a database and fill it
 
   abbrev filling_sizes : LogTrees D → TreeChange → List TreeChange → ℕ → List ℕ
-  filling_sizes x c rows owed = image_sizes x.trees.fanout c.name (shapes_of x.trees.forest c.db) ++ change_size c ∷ (map change_size rows ++ commit_sizes owed)
+  filling_sizes x c rows owed = image_sizes x.trees.fanout c.name (shapes_of x.trees.forest c.db) ++ change_size c ∷ (sizes_filled x.trees.fanout new_shape rows ++ commit_sizes owed)
 
   abbrev filling_last : LogTrees D → TreeChange → List TreeChange → ℕ
   filling_last x c rows = x.trees.last_node + (nodes_made x.trees.fanout c.name (shapes_of x.trees.forest c.db) + one_made c.makes + numbers_filled x.trees.fanout new_shape rows)
@@ -168,11 +168,11 @@ module _ {D : Type 0} where
       let sizes = few_sizes x.trees.fanout (4294967296 + above_all (c ∷ [])) shapes (c ∷ []) (omega arith) (ap (λ (t : Bool). t || false) first) in
       let same = waits_beyond shapes 4294967296 (above_all (c ∷ [])) (none_beyond x) in
       let one = length_more (image_sizes x.trees.fanout c.name (shapes c.db)) (change_size c ∷ []) in
-      let whole = length_more (image_sizes x.trees.fanout c.name (shapes c.db)) (change_size c ∷ (map change_size rows ++ commit_sizes owed)) in
-      let rest = length_more (map change_size rows) (commit_sizes owed) in
-      let mapped = length-map rows change_size in
+      let whole = length_more (image_sizes x.trees.fanout c.name (shapes c.db)) (change_size c ∷ (sizes_filled x.trees.fanout new_shape rows ++ commit_sizes owed)) in
+      let rest = length_more (sizes_filled x.trees.fanout new_shape rows) (commit_sizes owed) in
+      let filled = few_rows x.trees.fanout rows (or_false_right (passes_top x.trees.fanout c.name (shapes c.db)) (is_filled_too_high x.trees.fanout new_shape rows) parts.1) in
       let commits = commits_many owed in
-      (parts.0, (let most = parts.2 in omega (arith, files, sizes, same, one, whole, rest, mapped, commits, most)))
+      (parts.0, (let most = parts.2 in omega (arith, files, sizes, same, one, whole, rest, filled, commits, most)))
     where
       length_more : (a b : List ℕ) → length (a ++ b) ≡ length a + length b
       length_more [] b = omega arith

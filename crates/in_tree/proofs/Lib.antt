@@ -34,11 +34,17 @@ pub mod LoadedLaws
 pub mod NotedTrees
 -- What a checkpoint logs of the trees.
 pub mod Checkpoints
--- A new database's tree gets slots for names, one after the other, before it is one of the trees.
-pub mod FillLaws
--- A new database that is filled: what its tree fits, and the limit that its changes meet.
+-- Shapes of trees whose cells have nothing committed: what a slot takes depends on their names alone.
+pub mod FillShapes
+-- A tree that fits each log which gets entries that are worked out before: an image more, a change more, and a slot.
+pub mod FillAhead
+-- A new database's tree is filled: images and changes take their places one after the other.
+pub mod FillRows
+-- A new database that is filled: the limit that its changes meet.
 pub mod FillReady
--- The limit that changes meet which make a database and fill it, where it is found and nothing is left changed.
-pub mod FillLimits
+-- Entries that were worked out before are logged, one after the other.
+pub mod FillLogged
+-- A new database is made and filled: its tree takes its place once all is logged, and the trees fit the longer log.
+pub mod FillGrown
 -- The marks that are left where no noted node is dirty.
 pub mod MarksLeft

@@ -3,7 +3,7 @@ use Rattle.std.proofs.Common.{◌≡◌, ◌≤◌, ◌+◌, ◌==◌, ◌&&◌,
 use Rattle.std.proofs.Math.Nat.{le_refl, le_trans}
 use Rattle.std.specs.List.{AllByRecursion}
 use Rattle.std.specs.Option.{option_or}
-use Rattle.std.proofs.lemmas.List.{append_assoc, drop_all, reverse-append}
+use Rattle.std.proofs.lemmas.List.{append_assoc, append-nil, drop_all, length-map, map-append, reverse-append}
 use Rattle.std.proofs.lemmas.List.Folds.{find-append}
 use Rattle.je_disk.specs.Moments.{History}
 use Rattle.je_order.specs.Order.{name_cmp}
@@ -29,7 +29,7 @@ use Rattle.db_tree.specs.declared.slot_room.SlotRoom.{SlotRoom}
 use Rattle.db_tree.specs.declared.node_image.NodeImage.{NodeImage}
 use Rattle.db_tree.specs.Seen.{with_change}
 use Rattle.db_tree.specs.Shapes.{shape_in}
-use Rattle.db_tree.specs.NodeImages.{IsLoggable}
+use Rattle.db_tree.specs.NodeImages.{sizes_in, IsLoggable}
 use Rattle.db_tree.specs.Splits.{count_waiting}
 use Rattle.in_tree.specs.Forest.{Forest, cells_seen, HasSameTrees, KeepsCells, HasOne, HasChange, write_for}
 use Rattle.in_tree.specs.Limits.{change_size, commit_sizes, HasRoomFor, end_behind, FitsLog, TriedFitting}
@@ -181,13 +181,17 @@ pub length_more : (a b : List Entry) → length (a ++ b) ≡ length a + length b
 length_more [] b = omega arith
 length_more (e ∷ a) b = let rest = length_more a b in omega (arith, rest)
 
+-- entries that have the sizes of images are as many
+pub even_sizes : (a : List Entry) (images : List NodeImage) → map size_of a ≡ sizes_in images → length a ≡ length images
+even_sizes a images same = sym (length-map a size_of) ∙ ap (λ (l : List ℕ). length l) same ∙ length-map images (λ (i : NodeImage). size_of i.entry)
+
 module _ {D : Type 0} (observable : Bool) (history : D → History) (sync_out read_out : D → Option ℕ) (read_of : D → ℕ) (faults : D → ℕ) where
   -- some images were logged, and those that are left were not
   pub record ImagesLeft (old log : LogBuffer D) (before tree : DbTree) (images left : List NodeImage) : Type 0 where
     pub loggable : AllByRecursion (λ i. IsLoggable i.entry) left
     pub some_room : (sizes : List ℕ) × HasRoomFor log (map (λ i. size_of i.entry) left ++ sizes)
     pub room : (sizes : List ℕ) → HasRoomFor old (map (λ i. size_of i.entry) images ++ sizes) → HasRoomFor log (map (λ i. size_of i.entry) left ++ sizes)
-    pub done : (a : List Entry) × AreImages a × (length a + length left ≡ length images) × GrewTree observable history sync_out read_out read_of faults old log before tree images left a
+    pub done : (a : List Entry) × AreImages a × (map size_of a ++ sizes_in left ≡ sizes_in images) × GrewTree observable history sync_out read_out read_of faults old log before tree images left a
     pub cells : tree.cells ≡ before.cells
     pub waits : count_waiting (shape_in tree) ≤ count_waiting (shape_in before)
 
@@ -195,7 +199,7 @@ module _ {D : Type 0} (observable : Bool) (history : D → History) (sync_out re
       ImagesLeft log log tree tree images left
   images_begin log tree images left is loggable some =
       subst (λ (l : List NodeImage). ImagesLeft log log tree tree images l) (sym is)
-      (record { loggable = loggable; some_room = some; room = λ sizes for. for; done = ([], tt, omega arith, grew_tree_none observable history sync_out read_out read_of faults log tree images); cells = refl; waits = le_refl (count_waiting (shape_in tree)) })
+      (record { loggable = loggable; some_room = some; room = λ sizes for. for; done = ([], tt, refl, grew_tree_none observable history sync_out read_out read_of faults log tree images); cells = refl; waits = le_refl (count_waiting (shape_in tree)) })
 
   pub images_turn : (old log : LogBuffer D) (before tree : DbTree) (images left more : List NodeImage) → ImagesLeft old log before tree images left → left ≡ more → ImagesLeft old log before tree images more
   images_turn old log before tree images left more so_far is = subst (λ (l : List NodeImage). ImagesLeft old log before tree images l) is so_far
@@ -210,9 +214,10 @@ module _ {D : Type 0} (observable : Bool) (history : D → History) (sync_out re
     done = (
       so_far.done.0 ++ logs.0 ∷ [],
       images_more so_far.done.0 (logs.0 ∷ []) so_far.done.1 (logs.1, tt),
-      (let count = length_more so_far.done.0 (logs.0 ∷ []) in omega (arith, count, so_far.done.2)),
+      ap (λ (l : List ℕ). l ++ sizes_in left) (map-append size_of so_far.done.0 (logs.0 ∷ [])) ∙ append_assoc (map size_of so_far.done.0) (size_of logs.0 ∷ []) (sizes_in left)
+          ∙ ap (λ (n : ℕ). map size_of so_far.done.0 ++ n ∷ sizes_in left) logs.2 ∙ so_far.done.2,
       grew_tree_then observable history sync_out read_out read_of faults old log new before tree after images (i ∷ left) left so_far.done.0 (logs.0 ∷ []) so_far.done.3
-          (record { fitting = logs.2.fitting; fits = λ home last d rest. logs.2.fits home last d (left ++ rest); still = λ none es base home last d rest. logs.2.still none es base home last d (left ++ rest) }),
+          (record { fitting = logs.3.fitting; fits = λ home last d rest. logs.3.fits home last d (left ++ rest); still = λ none es base home last d rest. logs.3.still none es base home last d (left ++ rest) }),
     );
     cells = cells ∙ so_far.cells;
     waits = le_trans waits so_far.waits;
@@ -227,7 +232,7 @@ module _ {D : Type 0} (observable : Bool) (history : D → History) (sync_out re
   )
 
   pub images_end : (old log : LogBuffer D) (before tree : DbTree) (images : List NodeImage) → ImagesLeft old log before tree images [] → LogsImages observable history sync_out read_out read_of faults images old log before tree
-  images_end old log before tree images so_far = (so_far.done.0, so_far.done.1, (let count = so_far.done.2 in omega (arith, count)), so_far.done.3)
+  images_end old log before tree images so_far = (so_far.done.0, so_far.done.1, sym (append-nil (map size_of so_far.done.0)) ∙ so_far.done.2, so_far.done.3)
 
   -- ---- a change behind its images
 
@@ -327,7 +332,7 @@ module _ {D : Type 0} (observable : Bool) (history : D → History) (sync_out re
     grew = λ last forest b of_left more count. so_far.grew last forest (logs.0 ++ entry ∷ b) (logs.0, b, logs.1, refl, of_left)
         (subst (λ (l : List Entry). GrewForest observable history sync_out read_out read_of faults log last trees forest (due_of (c ∷ left) (slot ∷ slots)) none_due l) (append_assoc logs.0 (entry ∷ []) b)
         (grew_forest_then observable history sync_out read_out read_of faults log new last trees after forest (due_of (c ∷ left) (slot ∷ slots)) (due_of left slots) none_due (logs.0 ++ entry ∷ []) b (logs.3 (due_of left slots)) more))
-        (let whole = length_more logs.0 (entry ∷ b) in let front = logs.2 in omega (arith, whole, front, count));
+        (let whole = length_more logs.0 (entry ∷ b) in let front = even_sizes logs.0 slot.images.items logs.2 in omega (arith, whole, front, count));
     tried = λ last b f of_left front more. so_far.tried last (logs.0 ++ entry ∷ b) ((logs.0 ++ entry ∷ []) ++ f) (logs.0, b, logs.1, refl, of_left)
         (front.0, append_assoc (logs.0 ++ entry ∷ []) f front.0 ∙ ap (λ (l : List Entry). (logs.0 ++ entry ∷ []) ++ l) front.1 ∙ append_assoc logs.0 (entry ∷ []) b)
         (fitting_tried observable history sync_out read_out read_of faults log new last (logs.0 ++ entry ∷ []) f (logs.3 none_due).fitting more);

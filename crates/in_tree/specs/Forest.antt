@@ -85,6 +85,10 @@ GivesUpName n old new = MayStepIn n.db (HasGivenUp n.name) old new
 abbrev pub HasSameTrees : Forest → Forest → Type 0
 HasSameTrees old new = (d : ℕ) → is_there new d ≡ is_there old d
 
+-- each database but one has the same tree, or none as before
+abbrev pub HasSameOthers : ℕ → Forest → Forest → Type 0
+HasSameOthers db old new = (d : ℕ) → (d ≡ db → ⊥) → get nat_cmp new d ≡ get nat_cmp old d
+
 -- no cell went
 abbrev pub KeepsCells : Forest → Forest → Type 0
 KeepsCells old new = (d : ℕ) (x : Name) → IsSome (value_at x (cells_at old d)) → IsSome (value_at x (cells_at new d))

@@ -16,3 +16,4 @@ pub mod LoadedNodes
 pub mod LoadedFits
 pub mod Checkpoints
 pub mod Filling
+pub mod Filled

@@ -1,13 +1,15 @@
 -- What the log gets while changes are written: images of nodes, and the entries of changes behind them.
-use Rattle.std.specs.Prelude.{◌≡◌, ◌++◌, ◌∷◌, ℕ, Bool, List, [], Option, length}
+use Rattle.std.specs.Prelude.{◌≡◌, ◌++◌, ◌∷◌, ℕ, Bool, List, [], Option, map}
 use Rattle.je_disk.specs.Moments.{History}
 use Rattle.je_order.specs.declared.txn_id.TxnId.{TxnId}
+use Rattle.log_entry.specs.Encoding.{size_of}
 use Rattle.log_entry.specs.declared.entry.Entry.{Entry}
 use Rattle.log_buffer.specs.declared.buffer.LogBuffer.{LogBuffer}
 use Rattle.record_tree.specs.declared.tree_change.TreeChange.{TreeChange}
 use Rattle.record_tree.specs.Logged.{entry_for, IsImage, AreImages, IsFront}
 use Rattle.db_tree.specs.declared.node_image.NodeImage.{NodeImage}
 use Rattle.db_tree.specs.declared.tree.DbTree.{DbTree}
+use Rattle.db_tree.specs.NodeImages.{sizes_in}
 use Rattle.in_tree.specs.Forest.{Forest}
 use Rattle.in_tree.specs.Growing.{GrewTree, GrewSlot}
 use Rattle.in_tree.specs.Limits.{TriedFitting}
@@ -15,7 +17,7 @@ use Rattle.in_tree.specs.Limits.{TriedFitting}
 module _ {D : Type 0} (observable : Bool) (history : D → History) (sync_out read_out : D → Option ℕ) (read_of : D → ℕ) (faults : D → ℕ) where
   -- the log got an image that was due, or failed with one
   abbrev pub LogsImage : NodeImage → LogBuffer D → LogBuffer D → DbTree → DbTree → Type 0
-  LogsImage image old new before after = (e : Entry) × IsImage e × GrewTree observable history sync_out read_out read_of faults old new before after (image ∷ []) [] (e ∷ [])
+  LogsImage image old new before after = (e : Entry) × IsImage e × (size_of e ≡ size_of image.entry) × GrewTree observable history sync_out read_out read_of faults old new before after (image ∷ []) [] (e ∷ [])
 
   abbrev pub TriesImage : LogBuffer D → LogBuffer D → Type 0
   TriesImage old new = (e : Entry) × IsImage e × TriedFitting observable history sync_out read_out read_of faults old new (e ∷ [])
@@ -23,7 +25,7 @@ module _ {D : Type 0} (observable : Bool) (history : D → History) (sync_out re
   -- the log got the images that were due of a tree, or failed with some
   abbrev pub LogsImages : List NodeImage → LogBuffer D → LogBuffer D → DbTree → DbTree → Type 0
   LogsImages due old new before after =
-      (images : List Entry) × AreImages images × (length images ≡ length due) × GrewTree observable history sync_out read_out read_of faults old new before after due [] images
+      (images : List Entry) × AreImages images × (map size_of images ≡ sizes_in due) × GrewTree observable history sync_out read_out read_of faults old new before after due [] images
 
   abbrev pub TriesImages : LogBuffer D → LogBuffer D → Type 0
   TriesImages old new = (images : List Entry) × AreImages images × TriedFitting observable history sync_out read_out read_of faults old new images
@@ -31,12 +33,12 @@ module _ {D : Type 0} (observable : Bool) (history : D → History) (sync_out re
   -- the log got the images that were due for a slot of a database
   abbrev pub LogsRoom : ℕ → List NodeImage → LogBuffer D → LogBuffer D → Forest → Forest → Type 0
   LogsRoom db due old new before after =
-      (images : List Entry) × AreImages images × (length images ≡ length due) × GrewSlot observable history sync_out read_out read_of faults old new before after db due images
+      (images : List Entry) × AreImages images × (map size_of images ≡ sizes_in due) × GrewSlot observable history sync_out read_out read_of faults old new before after db due images
 
   -- the log got a change's entry behind the images that were due for its slot, or failed with some of these
   abbrev pub LogsChange : List NodeImage → TxnId → TreeChange → LogBuffer D → LogBuffer D → Forest → Forest → Type 0
   LogsChange due txn c old new before after =
-      (images : List Entry) × AreImages images × (length images ≡ length due)
+      (images : List Entry) × AreImages images × (map size_of images ≡ sizes_in due)
       × GrewSlot observable history sync_out read_out read_of faults old new before after c.db due (images ++ entry_for txn c.db c.name c.value ∷ [])
 
   abbrev pub TriesChange : TxnId → TreeChange → LogBuffer D → LogBuffer D → Type 0

@@ -1,12 +1,12 @@
 // The trees of all databases, by their numbers.
-ghost use Rattle.std.specs.Prelude.{◌≡◌, ◌≤◌, ◌<◌, ◌⊎◌, ◌+◌, ◌*◌, ◌^◌, ℕ, true, false, [], Option, None, Some, IsSome, IfOk, IfErr, OnOk, OnErr, option_map, if◌then◌else◌, ◌==◌};
+ghost use Rattle.std.specs.Prelude.{◌≡◌, ◌≤◌, ◌<◌, ◌⊎◌, ◌+◌, ◌*◌, ◌^◌, ℕ, true, false, [], Option, None, Some, IfOk, IfErr, OnOk, OnErr, if◌then◌else◌, ◌==◌};
 ghost use Rattle.std.specs.Ordering.{is_eq, nat_cmp};
 ghost use Rattle.je_order.specs.Order.{name_cmp};
 ghost use Rattle.std.specs.BTreeMap.{get};
 ghost use Rattle.je_order.specs.declared.name.Name.{Name};
-ghost use Rattle.record_map.specs.Cells.{value_at, IsRising, first_of, last_of, from_edge, below_edge, edge_of};
+ghost use Rattle.record_map.specs.Cells.{value_at, IsRising};
 ghost use Rattle.record_tree.specs.Logged.{IsEndOf};
-ghost use Rattle.record_tree.specs.Occupied.{AreSame, occupied_by, after_commit, after_abort};
+ghost use Rattle.record_tree.specs.Occupied.{AreSame, after_commit, after_abort};
 ghost use Rattle.record_tree.specs.declared.tree_err.TreeErr.{TreeErr as Reason};
 ghost use Rattle.db_tree.specs.Seen.{occupied, with_change, with_value};
 ghost use Rattle.db_tree.specs.Shapes.{shape_in};
@@ -43,7 +43,7 @@ fn beginning() -> Lsn
 }
 
 // Makes a slot for the name in a tree, as `place` does.
-fn place_in(
+pub(crate) fn place_in(
     tree: &mut DbTree,
     alloc: Global,
     db: u32,
@@ -282,6 +282,17 @@ pub(crate) fn redo(
 {
     match trees.get_mut(&db) {
         Some(tree) => redo_in(tree, alloc, fanout, number, name, value, first, at),
+        None => unreachable!(),
+    }
+}
+
+// Puts a tree in the place of the database's. It takes no memory.
+pub(crate) fn replace(trees: &mut BTreeMap<u32, DbTree>, db: u32, next: DbTree)
+    requires { is_there trees.old db ≡ true }
+    ensures { Replaces trees.old trees.new db (Some next) }
+{
+    match trees.get_mut(&db) {
+        Some(tree) => *tree = next,
         None => unreachable!(),
     }
 }

@@ -6,18 +6,18 @@ ghost use Rattle.log_buffer.specs.Buffer.{has_failed, IsUnchanged};
 ghost use Rattle.record_map.specs.Cells.{IsRising};
 ghost use Rattle.record_tree.specs.Logged.{entry_for, IsLimit};
 ghost use Rattle.record_tree.specs.Occupied.{AreSame};
-ghost use Rattle.in_tree.specs.Filling.{limit_filled, limit_filling, AreIdle};
+ghost use Rattle.in_tree.specs.Filled.{limit_behind_slot};
+ghost use Rattle.db_tree.specs.NodeImages.{IsLoggable};
 ghost use Rattle.in_tree.specs.Forest.{is_there, IsSameForest};
 ghost use Rattle.in_tree.specs.Limits.{commit_sizes, limit_behind};
 ghost use Rattle.in_tree.specs.Observed.{cells_of, has_tree_of, last_node_of, limit_filling_in, limit_in, trees_of, waits_of};
 ghost use Rattle.in_tree.specs.Placing.{placed_sizes, AreLoggable};
-ghost use Rattle.in_tree.specs.Shapes.{shapes_of};
 
-use crate::filled::Filled;
-use crate::filling::{fill, idle_rooms};
+use crate::filling::no_room;
 use crate::loading::has_tree;
 use crate::preparing::{last_behind, place_all, take_back_all};
 use crate::{LogTrees, Placed, forest};
+use db_tree::SlotRoom;
 use je_disk::Disk;
 use je_order::TxnId;
 use record_tree::{TreeChange, TreeErr};
@@ -91,16 +91,11 @@ impl<D: Disk> LogTrees<D> {
         let Some((change, rows)) = changes.split_first() else {
             return Ok(None);
         };
-        let rooms = idle_rooms(alloc, changes.len())?;
-        let mut placed = Placed {
-            rooms,
-            last: self.trees.last_node,
-        };
         if has_tree(&self.trees.forest, change.db) {
-            return self.limit_with_slot(alloc, txn, changes, change, rows, &mut placed, owed);
+            return self.limit_with_slot(alloc, txn, change, rows, owed);
         }
-        placed.last = last_behind(placed.last, 0, change);
-        self.limit_filled(alloc, txn, changes, rows, &mut placed, owed)
+        let room = no_room(alloc);
+        self.limit_filled(alloc, txn, change, rows, &room, owed)
     }
 
     // That limit, where the change that makes the database gets its slot: this is taken back.
@@ -108,60 +103,56 @@ impl<D: Disk> LogTrees<D> {
         &mut self,
         alloc: Global,
         txn: TxnId,
-        changes: &[TreeChange],
         change: &TreeChange,
         rows: &[TreeChange],
-        placed: &mut Placed,
         owed: u32,
     ) -> Result<Option<TreeErr>, AllocError>
-        requires split { changes.now ≡ change.now ∷ rows.now }
         requires there { is_there self.old.trees.forest change.now.db ≡ true }
-        requires entries { AllByRecursion (λ c. IsEntry (entry_for txn c.db c.name c.value)) changes.now }
-        requires idle { AreIdle placed.old.rooms.items }
-        requires paired { length placed.old.rooms.items ≡ length changes.now }
+        requires entry { IsEntry (entry_for txn change.now.db change.now.name change.now.value) }
+        requires entries { AllByRecursion (λ c. IsEntry (entry_for txn c.db c.name c.value)) rows.now }
         requires works { has_failed self.old.log ≡ false }
-        ensures limit { IfOk result (λ limit. limit ≡ limit_filling self.old.log self.old.trees.fanout placed.old.last (shapes_of self.old.trees.forest) changes.now owed) }
+        ensures limit { IfOk result (λ limit. limit ≡ limit_filling_in self.old (change.now ∷ rows.now) owed) }
         ensures back { IsSameForest self.old.trees.forest self.new.trees.forest }
         ensures log { self.new.log ≡ self.old.log }
         ensures last { self.new.trees.last_node ≡ self.old.trees.last_node }
     {
-        match self.place_first(alloc, change, placed) {
-            Ok(()) => {
-                let found = self.limit_filled(alloc, txn, changes, rows, placed, owed);
-                let rooms = placed.rooms.as_slice();
-                forest::take_back(&mut self.trees.forest, change.db, &change.name, &rooms[0]);
+        let fanout = self.trees.fanout;
+        let first = self.trees.last_node + 1;
+        let (db, name) = (change.db, &change.name);
+        match forest::place(&mut self.trees.forest, alloc, db, fanout, name, first) {
+            Ok(room) => {
+                let found = self.limit_filled(alloc, txn, change, rows, &room, owed);
+                forest::take_back(&mut self.trees.forest, db, name, &room);
+                drop(room);
                 found
             }
             Err(error) => limit_of_end(error),
         }
     }
 
-    // The limit of a new database that gets slots for the names of changes, behind the slot of the change that makes it.
+    // The limit of a new database that is filled, behind the slot of the change that makes it.
     fn limit_filled(
         &self,
         alloc: Global,
         txn: TxnId,
-        changes: &[TreeChange],
+        change: &TreeChange,
         rows: &[TreeChange],
-        placed: &mut Placed,
+        room: &SlotRoom,
         owed: u32,
     ) -> Result<Option<TreeErr>, AllocError>
-        requires entries { AllByRecursion (λ c. IsEntry (entry_for txn c.db c.name c.value)) changes.now }
-        requires loggable { AreLoggable placed.old.rooms.items }
-        requires paired { length placed.old.rooms.items ≡ length changes.now }
-        ensures limit { IfOk result (λ limit. limit ≡ limit_filled self.now.log self.now.trees.fanout changes.now rows.now placed.old.rooms.items placed.old.last owed) }
-        ensures rooms { placed.new.rooms.items ≡ placed.old.rooms.items }
+        requires entry { IsEntry (entry_for txn change.now.db change.now.name change.now.value) }
+        requires entries { AllByRecursion (λ c. IsEntry (entry_for txn c.db c.name c.value)) rows.now }
+        requires loggable { AllByRecursion (λ i. IsLoggable i.entry) room.now.images.items }
+        ensures { IfOk result (λ limit. limit ≡ limit_behind_slot self.now change.now rows.now room.now owed) }
     {
-        let fanout = self.trees.fanout;
-        let mark = self.log.end();
-        let filled = match fill(alloc, fanout, rows, placed.last, mark) {
-            Ok(filled) => filled,
-            Err(error) => return limit_of_end(error),
-        };
-        let Filled { tree, last } = filled;
-        drop(tree);
-        placed.last = last;
-        self.limit_behind(alloc, txn, changes, placed, owed)
+        let number = last_behind(self.trees.last_node, room.made(), change);
+        match self.try_fill(alloc, txn, change, rows, room, number, owed) {
+            Ok(tried) => {
+                drop(tried);
+                Ok(None)
+            }
+            Err(error) => limit_of_end(error),
+        }
     }
 
     // The limit that changes which have their slots would meet: the log's, and then that of numbers.

@@ -35,7 +35,11 @@ fn data_of(alloc: Global, value: &Option<Octets>) -> Result<Option<Data>, AllocE
 }
 
 // The change as its cell keeps it, before it is logged.
-fn write_for(alloc: Global, txn: TxnId, change: &TreeChange) -> Result<Box<Write>, AllocError>
+pub(crate) fn write_for(
+    alloc: Global,
+    txn: TxnId,
+    change: &TreeChange,
+) -> Result<Box<Write>, AllocError>
     ensures { IfOk result (λ write. write.value ≡ write_for txn change.now) }
 {
     let write = Write {

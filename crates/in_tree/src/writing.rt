@@ -16,7 +16,7 @@ ghost use Rattle.db_tree.specs.Seen.{with_change};
 ghost use Rattle.db_tree.specs.Shapes.{shape_in};
 ghost use Rattle.db_tree.specs.NodeImages.{IsLoggable};
 ghost use Rattle.db_tree.specs.Splits.{count_waiting};
-ghost use Rattle.in_tree.specs.Forest.{cells_seen, is_there, HasSameCells, HasSameTrees, KeepsCells, HasOne, HasChange, MakesSteps, CommitsName, GivesUpName, write_for};
+ghost use Rattle.in_tree.specs.Forest.{cells_seen, is_there, HasSameCells, HasSameOthers, HasSameTrees, KeepsCells, HasOne, HasChange, MakesSteps, CommitsName, GivesUpName, write_for};
 ghost use Rattle.in_tree.specs.Limits.{change_size, commit_size, commit_sizes, HasRoomFor, GrewFitting, TriedFitting};
 ghost use Rattle.log_buffer.specs.Buffer.{end_of, file_max_of};
 ghost use Rattle.log_buffer.specs.Flip.{placed_at, pos_lsn};
@@ -61,7 +61,7 @@ fn entry_of<'a>(txn: TxnId, change: &'a TreeChange) -> EntryRef<'a>
 }
 
 // The size of a change's entry.
-fn change_size(txn: TxnId, change: &TreeChange) -> u32
+pub(crate) fn change_size(txn: TxnId, change: &TreeChange) -> u32
     requires { IsEntry (entry_for txn change.now.db change.now.name change.now.value) }
     ensures { result ≡ change_size change.now }
 {
@@ -77,7 +77,7 @@ pub(crate) fn commit_size(txn: TxnId) -> u32
 }
 
 // Puts the sizes of images behind others.
-fn push_sizes(sizes: &mut Vec<u32>, images: &[NodeImage]) -> Result<(), AllocError>
+pub(crate) fn push_sizes(sizes: &mut Vec<u32>, images: &[NodeImage]) -> Result<(), AllocError>
     requires { AllByRecursion (λ i. IsLoggable i.entry) images.now }
     ensures { OnOk result (sizes.new.items ≡ sizes.old.items ++ map (λ i. size_of i.entry) images.now) }
 {
@@ -107,6 +107,17 @@ fn change_sizes(
     Ok(sizes)
 }
 
+// Puts the sizes of so many Commits behind others.
+pub(crate) fn push_commits(sizes: &mut Vec<u32>, txn: TxnId, owed: u32) -> Result<(), AllocError>
+    ensures { OnOk result (sizes.new.items ≡ sizes.old.items ++ commit_sizes owed) }
+{
+    let commit = commit_size(txn);
+    for i in 0..owed {
+        sizes.push(commit)?;
+    }
+    Ok(())
+}
+
 // The sizes of the changes' entries with their images, and of the Commits that are owed behind them.
 pub(crate) fn sizes_for(
     alloc: Global,
@@ -121,15 +132,12 @@ pub(crate) fn sizes_for(
     ensures { IfOk result (λ sizes. sizes.items ≡ placed_sizes changes.now rooms.now ++ commit_sizes owed) }
 {
     let mut sizes = change_sizes(alloc, txn, changes, rooms)?;
-    let commit = commit_size(txn);
-    for i in 0..owed {
-        sizes.push(commit)?;
-    }
+    push_commits(&mut sizes, txn, owed)?;
     Ok(sizes)
 }
 
 // Logs an image, for which there is room.
-fn append_image<D: Disk>(log: &mut LogBuffer<D>, entry: &Entry) -> Result<Lsn, TreeErr>
+pub(crate) fn append_image<D: Disk>(log: &mut LogBuffer<D>, entry: &Entry) -> Result<Lsn, TreeErr>
     requires loggable { IsLoggable entry.now }
     requires room { (sizes : List ℕ) × HasRoomFor log.old (size_of entry.now ∷ sizes) }
     ensures at { IfOk result (λ at. at ≡ pos_lsn (placed_at (file_max_of log.old) (end_of log.old) (size_of entry.now))) }
@@ -205,6 +213,7 @@ fn log_room<D: Disk>(
     ensures by_fault { IfErr result (λ e. e ≡ Reason.Fault) }
     ensures cells { HasSameCells trees.old trees.new }
     ensures trees { HasSameTrees trees.old trees.new }
+    ensures others { HasSameOthers db trees.old trees.new }
     ensures waits { waits_in trees.new ≤ waits_in trees.old }
 {
     match trees.get_mut(&db) {
@@ -214,7 +223,11 @@ fn log_room<D: Disk>(
 }
 
 // Logs a change, for which there is room.
-fn log_one<D: Disk>(log: &mut LogBuffer<D>, txn: TxnId, change: &TreeChange) -> Result<Lsn, TreeErr>
+pub(crate) fn log_one<D: Disk>(
+    log: &mut LogBuffer<D>,
+    txn: TxnId,
+    change: &TreeChange,
+) -> Result<Lsn, TreeErr>
     requires entry { IsEntry (entry_for txn change.now.db change.now.name change.now.value) }
     requires room { (sizes : List ℕ) × HasRoomFor log.old (change_size change.now ∷ sizes) }
     ensures at { IfOk result (λ at. at ≡ pos_lsn (placed_at (file_max_of log.old) (end_of log.old) (size_of (entry_for txn change.now.db change.now.name change.now.value)))) }
@@ -248,6 +261,7 @@ fn write_entry<D: Disk>(
     ensures cells { OnOk result ((at : ℕ) × HasChange (cells_seen trees.old) (cells_seen trees.new) change.now.db change.now.name (with_change (record { txn = txn; at = at; value = change.now.value }))) }
     ensures kept { KeepsCells trees.old trees.new }
     ensures trees { HasSameTrees trees.old trees.new }
+    ensures others { HasSameOthers change.now.db trees.old trees.new }
     ensures rising { (d : ℕ) → IsRising (cells_seen trees.old d) → IsRising (cells_seen trees.new d) }
     ensures waits { waits_in trees.new ≡ waits_in trees.old }
 {
@@ -259,7 +273,7 @@ fn write_entry<D: Disk>(
 }
 
 // Logs a change behind the images that its slot needs, and sets it in its cell.
-fn write_one<D: Disk>(
+pub(crate) fn write_one<D: Disk>(
     log: &mut LogBuffer<D>,
     trees: &mut BTreeMap<u32, DbTree>,
     txn: TxnId,
@@ -279,6 +293,7 @@ fn write_one<D: Disk>(
     ensures cells { OnOk result ((at : ℕ) × HasChange (cells_seen trees.old) (cells_seen trees.new) change.now.db change.now.name (with_change (record { txn = txn; at = at; value = change.now.value }))) }
     ensures kept { KeepsCells trees.old trees.new }
     ensures trees { HasSameTrees trees.old trees.new }
+    ensures others { HasSameOthers change.now.db trees.old trees.new }
     ensures rising { (d : ℕ) → IsRising (cells_seen trees.old d) → IsRising (cells_seen trees.new d) }
     ensures waits { waits_in trees.new ≤ waits_in trees.old }
 {

@@ -290,6 +290,45 @@ const CLEAN_TEXT: &str = "1 s1 ok\n\
 18 m ok\n\
 end commits 6 databases 1 records 5\n";
 
+// A new index whose node is split as it is filled: its two halves are dirty, as its records were committed behind their images. The root above
+// them has an image, so the checkpoint does not wait for it before they are logged.
+const FILLED: &[u8] = b"s1 create p plain\n\
+s1 put p 61 31\n\
+s1 put p 62 32\n\
+s1 put p 63 33\n\
+s1 put p 64 34\n\
+s1 put p 65 35\n\
+s1 create i index p slice 0 1\n\
+m begin\n\
+m finish\n\
+m flush\n\
+m flush\n\
+m flush\n\
+m flush\n\
+m flush\n\
+m flush\n\
+m flush\n\
+m finish\n";
+
+const FILLED_TEXT: &str = "1 s1 ok\n\
+2 s1 ok\n\
+3 s1 ok\n\
+4 s1 ok\n\
+5 s1 ok\n\
+6 s1 ok\n\
+7 s1 ok\n\
+8 m ok\n\
+9 m nodesleft 4\n\
+10 m flushed 1\n\
+11 m flushed 3\n\
+12 m flushed 5\n\
+13 m flushed 6\n\
+14 m flushed 4\n\
+15 m flushed 7\n\
+16 m nothing\n\
+17 m ok\n\
+end commits 7 databases 2 records 10\n";
+
 #[test]
 fn noted_nodes_are_logged(rt: HostRuntime) -> Result<(), Fail> {
     let alloc = rt.alloc();
@@ -299,5 +338,7 @@ fn noted_nodes_are_logged(rt: HostRuntime) -> Result<(), Fail> {
     assert_ran(&rt, &again, 0, AGAIN_TEXT);
     let clean = run_args(alloc, &RUN_NARROW, MemDisk::new(alloc), CLEAN)?;
     assert_ran(&rt, &clean, 0, CLEAN_TEXT);
+    let filled = run_args(alloc, &RUN_NARROW, MemDisk::new(alloc), FILLED)?;
+    assert_ran(&rt, &filled, 0, FILLED_TEXT);
     Ok(())
 }

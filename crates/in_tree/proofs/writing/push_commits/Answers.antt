@@ -1,5 +1,5 @@
 use Rattle.in_tree.proofs.Sizes.{commits_step}
-use Rattle.in_tree.proofs.writing.sizes_for.Goals as goal
+use Rattle.in_tree.proofs.writing.push_commits.Goals as goal
 
 pub loop-i-preserved : goal.loop-i-preserved
 loop-i-preserved c =
