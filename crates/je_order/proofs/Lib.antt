@@ -8,3 +8,9 @@ pub mod TxnIds
 pub mod Results
 -- What a step that did not fail gave.
 pub mod Options
+-- Bytes with zeros behind them.
+pub mod PaddedLaws
+-- Bytes that are compared as numbers.
+pub mod SpelledLaws
+-- Byte strings that are compared a part at a time.
+pub mod Parts

@@ -4,3 +4,5 @@ pub mod Words
 pub mod Counts
 pub mod Transactions
 pub mod Options
+pub mod Held
+pub mod Spelled

@@ -3,7 +3,7 @@ use crate::Name;
 
 /// A place in a database that a lock can stand on: a record's name, or the end behind all names.
 /// Names come in name order, and the end is last.
-#[derive(Clone, Debug, Drop, PartialEq, Eq, PartialOrd, Ord)]
+#[derive(Clone, Debug, Drop, PartialEq, Eq, PartialOrd, Ord, Hash)]
 pub enum Bound {
     At(Name),
     End,

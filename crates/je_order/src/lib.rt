@@ -11,6 +11,7 @@ pub mod list;
 pub mod name;
 pub mod octets;
 pub mod order;
+pub mod padding;
 pub mod txn_id;
 pub mod word;
 
@@ -20,6 +21,7 @@ pub use limits::{KEY_LIMIT, SLOT_LIMIT, VALUE_LIMIT};
 pub use list::List;
 pub use name::Name;
 pub use octets::Octets;
-pub use order::{cmp_bytes, cmp_name};
+pub use order::{cmp_bytes, cmp_name, cmp_word};
+pub use padding::padded;
 pub use txn_id::TxnId;
 pub use word::Word;

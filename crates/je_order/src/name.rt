@@ -3,7 +3,7 @@ use crate::Octets;
 
 /// A record's place in its database: the key, and beside it the dup, which is the data in a database
 /// of sorted duplicates, the primary key in an index, and empty in a plain database.
-#[derive(Clone, Debug, Drop, PartialEq, Eq, PartialOrd, Ord)]
+#[derive(Clone, Debug, Drop, PartialEq, Eq, PartialOrd, Ord, Hash)]
 pub struct Name {
     pub key: Octets,
     pub dup: Octets,

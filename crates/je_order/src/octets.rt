@@ -1,24 +1,51 @@
 // A byte string, seen as the list of its bytes.
-ghost use Rattle.std.specs.Prelude.{◌≡◌, ◌==◌, ◌++◌, ◌∷◌, [], length, IfOk, OnOk, OnErr};
+ghost use Rattle.std.specs.Prelude.{◌≡◌, ◌==◌, ◌≤◌, [], length, IfOk};
 
 use crate::Exact;
+use crate::padding::padded;
 use std::alloc::{AllocError, Global};
 use std::cmp::Ordering;
+use std::hash::{Hash, Hasher};
 use std::marker::Model;
 
+/// How many bytes are held at most where they are near.
+pub(crate) const NEAR: usize = 30;
+
+/// A byte string in memory.
+#[derive(Debug, Drop)]
+pub(crate) enum HeldOctets {
+    /// How many bytes there are, and these with zeros behind them.
+    Near(u8, [u8; NEAR]),
+    /// More bytes.
+    Far(Vec<u8>),
+}
+
 /// A byte string of any length: a key, a record's data. Ordered as unsigned bytes, a proper prefix
-/// first (Getting Started Guide, "Database Records").
+/// first (Getting Started Guide, "Database Records"). Few bytes lie in it.
 #[derive(Debug, Drop)]
 pub struct Octets {
-    bytes: Vec<u8>,
+    held: HeldOctets,
 }
 
 impl Model for Octets {
-    ghost use Rattle.std.specs.Prelude.{List, ℕ};
+    ghost use Rattle.std.specs.Prelude.{List, ℕ, ◌≤◌};
+    ghost use Rattle.je_order.specs.Held.{octets_held, near_len};
 
     ghost Value = { List ℕ };
 
-    ghost view = { λ a. a.bytes.items };
+    ghost view = { λ a. octets_held a.held };
+
+    ghost invariant = { λ a. near_len a.held ≤ 30 };
+}
+
+// A byte string of few bytes.
+fn near(bytes: &[u8]) -> Octets
+    requires { length bytes.now ≤ 30 }
+    ensures { result ≡ bytes.now }
+{
+    Octets {
+        held: HeldOctets::Near(bytes.len() as u8, padded(bytes)),
+    }
 }
 
 impl Octets {
@@ -27,7 +54,7 @@ impl Octets {
         ensures { result ≡ [] }
     {
         Octets {
-            bytes: Vec::new(alloc),
+            held: HeldOctets::Near(0, [0; NEAR]),
         }
     }
 
@@ -35,50 +62,46 @@ impl Octets {
     pub fn from_slice(alloc: Global, bytes: &[u8]) -> Result<Octets, AllocError>
         ensures { IfOk result (λ octets. octets ≡ bytes.now) }
     {
+        if bytes.len() <= NEAR {
+            return Ok(near(bytes));
+        }
         let bytes = Vec::from_slice(alloc, bytes)?;
-        Ok(Octets { bytes })
+        Ok(Octets {
+            held: HeldOctets::Far(bytes),
+        })
     }
 
     /// The vector's bytes. It takes no memory.
     pub fn from_vec(bytes: Vec<u8>) -> Octets
         ensures { result ≡ bytes.items }
     {
-        Octets { bytes }
-    }
-
-    /// The bytes as a vector. It takes no memory.
-    pub fn into_vec(self) -> Vec<u8>
-        ensures { result.items ≡ self }
-    {
-        let Octets { bytes } = self;
-        bytes
+        if bytes.len() <= NEAR {
+            return near(bytes.as_slice());
+        }
+        Octets {
+            held: HeldOctets::Far(bytes),
+        }
     }
 
     pub fn as_slice(&self) -> &[u8]
         ensures { result.now ≡ self.now }
     {
-        self.bytes.as_slice()
+        match &self.held {
+            HeldOctets::Near(len, bytes) => &bytes[..*len as usize],
+            HeldOctets::Far(bytes) => bytes.as_slice(),
+        }
     }
 
     pub fn len(&self) -> usize
         ensures { result ≡ length self.now }
     {
-        self.bytes.len()
+        self.as_slice().len()
     }
 
     pub fn is_empty(&self) -> bool
         ensures { result ≡ (length self.now == 0) }
     {
-        self.bytes.is_empty()
-    }
-
-    /// Puts a byte at the end. Running out of memory changes nothing.
-    pub fn push(&mut self, byte: u8) -> Result<(), AllocError>
-        ensures ok { OnOk result (self.new ≡ self.old ++ byte ∷ []) }
-        ensures err { OnErr result (self.new ≡ self.old) }
-    {
-        self.bytes.push(byte)?;
-        Ok(())
+        self.as_slice().is_empty()
     }
 }
 
@@ -86,8 +109,15 @@ impl Clone for Octets {
     ghost is_clone = { λ v w. w ≡ v };
 
     fn clone(&self) -> Result<Octets, AllocError> {
-        let bytes = self.bytes.clone()?;
-        Ok(Octets { bytes })
+        match &self.held {
+            HeldOctets::Near(len, bytes) => Ok(near(&bytes[..*len as usize])),
+            HeldOctets::Far(bytes) => {
+                let bytes = bytes.clone()?;
+                Ok(Octets {
+                    held: HeldOctets::Far(bytes),
+                })
+            }
+        }
     }
 }
 
@@ -106,7 +136,7 @@ impl PartialEq for Octets {
     ghost laws = { partial_equiv_from_equiv nat_list_eq_equiv };
 
     fn eq(&self, other: &Octets) -> bool {
-        self.bytes == other.bytes
+        self.as_slice() == other.as_slice()
     }
 }
 
@@ -148,6 +178,20 @@ impl Ord for Octets {
     ghost matches_eq = { Prim.search (comparing, rules) };
 
     fn cmp(&self, other: &Octets) -> Ordering {
-        self.bytes.cmp(&other.bytes)
+        crate::order::cmp_bytes(self.as_slice(), other.as_slice())
+    }
+}
+
+impl Hash for Octets {
+    ghost use Rattle.std.proofs.Common.{rules};
+    ghost use Rattle.std.specs.Prelude.{◌∷◌, []};
+    ghost use Rattle.std.specs.Cmp.Rules.{hashing};
+
+    ghost hash_input = { λ a. a ∷ [] };
+
+    ghost respects_eq = { Prim.search (hashing, rules) };
+
+    fn hash<H: Hasher>(&self, state: &mut H) {
+        state.write(self.as_slice());
     }
 }

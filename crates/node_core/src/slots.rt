@@ -146,7 +146,7 @@ impl Slots {
     {
         let index = rank_in(&self.marked, at);
         if is_at(&self.marked, at, index) {
-            self.marked.remove(index);
+            drop(self.marked.remove(index));
         }
     }
 

@@ -23,14 +23,12 @@ fn orders_bytes(rt: HostRuntime) {
 }
 
 fn keys(alloc: Global) -> Result<Octets, AllocError> {
-    let mut key = Octets::from_slice(alloc, b"key")?;
-    key.push(b's')?;
-    Ok(key)
+    Octets::from_slice(alloc, b"keys")
 }
 
 fn name(alloc: Global) -> Result<Name, AllocError> {
     let key = keys(alloc)?;
-    let dup = Octets::from_vec(Octets::new(alloc).into_vec());
+    let dup = Octets::from_vec(Vec::new(alloc));
     Ok(Name { key, dup })
 }
 
