@@ -1,19 +1,14 @@
 -- How names and data are held in memory, and the order of names.
-use Rattle.std.specs.Prelude.{◌≡◌, ◌≤◌, ℕ, zero, suc, List, [], ◌∷◌, take}
+use Rattle.std.specs.Prelude.{◌≡◌, ◌≤◌, ℕ, List, [], take}
 use Rattle.std.specs.Cmp.{IsTotalOrder, on_total, then_total}
 use Rattle.std.specs.Cmp.Lexicographic.{nat_list_cmp_total}
+use Rattle.je_order.specs.Held.{padded_to}
 use Rattle.je_order.specs.Order.{name_cmp}
 use Rattle.je_order.specs.declared.name.Name.{Name}
 use Rattle.record_map.specs.declared.held_name.HeldName.{HeldName}
 use Rattle.record_map.specs.declared.held_name.HeldName.TheVariants.{Short, Long}
 use Rattle.record_map.specs.declared.held_data.HeldData.{HeldData}
 use Rattle.record_map.specs.declared.held_data.HeldData.TheVariants.{Near, Far}
-
--- the first bytes of a byte string, with zeros behind a shorter one
-abbrev pub padded_to : ℕ → List ℕ → List ℕ
-padded_to zero bytes = []
-padded_to (suc count) [] = 0 ∷ padded_to count []
-padded_to (suc count) (byte ∷ bytes) = byte ∷ padded_to count bytes
 
 -- the name that is held
 abbrev pub name_held : HeldName → Name

@@ -2,8 +2,7 @@
 ghost use Rattle.std.specs.Prelude.{◌≡◌, ◌≤◌, [], length, IfOk};
 
 use crate::held_data::{HeldData, NEAR};
-use crate::padded::padded;
-use je_order::Octets;
+use je_order::{Octets, padded};
 use std::alloc::{AllocError, Global};
 use std::marker::Model;
 

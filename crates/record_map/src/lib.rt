@@ -12,7 +12,6 @@ pub mod data;
 pub mod edge_ref;
 mod held_data;
 mod held_name;
-mod padded;
 pub mod sort_key;
 pub mod write;
 

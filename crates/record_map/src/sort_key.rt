@@ -2,11 +2,10 @@
 ghost use Rattle.std.specs.Prelude.{◌≡◌, ◌≤◌, [], length, IfOk};
 ghost use Rattle.std.specs.Ordering.{nat_cmp, ordering_then};
 ghost use Rattle.je_order.specs.Order.{bytes_cmp, name_cmp};
-ghost use Rattle.record_map.specs.Held.{padded_to};
+ghost use Rattle.je_order.specs.Held.{padded_to};
 
 use crate::held_name::{HEAD, HeldName, SHORT};
-use crate::padded::padded;
-use je_order::{Name, Octets, cmp_bytes, copy_of};
+use je_order::{Name, Octets, cmp_bytes, cmp_word, copy_of, padded};
 use std::alloc::{AllocError, Global};
 use std::cmp::Ordering;
 use std::marker::Model;
@@ -44,10 +43,20 @@ fn short(key: &[u8]) -> SortKey
 fn cmp_short(len: u8, bytes: &[u8; SHORT], other_len: u8, other_bytes: &[u8; SHORT]) -> Ordering
     ensures { result ≡ ordering_then (bytes_cmp bytes.now other_bytes.now) (nat_cmp len other_len) }
 {
-    match bytes.cmp(other_bytes) {
-        Ordering::Equal => len.cmp(&other_len),
-        order => order,
+    let first = cmp_word(bytes, other_bytes, 0);
+    if first.is_ne() {
+        return first;
     }
+    let second = cmp_word(bytes, other_bytes, 8);
+    if second.is_ne() {
+        return second;
+    }
+    // the last eight of the 22, two of which are compared already
+    let last = cmp_word(bytes, other_bytes, SHORT - 8);
+    if last.is_ne() {
+        return last;
+    }
+    len.cmp(&other_len)
 }
 
 impl SortKey {

@@ -1,5 +1,5 @@
 use Rattle.std.proofs.Common.{◌∙◌, List, ℕ, ap, take, length}
-use Rattle.record_map.proofs.HeldLaws.{take_padded}
+use Rattle.je_order.proofs.PaddedLaws.{take_padded}
 use Rattle.record_map.proofs.data.near.Goals as goal
 
 pub returns : goal.returns

@@ -1,6 +1,6 @@
 use Rattle.std.proofs.Common.{◌∙◌, List, [], ℕ, ap, length, take}
 use Rattle.je_order.specs.declared.name.Name.{Name}
-use Rattle.record_map.proofs.HeldLaws.{take_padded}
+use Rattle.je_order.proofs.PaddedLaws.{take_padded}
 use Rattle.record_map.proofs.sort_key.short.Goals as goal
 
 pub returns : goal.returns

@@ -1,6 +1,7 @@
 use Rattle.std.proofs.Common.{◌∙◌, ap, subst, sym}
 use Rattle.je_order.specs.declared.name.Name.{Name}
-use Rattle.record_map.specs.Held.{IsHeld, name_held, padded_to}
+use Rattle.je_order.specs.Held.{padded_to}
+use Rattle.record_map.specs.Held.{IsHeld, name_held}
 use Rattle.record_map.proofs.HeldLaws.{short_head}
 use Rattle.record_map.proofs.sort_key.SortKey.head.Goals as goal
 
