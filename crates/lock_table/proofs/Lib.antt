@@ -18,6 +18,8 @@ pub mod WholeTable
 pub mod RecordLists
 -- Locks of a range type are those of transactions that asked for one: what each call keeps of it.
 pub mod RangeLocks
+-- What is noted of the transactions that may have a lock of READ: what each call keeps of it.
+pub mod NotedReads
 -- Single steps of the calls.
 pub mod CallSteps
 -- Locks of no more than READ that go, in the map of queues.

@@ -13,14 +13,14 @@ use Rattle.je_order.specs.Transactions.{is_same_txn}
 use Rattle.je_order.proofs.TxnIds.{same_is}
 use Rattle.je_order.proofs.Lists.{all_weaker, all_append, none_each}
 use Rattle.lock_table.proofs.OwnersAndWaits.{all_mapped}
-use Rattle.lock_table.proofs.Owners.{granted_cases}
+use Rattle.lock_table.proofs.Owners.{granted_cases, held_each}
 use Rattle.lock_table.specs.Table.{IsOut}
 use Rattle.lock_table.proofs.RecordCalls.{none_of, settled_give_back, out_give_back, waits_give_back}
 
 abbrev pub Queue : Type 0
 Queue = List Lock × List Lock
 
-held_none : (t : TxnId) (os : List Lock) → has_lock t os ≡ false → held_by t os ≡ None
+pub held_none : (t : TxnId) (os : List Lock) → has_lock t os ≡ false → held_by t os ≡ None
 held_none t [] n = refl
 held_none t (o ∷ os) n =
     let k = or_parts (is_of t o) (has_lock t os) n in
@@ -54,7 +54,7 @@ waits_read t u q h = waits_read_by t u (held_by u q.0) q h
 
 -- ---- what is given back twice is given back once
 -- the lock is another's, or more than READ
-abbrev IsMore : TxnId → Lock → Type 0
+abbrev pub IsMore : TxnId → Lock → Type 0
 IsMore t o = is_of t o ≡ true → o.mode ≡ Read → ⊥
 
 upgraded_read : (a b : LockType) → upgraded a b ≡ Read → (a ≡ Read) ⊎ (b ≡ Read)
@@ -130,3 +130,30 @@ read_twice_by t (Some m) q e s = ap (λ o. read_given_back t o q) e
 
 pub read_twice : (t : TxnId) (q : Queue) → IsSettled q → after_read t (after_read t q) ≡ after_read t q
 read_twice t q s = read_twice_by t (held_by t q.0) q refl s
+
+-- ---- what is left
+held_none_each : (t : TxnId) (os : List Lock) → held_by t os ≡ None → AllByRecursion (IsMore t) os
+held_none_each t [] e = tt
+held_none_each t (o ∷ os) e = ⊎_elim
+    (λ i. let g : Some o.mode ≡ None = sym (ap (option_map (λ (l : Lock). l.mode)) (cond-true (is_of t o) (Some o) (find (is_of t) os) i)) ∙ e in absurd (cc))
+    (λ i. ((λ j m. both_ways (is_of t o) i j), held_none_each t os (sym (ap (option_map (λ (l : Lock). l.mode)) (cond-false (is_of t o) (Some o) (find (is_of t) os) i)) ∙ e)))
+    (cases_Bool (is_of t o))
+
+held_more_each : (t : TxnId) (h : LockType) (q : Queue) → IsSettled q → held_by t q.0 ≡ Some h → (h ≡ Read → ⊥) → AllByRecursion (IsMore t) q.0
+held_more_each t h q s e n = all_weaker (λ o. is_of t o ≡ true → o.mode ≡ h) (IsMore t) (λ o p i m. n (sym (p i) ∙ m)) q.0 (held_each t h q.0 s.owners.apart e)
+
+more_owners_by : (t : TxnId) (held : Option LockType) (q : Queue) → held_by t q.0 ≡ held → IsSettled q → AllByRecursion (IsMore t) (read_given_back t held q).0
+more_owners_by t None q e s = held_none_each t q.0 e
+more_owners_by t (Some Read) q e s = more_granted t q.1 (without_txn t q.0) (more_waits t q s e) (more_left t q.0)
+more_owners_by t (Some Write) q e s = held_more_each t Write q s e (λ h. cc)
+more_owners_by t (Some RangeRead) q e s = held_more_each t RangeRead q s e (λ h. cc)
+more_owners_by t (Some RangeWrite) q e s = held_more_each t RangeWrite q s e (λ h. cc)
+more_owners_by t (Some RangeInsert) q e s = held_more_each t RangeInsert q s e (λ h. cc)
+
+-- the transaction owns no READ any more
+pub more_owners : (t : TxnId) (q : Queue) → IsSettled q → AllByRecursion (IsMore t) (after_read t q).0
+more_owners t q s = more_owners_by t (held_by t q.0) q refl s
+
+-- where each of the transaction's locks is more than READ, nothing goes
+pub read_more : (t : TxnId) (q : Queue) → AllByRecursion (IsMore t) q.0 → after_read t q ≡ q
+read_more t q a = more_nothing t (held_by t q.0) q (more_held t q.0 a)

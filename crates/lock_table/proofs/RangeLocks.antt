@@ -49,17 +49,17 @@ range_from : (m h : LockType) → upgraded m h ≡ h → is_range m ≡ true →
 range_from m h e r = sym (ap is_range e) ∙ (range_join m h ∙ ap (λ b. b || is_range h) r)
 
 -- ---- what holds of each lock of a record, where an upgrade keeps it
-abbrev GoesUp : (Lock → Type 0) → Type 0
+abbrev pub GoesUp : (Lock → Type 0) → Type 0
 GoesUp P = (w o : Lock) → P w → P o → P (upgraded_by w o)
 
-with_all : (P : Lock → Type 0) → GoesUp P → (w : Lock) (os : List Lock) → AllByRecursion P os → P w → AllByRecursion P (with_lock w os)
+pub with_all : (P : Lock → Type 0) → GoesUp P → (w : Lock) (os : List Lock) → AllByRecursion P os → P w → AllByRecursion P (with_lock w os)
 with_all P up w os all is =
     cond_both (can_be_held w.mode) (cond (has_lock w.txn os) (map (upgraded_by w) os) (os ++ w ∷ [])) os (AllByRecursion P)
     (λ e. cond_both (has_lock w.txn os) (map (upgraded_by w) os) (os ++ w ∷ []) (AllByRecursion P)
     (λ f. all_mapped (upgraded_by w) P P (λ o p. up w o is p) os all) (λ f. all_push P os w all is))
     (λ e. all)
 
-granted_all : (P : Lock → Type 0) → GoesUp P → (ws os : List Lock) → AllByRecursion P os → AllByRecursion P ws → AllByRecursion P (granted os ws).0 × AllByRecursion P (granted os ws).1
+pub granted_all : (P : Lock → Type 0) → GoesUp P → (ws os : List Lock) → AllByRecursion P os → AllByRecursion P ws → AllByRecursion P (granted os ws).0 × AllByRecursion P (granted os ws).1
 granted_all P up [] os a b = (a, tt)
 granted_all P up (w ∷ ws) os a b = granted_cases (λ q. AllByRecursion P q.0 × AllByRecursion P q.1) os w ws
     (λ e. let k = granted_all P up ws os a b.1 in (k.0, (b.0, k.1)))

@@ -31,6 +31,14 @@ is_range RangeRead = true
 is_range RangeWrite = true
 is_range RangeInsert = false
 
+-- READ, and no more
+abbrev pub is_read : LockType → Bool
+is_read Read = true
+is_read Write = false
+is_read RangeRead = false
+is_read RangeWrite = false
+is_read RangeInsert = false
+
 -- the first owner that holds a type for writing; owners never conflict, so there is one at most
 abbrev pub writer_in : List Lock → Option TxnId
 writer_in os = option_map (λ o. o.txn) (find (λ o. is_write o.mode) os)

@@ -10,11 +10,12 @@ use Rattle.std.specs.Map.{lookup}
 use Rattle.std.specs.BTreeSet.{BTreeSet, contains}
 use Rattle.je_order.specs.declared.txn_id.TxnId.{TxnId}
 use Rattle.je_order.specs.Transactions.{txn_cmp}
+use Rattle.lock_mode.specs.declared.lock_type.LockType.{LockType}
 use Rattle.lock_table.specs.declared.lock.Lock.{Lock}
 use Rattle.lock_table.specs.declared.asked.Asked.{Asked}
 use Rattle.lock_table.specs.declared.asked.Asked.TheVariants.{Granted, Blocked}
 use Rattle.lock_table.specs.declared.record_id.RecordId.{RecordId}
-use Rattle.lock_table.specs.Locks.{is_range, has_lock, waited_for, least, IsSettled}
+use Rattle.lock_table.specs.Locks.{is_range, is_read, has_lock, waited_for, least, IsSettled}
 use Rattle.lock_table.specs.Records.{is_record, queue_at}
 
 -- the value of a lock table: the records, each with its owners and, in order of arrival, its waits; and for each transaction the record on which it was last told to wait, if it has neither asked, cancelled nor ended since
@@ -112,3 +113,18 @@ IsRangeOf S l = is_range l.mode ≡ true → S l.txn ≡ true
 pub record AreRangesOf (S : TxnId → Bool) (q : List Lock × List Lock) : Type 0 where
   pub owners : AllByRecursion (IsRangeOf S) q.0
   pub waits : AllByRecursion (IsRangeOf S) q.1
+
+-- what is noted of a transaction leaves it a lock of this type: it has asked for one, and for READ it is noted that it may have one
+abbrev pub may_have : Option Bool → LockType → Bool
+may_have None m = false
+may_have (Some true) m = true
+may_have (Some false) m = not (is_read m)
+
+-- what is noted leaves the transaction this lock
+abbrev pub IsNoted : (TxnId → Option Bool) → Lock → Type 0
+IsNoted R l = may_have (R l.txn) l.mode ≡ true
+
+-- what is noted leaves each transaction its lock and its wait on a record
+pub record AreNoted (R : TxnId → Option Bool) (q : List Lock × List Lock) : Type 0 where
+  pub owners : AllByRecursion (IsNoted R) q.0
+  pub waits : AllByRecursion (IsNoted R) q.1

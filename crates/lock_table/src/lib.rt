@@ -14,6 +14,7 @@ pub mod lock;
 pub mod queue;
 pub mod queues;
 pub mod ranges;
+pub mod reads;
 pub mod record_id;
 pub mod table;
 

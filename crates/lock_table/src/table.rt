@@ -18,6 +18,7 @@ use crate::holders::{least_in, told_in};
 use crate::queue::Queue;
 use crate::queues::{owners_at, waits_at};
 use crate::ranges::note_range;
+use crate::reads::{may_read, note_back, note_none, note_read};
 use crate::{Asked, Lock, RecordId, lists};
 use je_order::{List, TxnId};
 use lock_mode::LockType;
@@ -37,18 +38,21 @@ pub struct LockTable {
     pending: BTreeMap<TxnId, RecordId>,
     // Those that asked for a lock of a range type since they began.
     ranging: BTreeSet<TxnId>,
+    // Of each transaction that asked for a lock since it began, whether it may have one of READ or wait for
+    // one.
+    reading: BTreeMap<TxnId, bool>,
 }
 
 impl Model for LockTable {
     ghost use Rattle.lock_table.specs.declared.record_id.RecordId.{RecordId};
     ghost use Rattle.lock_table.specs.Records.{queue_at};
-    ghost use Rattle.lock_table.specs.Table.{Locks, IsTable, is_among, AreRangesOf};
+    ghost use Rattle.lock_table.specs.Table.{Locks, IsTable, at_txn, is_among, AreRangesOf, AreNoted};
 
     ghost Value = { Locks };
 
     ghost view = { λ a. record { records = a.queues.entries; pending = a.pending.entries } };
 
-    ghost invariant = { λ a. IsTable a.queues.entries a.lists.entries a.pending.entries × ((r : RecordId) → AreRangesOf (is_among a.ranging) (queue_at r a.queues.entries)) };
+    ghost invariant = { λ a. IsTable a.queues.entries a.lists.entries a.pending.entries × ((r : RecordId) → AreRangesOf (is_among a.ranging) (queue_at r a.queues.entries)) × ((r : RecordId) → AreNoted (λ t. at_txn t a.reading.entries) (queue_at r a.queues.entries)) };
 }
 
 impl LockTable {
@@ -63,6 +67,7 @@ impl LockTable {
             lists: BTreeMap::new(alloc),
             pending: BTreeMap::new(alloc),
             ranging: BTreeSet::new(alloc),
+            reading: BTreeMap::new(alloc),
         }
     }
 
@@ -85,6 +90,7 @@ impl LockTable {
     {
         let lock = Lock { txn, mode: asked };
         note_range(&mut self.ranging, lock)?;
+        note_read(&mut self.reading, lock)?;
         ask_in(
             &mut self.queues,
             &mut self.lists,
@@ -123,16 +129,26 @@ impl LockTable {
         ensures settled { IsLockTable self.new }
     {
         give_back_in(&mut self.queues, &mut self.lists, txn, at, was);
+        note_back(&mut self.reading, txn, was);
     }
 
     /// Takes each lock of the transaction that is no more than READ, and grants the waits that it stood in
-    /// the way of, as a release does. It looks at each of the transaction's records, and takes no memory.
+    /// the way of, as a release does. It looks at each of the transaction's records, but at none where the
+    /// transaction has asked for no READ since it last gave them back. It takes no memory.
     pub fn give_back_reads(&mut self, txn: TxnId)
         ensures locks { (r : RecordId) → locks_at r self.new ≡ after_read txn (locks_at r self.old) }
         ensures pending { (t : TxnId) → pending_at t self.new ≡ pending_at t self.old }
         ensures settled { IsLockTable self.new }
     {
+        if !may_read(&self.reading, txn) {
+            return;
+        }
+        let waiting = self.waits_now(txn);
         read_back_in(&mut self.queues, &self.lists, txn);
+        if waiting {
+            return;
+        }
+        note_none(&mut self.reading, txn);
     }
 
     /// Takes all the transaction's locks and its wait, and grants each of these records' waits in order
@@ -145,6 +161,7 @@ impl LockTable {
         release_in(&mut self.queues, &mut self.lists, txn);
         let _ = self.pending.remove(&txn);
         let _ = self.ranging.remove(&txn);
+        let _ = self.reading.remove(&txn);
     }
 
     /// Whether a wait of the transaction was granted, and it has neither asked nor ended since.
