@@ -141,6 +141,7 @@ pub ins_show : InImagesShowChildren
 ins_show es rows held db number of_level level at low n are there imaged is = record {
   reads = λ x over. reads x over (child_is_over rows level x low are (there_is (row_of rows (suc level)) low n there));
   shows = λ x over c lower. ap (option_and_then (λ child. shows es level child x)) (found x over c lower) ∙ then_shown es level x c.1.last;
+  names = found;
 }
   where
     found : (x : Name) → IsOver (row_of rows (suc level)) x (low, n) → (c : Name × Node) → IsOver (row_of rows level) x c → child_in (entry_at es at) x ≡ c.1.last

@@ -180,4 +180,5 @@ pub bins_show : BinImagesShowCells
 bins_show es rows cells db number at low n up is = record {
   reads = λ x over. subst IsBin (sym is) tt;
   shows = λ x over. ap (λ (o : Option Entry). record_in o x) is ∙ shows_held (is_between (At low) (upper_edge (low_behind low (row_of rows 0)))) cells x up (within (row_of rows 0) x (low, n) over);
+  names = λ x over. tt;
 }

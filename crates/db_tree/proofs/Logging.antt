@@ -9,8 +9,8 @@ use Rattle.record_map.specs.Cells.{value_at}
 use Rattle.tree_nodes.specs.declared.node.Node.{Node}
 use Rattle.tree_nodes.specs.Nodes.{NodeRow, least, IsOver}
 use Rattle.tree_nodes.specs.Levels.{row_of, AreParts}
-use Rattle.db_tree.specs.Images.{Placed, shown, shows, IsRead}
-use Rattle.db_tree.specs.Trees.{IsTreeOf, IsBehind, ShowsContent}
+use Rattle.db_tree.specs.Images.{Placed, entry_at, child_in, shown, shows, IsRead}
+use Rattle.db_tree.specs.Trees.{IsTreeOf, IsBehind, IsMarked, ShowsContent, NamesChildren}
 use Rattle.db_tree.specs.Laws.{TreesAreLogged, TreesAreRaised}
 use Rattle.db_tree.proofs.Order.{up_trans}
 use Rattle.tree_nodes.proofs.LevelLaws.{is_level}
@@ -58,6 +58,7 @@ logged es base newest old new held level low n m at are there has last image han
   reads = λ l x e lsn over is. at_reads l x e lsn is (kind l x e over);
   leaf = λ x e over. at_leaf x e (kind 0 x e over);
   inner = λ l x e c upper lower. at_inner l x e c (kind (suc l) x e upper) (kind l x c lower);
+  names = λ l x e c lsn upper lower is. at_names l x e c lsn is (kind (suc l) x e upper) (kind l x c lower);
 }
   where
     -- a node over a name is the one that was logged, or was there before
@@ -95,8 +96,8 @@ logged es base newest old new held level low n m at are there has last image han
       where
         handed : IsBehind base newest n x → IsBehind base newest e.1 x
         handed behind =
-            let mark = hand e (over_above old level x e (low, n) are upper lower) behind.0 behind.1 in
-            (mark.0, mark.1, by_side mark.0 mark.2 behind.2)
+            let mark = hand e (over_above old level x e (low, n) are upper lower) in
+            (mark.0, mark.1, by_side mark.0 (mark.2 behind.0 behind.1) behind.2)
           where
             by_side : (g : ℕ) → g ≤ behind.0 → (behind.0 ≤ newest x) ⊎ (behind.0 < base) → (g ≤ newest x) ⊎ (g < base)
             by_side g le (inl h) = inl (omega arith)
@@ -119,13 +120,24 @@ logged es base newest old new held level low n m at are there has last image han
         (at_child x e c (subst (λ k. IsOver (row_of old (suc k)) x e) lower.0 upper) lower.1 lower.2)
     at_inner l x e c (inr upper) (inr lower) = tree.inner l x e c upper lower
 
+    at_names : (l : ℕ) (x : Name) (e c : Name × Node) (lsn : ℕ) → e.1.last ≡ Some lsn → ((suc l ≡ level) × (e.1 ≡ m) × IsOver (row_of old level) x (low, n)) ⊎ IsOver (row_of old (suc l)) x e →
+        ((l ≡ level) × (c.1 ≡ m) × IsOver (row_of old level) x (low, n)) ⊎ IsOver (row_of old l) x c → (child_in (entry_at es lsn) x ≡ c.1.last) ⊎ IsMarked e.1
+    at_names l x e c lsn is (inl upper) (inl lower) = let both : suc l ≡ l = upper.0 ∙ sym lower.0 in absurd (omega arith)
+    at_names l x e c lsn is (inl upper) (inr lower) =
+        let named : (d : Name × Node) → IsOver (row_of old l) x d → child_in (entry_at es at) x ≡ d.1.last = subst (λ k. NamesChildren es old k at x) (sym upper.0) (image.names x upper.2) in
+        inl (ap (λ k. child_in (entry_at es k) x) (same_Some lsn at (sym is ∙ last_is e upper.1)) ∙ named c lower)
+    at_names l x e c lsn is (inr upper) (inl lower) =
+        let mark = hand e (over_above old level x e (low, n) are (subst (λ k. IsOver (row_of old (suc k)) x e) lower.0 upper) lower.2) in inr (mark.0, mark.1)
+    at_names l x e c lsn is (inr upper) (inr lower) = tree.names l x e c lsn upper lower is
+
 -- ---- a new root
 
 pub raised : TreesAreRaised
-raised es base newest old new held top root at height has last reads content tree = record {
+raised es base newest old new held top root at height has last reads content named tree = record {
   reads = λ l x e lsn over is. at_reads l x e lsn is (kind l x e over);
   leaf = λ x e over. at_leaf x e (kind 0 x e over);
   inner = λ l x e c upper lower. at_inner l x e c (kind (suc l) x e upper) (kind l x c lower);
+  names = λ l x e c lsn upper lower is. at_names l x e c lsn is (kind (suc l) x e upper) (kind l x c lower);
 }
   where
     is_root : (x : Name) (e : Name × Node) → IsOver (row_of new (length old)) x e → e.1 ≡ root
@@ -166,3 +178,12 @@ raised es base newest old new held top root at height has last reads content tre
         ∙ subst (λ k. shows es (suc k) at x ≡ shown es k c.1.last x) (sym same) (content x c (subst (λ k. IsOver (row_of old k) x c) same lower.1)))
     at_inner l x e c (inr upper) (inl lower) = let first : suc l ≤ top = upper.0 in let second : l ≡ suc top = lower.0 in absurd (omega arith)
     at_inner l x e c (inr upper) (inr lower) = tree.inner l x e c upper.1 lower.1
+
+    at_names : (l : ℕ) (x : Name) (e c : Name × Node) (lsn : ℕ) → e.1.last ≡ Some lsn → ((suc l ≡ suc top) × (e.1 ≡ root)) ⊎ ((suc l ≤ top) × IsOver (row_of old (suc l)) x e) →
+        ((l ≡ suc top) × (c.1 ≡ root)) ⊎ ((l ≤ top) × IsOver (row_of old l) x c) → (child_in (entry_at es lsn) x ≡ c.1.last) ⊎ IsMarked e.1
+    at_names l x e c lsn is (inl upper) (inl lower) = let first : suc l ≡ suc top = upper.0 in let second : l ≡ suc top = lower.0 in absurd (omega arith)
+    at_names l x e c lsn is (inl upper) (inr lower) =
+        let same : l ≡ top = (let one : suc l ≡ suc top = upper.0 in omega arith) in
+        inl (ap (λ k. child_in (entry_at es k) x) (same_Some lsn at (sym is ∙ last_is e upper.1)) ∙ named x c (subst (λ k. IsOver (row_of old k) x c) same lower.1))
+    at_names l x e c lsn is (inr upper) (inl lower) = let first : suc l ≤ top = upper.0 in let second : l ≡ suc top = lower.0 in absurd (omega arith)
+    at_names l x e c lsn is (inr upper) (inr lower) = tree.names l x e c lsn upper.1 lower.1 is

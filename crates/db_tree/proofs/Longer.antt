@@ -8,7 +8,7 @@ use Rattle.tree_nodes.specs.declared.node.Node.{Node}
 use Rattle.tree_nodes.specs.Nodes.{IsOver}
 use Rattle.tree_nodes.specs.Levels.{row_of}
 use Rattle.db_tree.specs.Images.{Placed, entry_at, record_in, child_in, shows, shown, IsBin, IsRead}
-use Rattle.db_tree.specs.Trees.{IsBehind}
+use Rattle.db_tree.specs.Trees.{IsBehind, IsMarked}
 use Rattle.db_tree.specs.Laws.{TreesStayInLongerLogs}
 
 -- an entry that is there stays
@@ -60,6 +60,7 @@ longer es more base newest newer rows held le tree = record {
   reads = λ level x e at over is. read_stays es more level at x (tree.reads level x e at over is);
   leaf = λ x e over. at_leaf x e (same_shown 0 x e over e.1.last refl) (tree.leaf x e over);
   inner = λ level x e c upper lower. at_inner level x e c (same_shown (suc level) x e upper e.1.last refl) (same_shown level x c lower c.1.last refl) (tree.inner level x e c upper lower);
+  names = λ level x e c at upper lower is. at_names level x e c at (tree.reads (suc level) x e at upper is) (tree.names level x e c at upper lower is);
 }
   where
     same_shown : (level : ℕ) (x : Name) (e : Name × Node) → IsOver (row_of rows level) x e → (last : Option ℕ) → e.1.last ≡ last → shown (es ++ more) level last x ≡ shown es level last x
@@ -75,3 +76,7 @@ longer es more base newest newer rows held le tree = record {
         (shown es (suc level) e.1.last x ≡ shown es level c.1.last x) ⊎ IsBehind base newest e.1 x → (shown (es ++ more) (suc level) e.1.last x ≡ shown (es ++ more) level c.1.last x) ⊎ IsBehind base newer e.1 x
     at_inner level x e c upper lower (inl h) = inl (upper ∙ h ∙ sym lower)
     at_inner level x e c upper lower (inr h) = inr (behind_stays base newest newer e.1 x (le x) h)
+
+    at_names : (level : ℕ) (x : Name) (e c : Name × Node) (at : ℕ) → IsRead es (suc level) at x → (child_in (entry_at es at) x ≡ c.1.last) ⊎ IsMarked e.1 → (child_in (entry_at (es ++ more) at) x ≡ c.1.last) ⊎ IsMarked e.1
+    at_names level x e c at read (inl h) = inl (ap (λ (o : Option Entry). child_in o x) (child_stays es more at read.0 x read.1) ∙ h)
+    at_names level x e c at read (inr h) = inr h

@@ -1,12 +1,12 @@
 -- A mark, a split and a commit keep that a tree fits its log.
-use Rattle.std.proofs.Common.{◌≡◌, ◌≤◌, ◌<◌, ◌⊎◌, ℕ, suc, List, Option, refl, ap, sym, subst, ◌∙◌, inl, inr, arith}
+use Rattle.std.proofs.Common.{◌≡◌, ◌≤◌, ◌<◌, ◌⊎◌, ℕ, suc, List, Option, Some, refl, ap, sym, subst, ◌∙◌, inl, inr, arith}
 use Rattle.std.proofs.lemmas.Bool.{cases_eq}
 use Rattle.je_order.specs.declared.name.Name.{Name}
 use Rattle.tree_nodes.specs.declared.node.Node.{Node}
 use Rattle.tree_nodes.specs.Nodes.{NodeRow, IsOver}
 use Rattle.tree_nodes.specs.Levels.{row_of}
-use Rattle.db_tree.specs.Images.{Placed, shown}
-use Rattle.db_tree.specs.Trees.{IsTreeOf, IsBehind, IsMark}
+use Rattle.db_tree.specs.Images.{Placed, entry_at, child_in, shown}
+use Rattle.db_tree.specs.Trees.{IsTreeOf, IsBehind, IsMark, IsMarked}
 use Rattle.db_tree.specs.Laws.{TreesAreSplitAndMarked, TreesAreCommitted}
 use Rattle.db_tree.proofs.Over.{over_put}
 
@@ -16,10 +16,11 @@ pub record Comes (base : ℕ) (newest : Name → ℕ) (row : NodeRow) (x : Name)
   pub over : IsOver row x was
   pub last : e.1.last ≡ was.1.last
   pub behind : IsBehind base newest was.1 x → IsBehind base newest e.1 x
+  pub marked : IsMarked was.1 → IsMarked e.1
 
 -- a node that stays
 pub comes_itself : (base : ℕ) (newest : Name → ℕ) (row : NodeRow) (x : Name) (e : Name × Node) → IsOver row x e → Comes base newest row x e
-comes_itself base newest row x e over = record { was = e; over = over; last = refl; behind = λ h. h }
+comes_itself base newest row x e over = record { was = e; over = over; last = refl; behind = λ h. h; marked = λ h. h }
 
 -- an earlier mark is a mark
 pub behind_marked : (base : ℕ) (newest : Name → ℕ) (m n : Node) (x : Name) → IsMark m n → IsBehind base newest m x → IsBehind base newest n x
@@ -38,6 +39,7 @@ come es base newest old new held from tree = record {
   reads = λ level x e at over is. let c = from level x e over in tree.reads level x c.was at c.over (sym c.last ∙ is);
   leaf = λ x e over. at_leaf x e (from 0 x e over);
   inner = λ level x e c upper lower. at_inner level x e c (from (suc level) x e upper) (from level x c lower);
+  names = λ level x e c at upper lower is. at_names level x e c at is (from (suc level) x e upper) (from level x c lower);
 }
   where
     at_leaf : (x : Name) (e : Name × Node) → Comes base newest (row_of old 0) x e → (shown es 0 e.1.last x ≡ held x) ⊎ IsBehind base newest e.1 x
@@ -56,6 +58,14 @@ come es base newest old new held from tree = record {
         by_side (inl h) = inl (ap (λ last. shown es (suc level) last x) upper.last ∙ h ∙ sym (ap (λ last. shown es level last x) lower.last))
         by_side (inr h) = inr (upper.behind h)
 
+    at_names : (level : ℕ) (x : Name) (e c : Name × Node) (at : ℕ) → e.1.last ≡ Some at → Comes base newest (row_of old (suc level)) x e → Comes base newest (row_of old level) x c →
+        (child_in (entry_at es at) x ≡ c.1.last) ⊎ IsMarked e.1
+    at_names level x e c at is upper lower = by_side (tree.names level x upper.was lower.was at upper.over lower.over (sym upper.last ∙ is))
+      where
+        by_side : (child_in (entry_at es at) x ≡ lower.was.1.last) ⊎ IsMarked upper.was.1 → (child_in (entry_at es at) x ≡ c.1.last) ⊎ IsMarked e.1
+        by_side (inl h) = inl (h ∙ sym lower.last)
+        by_side (inr h) = inr (upper.marked h)
+
 pub marked_or_split : TreesAreSplitAndMarked
 marked_or_split es base newest old new held level low at m n under has mark tree =
     come es base newest old new held (λ l x e over. comes l x e over (cases_eq l level)) tree
@@ -66,6 +76,7 @@ marked_or_split es base newest old new held level low at m n under has mark tree
       over = is.1;
       last = ap (λ (k : Node). k.last) is.0 ∙ mark.last;
       behind = λ h. subst (λ (k : Node). IsBehind base newest k x) (sym is.0) (behind_marked base newest m n x mark h);
+      marked = λ h. subst (λ (k : Node). IsMarked k) (sym is.0) (let g = mark.from h.0 h.1 in (g.0, g.1));
     }
     at_level x e (inr over) = comes_itself base newest (row_of old level) x e over
 
@@ -80,6 +91,7 @@ committed es base newest rows held next changes tree = record {
   reads = tree.reads;
   leaf = λ x e over. by_side x e (tree.leaf x e over) (changes x e over);
   inner = tree.inner;
+  names = tree.names;
 }
   where
     by_side : (x : Name) (e : Name × Node) → (shown es 0 e.1.last x ≡ held x) ⊎ IsBehind base newest e.1 x → (next x ≡ held x) ⊎ IsBehind base newest e.1 x →

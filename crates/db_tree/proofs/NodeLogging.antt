@@ -1,6 +1,6 @@
 -- Logging a node keeps that a tree fits its log.
 use Rattle.std.proofs.Common.{◌≡◌, ◌≤◌, ◌++◌, ◌∷◌, [], ◌==◌, ℕ, zero, suc, List, Bool, true, false, cond, Option, None, Some, length, refl, ap, ap₂, sym, subst, ◌∙◌, arith, eq-eqb}
-use Rattle.std.proofs.lemmas.Option.{none-some, same_Some}
+use Rattle.std.proofs.lemmas.Option.{none-some}
 use Rattle.std.proofs.lemmas.List.{get_or_past}
 use Rattle.je_order.specs.declared.name.Name.{Name}
 use Rattle.log_entry.specs.declared.entry.Entry.{Entry}
@@ -11,6 +11,7 @@ use Rattle.tree_nodes.specs.Nodes.{NodeRow, IsOver, earlier, logged}
 use Rattle.tree_nodes.specs.Levels.{row_of, AreParts, HasPutAt, HasMarkedAt}
 use Rattle.db_tree.specs.Images.{Placed, entry_at, IsRead}
 use Rattle.db_tree.specs.Content.{held_by, bin_image, in_image}
+use Rattle.db_tree.specs.NodeSteps.{mark_above}
 use Rattle.db_tree.specs.Trees.{IsTreeOf, IsTree, IsImageOf, IsHandedOn}
 use Rattle.db_tree.proofs.Longer.{longer}
 use Rattle.db_tree.specs.Splitting.{ImagedBelow, IsInImage}
@@ -19,19 +20,18 @@ use Rattle.db_tree.proofs.Children.{ins_show}
 use Rattle.db_tree.proofs.Logging.{logged as is_logged}
 use Rattle.db_tree.proofs.Records.{over_marked, earlier_below}
 
--- a node without a mark, and one without a node above it
-pub nothing_to_hand : (rows : List NodeRow) (level : ℕ) (low : Name) (n : Node) → n.from ≡ None → IsHandedOn rows level low n
-nothing_to_hand rows level low n none p over f is = absurd (none-some f (sym none ∙ is))
-
+-- a node without a node above it
 pub nobody_above : (rows : List NodeRow) (level : ℕ) (low : Name) (n : Node) → length rows ≤ suc level → IsHandedOn rows level low n
-nobody_above rows level low n high p over f is =
+nobody_above rows level low n high p over =
     absurd (none-some p.1 (subst (λ (row : NodeRow). value_at p.0 row ≡ Some p.1) (get_or_past rows (suc level) [] high) over.there))
 
 -- the node above a node has its mark
-pub handed_on : (old new : List NodeRow) (level : ℕ) (low : Name) (n : Node) (from : ℕ) → n.from ≡ Some from → HasMarkedAt old new (suc level) low from → IsHandedOn new level low n
-handed_on old new level low n from is m p over f at =
-    let same : from ≡ f = same_Some from f (sym is ∙ at) in
-    (_, ap (λ (k : Node). k.from) (over_marked old new (suc level) low from p m over), subst (λ k. earlier m.e.1.from from ≤ k) same (earlier_below m.e.1.from from))
+pub handed_on : (old new : List NodeRow) (level : ℕ) (low : Name) (n : Node) (at : ℕ) → HasMarkedAt old new (suc level) low (mark_above n.from at) → IsHandedOn new level low n
+handed_on old new level low n at m p over = (
+  earlier m.e.1.from (mark_above n.from at),
+  ap (λ (k : Node). k.from) (over_marked old new (suc level) low (mark_above n.from at) p m over),
+  λ f is. subst (λ (k : ℕ). earlier m.e.1.from (mark_above n.from at) ≤ k) (ap (λ (o : Option ℕ). mark_above o at) is) (earlier_below m.e.1.from (mark_above n.from at)),
+)
 
 -- an entry that is appended at an LSN of its own is the one that the LSN names
 pub entry_is_last : (es : Placed) (at : ℕ) (e : Entry) → entry_at es at ≡ None → entry_at (es ++ (at, e) ∷ []) at ≡ Some e
@@ -86,10 +86,12 @@ pub image_handed : (es : Placed) (old handed : List NodeRow) (held : Name → Op
 image_handed es old handed held zero e at same others image = record {
   reads = λ x over. image.reads x (subst (λ (row : NodeRow). IsOver row x e) same over);
   shows = λ x over. image.shows x (subst (λ (row : NodeRow). IsOver row x e) same over);
+  names = λ x over. tt;
 }
 image_handed es old handed held (suc k) e at same others image = record {
   reads = λ x over. image.reads x (subst (λ (row : NodeRow). IsOver row x e) same over);
   shows = λ x over c lower. image.shows x (subst (λ (row : NodeRow). IsOver row x e) same over) c (subst (λ (row : NodeRow). IsOver row x c) (others k (λ (h : k ≡ suc (suc k)). absurd (omega (arith, h)))) lower);
+  names = λ x over c lower. image.names x (subst (λ (row : NodeRow). IsOver row x e) same over) c (subst (λ (row : NodeRow). IsOver row x c) (others k (λ (h : k ≡ suc (suc k)). absurd (omega (arith, h)))) lower);
 }
 
 pub image_noted : (es : Placed) (base : ℕ) (newest : Name → ℕ) (old handed new : List NodeRow) (held : Name → Option ℕ) (level : ℕ) (low : Name) (n : Node) (at : ℕ) → AreParts handed →

@@ -119,4 +119,5 @@ module _ (old new : List NodeRow) (are : AreNoted old new) where
             };
             last = ap (λ (m : Node). m.last) w.2;
             behind = λ h. (h.0, ap (λ (m : Node). m.from) w.2 ∙ h.1, h.2);
+            marked = λ h. (h.0, ap (λ (m : Node). m.from) w.2 ∙ h.1);
           }

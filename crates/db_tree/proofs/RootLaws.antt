@@ -9,8 +9,8 @@ use Rattle.record_map.specs.Cells.{value_at}
 use Rattle.tree_nodes.specs.declared.node.Node.{Node}
 use Rattle.tree_nodes.specs.Nodes.{NodeRow, least, IsOver}
 use Rattle.tree_nodes.specs.Levels.{row_of, HasRaised}
-use Rattle.db_tree.specs.Images.{Placed, shown, IsRead}
-use Rattle.db_tree.specs.Trees.{IsTreeOf, IsBehind}
+use Rattle.db_tree.specs.Images.{Placed, entry_at, child_in, shown, IsRead}
+use Rattle.db_tree.specs.Trees.{IsTreeOf, IsBehind, IsMarked}
 
 pub root_put : (es : Placed) (base : ℕ) (newest : Name → ℕ) (old new : List NodeRow) (held : Name → Option ℕ) (root : Node) (mark : ℕ) →
     HasRaised old new root → root.last ≡ None → root.from ≡ Some mark → ((x : Name) → (mark ≤ newest x) ⊎ (mark < base)) → IsTreeOf es base newest old held → IsTreeOf es base newest new held
@@ -18,6 +18,7 @@ root_put es base newest old new held root mark has last from behind tree = recor
   reads = λ l x e lsn over is. at_reads l x e lsn is (kind l x e over);
   leaf = λ x e over. at_leaf x e (kind 0 x e over);
   inner = λ l x e c upper lower. at_inner l x e c (kind (suc l) x e upper) (kind l x c lower);
+  names = λ l x e c lsn upper lower is. at_names l x e c lsn is (kind (suc l) x e upper) (kind l x c lower);
 }
   where
     is_root : (x : Name) (e : Name × Node) → IsOver (row_of new (length old)) x e → e.1 ≡ root
@@ -53,3 +54,9 @@ root_put es base newest old new held root mark has last from behind tree = recor
     at_inner l x e c (inl upper) lower = inr (marked x e upper.1)
     at_inner l x e c (inr upper) (inl lower) = let first : suc l < length old = upper.0 in let second : l ≡ length old = lower.0 in absurd (omega arith)
     at_inner l x e c (inr upper) (inr lower) = tree.inner l x e c upper.1 lower.1
+
+    at_names : (l : ℕ) (x : Name) (e c : Name × Node) (lsn : ℕ) → e.1.last ≡ Some lsn → ((suc l ≡ length old) × (e.1 ≡ root)) ⊎ ((suc l < length old) × IsOver (row_of old (suc l)) x e) →
+        ((l ≡ length old) × (c.1 ≡ root)) ⊎ ((l < length old) × IsOver (row_of old l) x c) → (child_in (entry_at es lsn) x ≡ c.1.last) ⊎ IsMarked e.1
+    at_names l x e c lsn is (inl upper) lower = inr (mark, ap (λ (k : Node). k.from) upper.1 ∙ from)
+    at_names l x e c lsn is (inr upper) (inl lower) = let first : suc l < length old = upper.0 in let second : l ≡ length old = lower.0 in absurd (omega arith)
+    at_names l x e c lsn is (inr upper) (inr lower) = tree.names l x e c lsn upper.1 lower.1 is

@@ -61,6 +61,8 @@ by_name es base newest old new held same tree = record {
   reads = λ level x e at over is. tree.reads level x e at (over_same (row_of old level) (row_of new level) x e (same level) over) is;
   leaf = λ x e over. tree.leaf x e (over_same (row_of old 0) (row_of new 0) x e (same 0) over);
   inner = λ level x e c over lower. tree.inner level x e c (over_same (row_of old (suc level)) (row_of new (suc level)) x e (same (suc level)) over) (over_same (row_of old level) (row_of new level) x c (same level) lower);
+  names = λ level x e c at over lower is.
+      tree.names level x e c at (over_same (row_of old (suc level)) (row_of new (suc level)) x e (same (suc level)) over) (over_same (row_of old level) (row_of new level) x c (same level) lower) is;
 }
 
 pub level_cases : (k level : ℕ) → (k ≡ level) ⊎ (k ≡ level → ⊥)

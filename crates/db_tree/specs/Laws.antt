@@ -6,7 +6,7 @@ use Rattle.record_map.specs.Cells.{value_at, IsRising}
 use Rattle.tree_nodes.specs.declared.node.Node.{Node}
 use Rattle.tree_nodes.specs.Nodes.{NodeRow, IsOver}
 use Rattle.tree_nodes.specs.Levels.{row_of, AreParts, HasPutAt, HasRaised}
-use Rattle.db_tree.specs.Images.{Placed, entry_at, shown, shows, IsRead}
+use Rattle.db_tree.specs.Images.{Placed, entry_at, child_in, shown, shows, IsRead}
 use Rattle.db_tree.specs.Content.{held_by, bin_image, in_image}
 use Rattle.db_tree.specs.Splitting.{AreSameByName}
 use Rattle.db_tree.specs.Splits.{Shape, image_sizes, nodes_made, passes_top, shape_with, count_waiting}
@@ -39,6 +39,7 @@ abbrev pub TreesAreRaised : Type 0
 TreesAreRaised = (es : Placed) (base : ℕ) (newest : Name → ℕ) (old new : List NodeRow) (held : Name → Option ℕ) (top : ℕ) (root : Node) (at : ℕ) →
     length old ≡ suc top → HasRaised old new root → root.last ≡ Some at →
     ((x : Name) → IsRead es (suc top) at x) → ((x : Name) (c : Name × Node) → IsOver (row_of old top) x c → shows es (suc top) at x ≡ shown es top c.1.last x) →
+    ((x : Name) (c : Name × Node) → IsOver (row_of old top) x c → child_in (entry_at es at) x ≡ c.1.last) →
     IsTreeOf es base newest old held → IsTreeOf es base newest new held
 
 -- where each mark is at the redo LSN or behind it, what a node's image lacks was committed there or behind it

@@ -9,13 +9,17 @@ use Rattle.tree_nodes.specs.Levels.{row_of}
 use Rattle.record_map.specs.declared.cell.Cell.{Cell}
 use Rattle.node_core.specs.Changes.{is_committed}
 use Rattle.record_map.specs.Cells.{value_at, fresh, with_write}
-use Rattle.db_tree.specs.Images.{Placed, shown, shows, IsRead}
+use Rattle.db_tree.specs.Images.{Placed, entry_at, child_in, shown, shows, IsRead}
 use Rattle.db_tree.specs.Content.{held_by}
 
 -- a node is marked for a name: the log has a committed change of the name at the mark or behind it, or the
 -- mark is older than this life of the environment, which begins at `base`
 abbrev pub IsBehind : ℕ → (Name → ℕ) → Node → Name → Type 0
 IsBehind base newest node x = (from : ℕ) × (node.from ≡ Some from) × ((from ≤ newest x) ⊎ (from < base))
+
+-- a node is marked
+abbrev pub IsMarked : Node → Type 0
+IsMarked node = (from : ℕ) × (node.from ≡ Some from)
 
 -- a tree of a log: `newest` has the LSN of each name's newest committed change, `held` the LSN of what is committed
 pub record IsTreeOf (es : Placed) (base : ℕ) (newest : Name → ℕ) (rows : List NodeRow) (held : Name → Option ℕ) : Type 0 where
@@ -26,6 +30,9 @@ pub record IsTreeOf (es : Placed) (base : ℕ) (newest : Name → ℕ) (rows : L
   -- an IN's last image shows what its child's does, or the IN is marked
   pub inner : (level : ℕ) (x : Name) (e c : Name × Node) → IsOver (row_of rows (suc level)) x e → IsOver (row_of rows level) x c →
       (shown es (suc level) e.1.last x ≡ shown es level c.1.last x) ⊎ IsBehind base newest e.1 x
+  -- and names its child's last image, or the IN is marked
+  pub names : (level : ℕ) (x : Name) (e c : Name × Node) (at : ℕ) → IsOver (row_of rows (suc level)) x e → IsOver (row_of rows level) x c → e.1.last ≡ Some at →
+      (child_in (entry_at es at) x ≡ c.1.last) ⊎ IsMarked e.1
 
 -- a node is another one, perhaps with an earlier mark
 pub record IsMark (old new : Node) : Type 0 where
@@ -37,14 +44,20 @@ abbrev pub ShowsContent : Placed → List NodeRow → (Name → Option ℕ) → 
 ShowsContent es rows held zero at x = shows es zero at x ≡ held x
 ShowsContent es rows held (suc level) at x = (c : Name × Node) → IsOver (row_of rows level) x c → shows es (suc level) at x ≡ shown es level c.1.last x
 
+-- the image at an LSN names the last images of the children of the node of a level with a low; a BIN has none
+abbrev pub NamesChildren : Placed → List NodeRow → ℕ → ℕ → Name → Type 0
+NamesChildren es rows zero at x = Unit {0}
+NamesChildren es rows (suc level) at x = (c : Name × Node) → IsOver (row_of rows level) x c → child_in (entry_at es at) x ≡ c.1.last
+
 pub record IsImageOf (es : Placed) (rows : List NodeRow) (held : Name → Option ℕ) (level : ℕ) (e : Name × Node) (at : ℕ) : Type 0 where
   pub reads : (x : Name) → IsOver (row_of rows level) x e → IsRead es level at x
   pub shows : (x : Name) → IsOver (row_of rows level) x e → ShowsContent es rows held level at x
+  pub names : (x : Name) → IsOver (row_of rows level) x e → NamesChildren es rows level at x
 
--- the node above one has a mark at or before the mark of that one
+-- the node above one has a mark, at or before the mark of that one if it has one
 abbrev pub IsHandedOn : List NodeRow → ℕ → Name → Node → Type 0
 IsHandedOn rows level low node =
-    (p : Name × Node) → IsOver (row_of rows (suc level)) low p → (f : ℕ) → node.from ≡ Some f → (g : ℕ) × (p.1.from ≡ Some g) × (g ≤ f)
+    (p : Name × Node) → IsOver (row_of rows (suc level)) low p → (g : ℕ) × (p.1.from ≡ Some g) × ((f : ℕ) → node.from ≡ Some f → g ≤ f)
 
 -- a database's tree fits a log: of what its cells hold
 abbrev pub IsTree : Placed → ℕ → (Name → ℕ) → List NodeRow → List (Name × Cell) → Type 0

@@ -28,6 +28,7 @@ tree_more es base newest newer rows held le t = record {
   reads = t.reads;
   leaf = λ x e over. or_behind base newest newer e.1 x (le x) (t.leaf x e over);
   inner = λ level x e c over below. or_behind base newest newer e.1 x (le x) (t.inner level x e c over below);
+  names = t.names;
 }
 
 pub forests_may_end : ForestsMayEnd

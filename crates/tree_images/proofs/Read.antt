@@ -18,7 +18,7 @@ use Rattle.tree_nodes.specs.Levels.{row_of, AreParts}
 use Rattle.log_trees.specs.Sound.{Child, children, Home}
 use Rattle.log_trees.specs.Building.{child_shown}
 use Rattle.db_tree.specs.Content.{held_by}
-use Rattle.db_tree.specs.Images.{Placed, child_in, child_over, child_behind, shows, shown, IsRead}
+use Rattle.db_tree.specs.Images.{Placed, entry_at, child_in, child_over, child_behind, shows, shown, IsRead}
 use Rattle.db_tree.proofs.Contents.{within}
 use Rattle.db_tree.proofs.Over.{over_once}
 use Rattle.db_tree.proofs.Within.{over_within}
@@ -79,12 +79,31 @@ module _ (es : Placed) (home : ℕ → Home) (last d : ℕ) (rows : List NodeRow
           ∙ ap (λ (i : ℕ). shows es k i x) is_for.at
           ∙ sym (ap (λ (n : Node). shown es k n.last x) same ∙ ap (λ (o : Option ℕ). shown es k o x) node.last)
 
+  -- and names its child's last image
+  pub named : (k : ℕ) (x : Name) (e c : Name × Node) (at : ℕ) → IsOver (row_of rows (suc k)) x e → IsOver (row_of rows k) x c → e.1.last ≡ Some at → child_in (entry_at es at) x ≡ c.1.last
+  named k x e c at upper lower is =
+      let a : IsAsRead es home last d rows (suc k) e.0 e.1 = each (suc k) e.0 e.1 upper.there in
+      let bounds = sides_of e.0 x (low_behind e.0 (row_of rows (suc k))) (within (row_of rows (suc k)) x e upper) in
+      let found = over_for (IsChildNode (row_of rows k)) x e.0 (low_behind e.0 (row_of rows (suc k))) a.sound.slots a.sound.entry.4 bounds.0 bounds.1 a.below in
+      by_child (ap (λ (i : ℕ). child_in (entry_at es i) x) (same_Some at a.at (sym is ∙ a.image)) ∙ ap (λ (o : Option Entry). child_in o x) a.sound.image ∙ found.1) found.2
+    where
+      by_child : {child : ℕ} → child_in (entry_at es at) x ≡ Some child → IsFor (IsChildNode (row_of rows k)) x child → child_in (entry_at es at) x ≡ c.1.last
+      by_child {child} naming is_for =
+          let node : IsChildNode (row_of rows k) is_for.found = is_for.holds in
+          let inside : is_between (At is_for.found.low) (upper_edge (low_behind is_for.found.low (row_of rows k))) x ≡ true =
+          ap₂ (λ (a : Bool) (o : Option Name). not a && is_below (upper_edge o) x) is_for.from node.behind ∙ is_for.upto in
+          let over : IsOver (row_of rows k) x (is_for.found.low, node.node) = over_within (row_of rows k) x is_for.found.low node.node (parts.rising k) node.there inside in
+          let names : c.0 ≡ is_for.found.low = over_once (row_of rows k) x c (is_for.found.low, node.node) lower over in
+          let same : c.1 ≡ node.node = same_Some c.1 node.node (sym lower.there ∙ ap (λ (y : Name). value_at y (row_of rows k)) names ∙ node.there) in
+          naming ∙ ap (λ (i : ℕ). Some i) is_for.at ∙ sym (ap (λ (n : Node). n.last) same ∙ node.last)
+
 pub read_fit : ReadTreesFit
 read_fit es base newest home last d rows cells parts top each recorded held = record {
   tree = record {
     reads = λ level x e at over is. reads level x e at (each level e.0 e.1 over.there) is;
     leaf = λ x e over. leaf x e over (each 0 e.0 e.1 over.there);
     inner = λ level x e c upper lower. inl (inner_same es home last d rows parts each level x e c upper lower);
+    names = λ level x e c at upper lower is. inl (named es home last d rows parts each level x e c at upper lower is);
   };
   imaged = record {
     numbers = λ level low n there. (let a : IsAsRead es home last d rows level low n = each level low n there in a.own);
@@ -108,6 +127,7 @@ unread_fit es base newest home last d rows cells top each recorded = record {
     reads = λ level x e at over is. absurd (none-some at (sym (each level e.0 e.1 over.there).image ∙ is));
     leaf = λ x e over. inr (behind (each 0 e.0 e.1 over.there));
     inner = λ level x e c upper lower. inr (behind (each (suc level) e.0 e.1 upper.there));
+    names = λ level x e c at upper lower is. (let u = each (suc level) e.0 e.1 upper.there in inr (u.from, u.marked));
   };
   imaged = record {
     numbers = λ level low n there. (each level low n there).own;

@@ -1,6 +1,5 @@
-use Rattle.std.proofs.Common.{ℕ, suc, Option, Some, ap, sym, subst, add-one, ◌+◌, ◌∙◌, inr}
+use Rattle.std.proofs.Common.{suc, subst, add-one, ◌+◌, inr}
 use Rattle.tree_nodes.specs.Levels.{HasMarkedAt}
-use Rattle.db_tree.specs.NodeSteps.{mark_above}
 use Rattle.db_tree.proofs.NodeLogging.{handed_on}
 use Rattle.db_tree.proofs.Records.{marks}
 use Rattle.db_tree.proofs.WaitLaws.{mark_alike}
@@ -12,9 +11,10 @@ pub returns-clause-notes : goal.returns-clause-notes
 returns-clause-notes c = notes_marked c.args.levels.now c.mark.new.self (c.args.level + 1) c.args.low.now c.mark_above.result c.mark.ensures.marked
 
 pub returns-clause-handed : goal.returns-clause-handed
-returns-clause-handed c = λ p over f is.
-    handed_on c.args.levels.now c.mark.new.self c.args.level c.args.low.now c.args.node.now c.mark_above.result (is ∙ ap (λ (x : ℕ). Some x) (sym (c.mark_above.ensures ∙ ap (λ (o : Option ℕ). mark_above o c.args.at) is)))
-    (subst (λ l. HasMarkedAt c.args.levels.now c.mark.new.self l c.args.low.now c.mark_above.result) (add-one c.args.level) c.mark.ensures.marked) p over f is
+returns-clause-handed c = λ p over.
+    handed_on c.args.levels.now c.mark.new.self c.args.level c.args.low.now c.args.node.now c.args.at
+    (subst (λ from. HasMarkedAt c.args.levels.now c.mark.new.self (suc c.args.level) c.args.low.now from) c.mark_above.ensures
+    (subst (λ l. HasMarkedAt c.args.levels.now c.mark.new.self l c.args.low.now c.mark_above.result) (add-one c.args.level) c.mark.ensures.marked)) p over
 
 pub returns-clause-tree : goal.returns-clause-tree
 returns-clause-tree c = λ es base newest held tree.
