@@ -27,19 +27,19 @@ images_recover first opening base least transactions log image is from left =
     }
 
 pub kept_images_recover : KeptImagesRecover
-kept_images_recover first opening base least transactions log state is from keeps prefixes image files chance =
-    images_recover first opening base least transactions log image is from (kept_is_left log [] least state image is.named.is_log keeps prefixes files chance)
+kept_images_recover first opening base least transactions log state is from keeps prefixes read image files chance =
+    images_recover first opening base least transactions log image is from (kept_is_left log [] least state image is.named.is_log keeps prefixes read files chance)
 
 pub states_recover : StatesRecover
 states_recover first opening base least transactions log state is from kept =
-    let images = kept_images_recover first opening base least transactions log state is from kept.keeps kept.prefixes in
+    let images = kept_images_recover first opening base least transactions log state is from kept.keeps kept.prefixes kept.read in
     record { read = images state.reads kept.read (reads_have_no_chance state.reads); images = images }
 
 pub written_recover : WrittenRecover
 written_recover first opening base least written transactions log state is from kept h =
     images_recover first opening base written transactions log state.reads is from
     (written_left log least written state.reads
-    (kept_is_left log [] least state state.reads is.named.is_log kept.keeps kept.prefixes kept.read (reads_have_no_chance state.reads)) h)
+    (kept_is_left log [] least state state.reads is.named.is_log kept.keeps kept.prefixes kept.read kept.read (reads_have_no_chance state.reads)) h)
 
 pub through_recovers : ThroughRecovers
 through_recovers first opening base least transactions log old new is from through =

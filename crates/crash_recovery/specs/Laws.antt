@@ -2,6 +2,7 @@
 use Rattle.std.specs.Prelude.{◌≡◌, ℕ, ◌≤◌, List, [], ◌++◌, length}
 use Rattle.je_disk.specs.States.{Files, CrashState, State}
 use Rattle.je_disk.specs.Moments.{History, Passes}
+use Rattle.je_disk.specs.Images.{AreFileImages}
 use Rattle.store_model.specs.declared.change.Change.{Change}
 use Rattle.store_model.specs.declared.store.Store.{Store}
 use Rattle.log_entry.specs.declared.entry.Entry.{Entry}
@@ -30,7 +31,7 @@ ImagesRecover = (first : ℕ) (opening : Store) (base least : ℕ) (transactions
 -- so does each image of a disk of which a crash keeps so many of the log's entries
 abbrev pub KeptImagesRecover : Type 0
 KeptImagesRecover = (first : ℕ) (opening : Store) (base least : ℕ) (transactions : List (List Change)) (log : Log) (state : State)
-    → RecoversLog first opening base transactions log → base ≤ least → KeepsLog log [] least state.crash_states → HoldPrefixes log state.reads
+    → RecoversLog first opening base transactions log → base ≤ least → KeepsLog log [] least state.crash_states → HoldPrefixes log state.reads → AreFileImages state.crash_states state.reads
     → AreImagesRecovered opening (commits_in base least (placed log)) transactions state
 
 -- and what the disk reads

@@ -223,20 +223,20 @@ meets f read bytes prefix is holds =
     subst (λ (x : FileScan). IsFoundOf x (scan_of f bytes)) (sym is) (subst (λ (x : FileScan). IsFoundOf (Prefix prefix) x) (sym holds.found) (record { more = holds.more; is = holds.is }))
 
 pub reads_have_no_chance : ReadsHaveNoChance
-reads_have_no_chance reads f = same (scan_of f (content reads f)) where
+reads_have_no_chance reads f may = same (scan_of f (content reads f)) where
   same : (found : FileScan) → IsFoundOf found found
   same (Prefix prefix) = front_whole prefix.entries
   same (VersionUnknown version) = refl
   same Damaged = refl
 
 pub cuts_have_no_chance : CutsHaveNoChance
-cuts_have_no_chance reads image prefixes cut f =
+cuts_have_no_chance reads image prefixes cut f may =
     let short = cut f in
     let here = prefixes f in
     meets f (content reads f) (content image f) here.prefix here.found (subst (HoldsPrefix f here.prefix.entries) (sym short.1) (cut_prefix f short.0 (content reads f) here.prefix here.found))
 
 pub appended_have_no_chance : AppendedHaveNoChance
-appended_have_no_chance reads image prefixes appended f =
+appended_have_no_chance reads image prefixes appended f may =
     let here = prefixes f in
     let so = appended f in
     meets f (content reads f) (content image f) here.prefix here.found

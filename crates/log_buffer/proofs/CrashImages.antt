@@ -129,7 +129,7 @@ all_prefix f entries bytes lt ok is = record {
 abbrev no_entries : Option (List Entry)
 no_entries = None
 
-module _ (log gone : Log) (least : ℕ) (state : State) (image : Files) (is : IsLog log) (k : KeepsLog log gone least state.crash_states) (holds : HoldPrefixes log state.reads) (img : AreFileImages state.crash_states image) (no_chance : NoChanceMatch state.reads image) where
+module _ (log gone : Log) (least : ℕ) (state : State) (image : Files) (is : IsLog log) (k : KeepsLog log gone least state.crash_states) (holds : HoldPrefixes log state.reads) (read : AreFileImages state.crash_states state.reads) (img : AreFileImages state.crash_states image) (no_chance : NoChanceMatch state.reads image) where
   parts : IsLog (k.before ++ (k.at, k.kept ++ k.more) ∷ k.after)
   parts = subst IsLog k.log_is is
 
@@ -147,6 +147,15 @@ module _ (log gone : Log) (least : ℕ) (state : State) (image : Files) (is : Is
 
   over : (f : ℕ) → k.at < f → lookup (λ n. n == f) k.before ≡ None
   over f gt = lookup_none k.before f (below_more k.at f k.before (omega arith) below)
+
+  -- the disk reads no file behind the one being written
+  none_read : (g : ℕ) → k.at < g → state.reads g ≡ None
+  none_read g gt =
+      by_there (not_there gone k.at g (state.crash_states g) (state.reads g)
+      (subst (λ (x : Option (List Entry)). KeepsFile gone k.at g (option_map (file_bytes g) x) (state.crash_states g)) (over g gt) (k.others g (λ same. absurd (omega (arith, same, gt))))) (read g)) where
+    by_there : (state.reads g ≡ None) ⊎ IsBack gone k.at g (state.reads g) → state.reads g ≡ None
+    by_there (inl away) = away
+    by_there (inr back) = let lt = back.below in absurd (omega (arith, lt, gt))
 
   -- what the image has of a file that is not the one being written
   other : (f : ℕ) → f ≢ k.at → (o : Option (List Entry)) → lookup (λ n. n == f) k.before ≡ o → (image f ≡ option_map (file_bytes f) o) ⊎ ((o ≡ None) × IsBack gone k.at f (image f))
@@ -301,7 +310,7 @@ module _ (log gone : Log) (least : ℕ) (state : State) (image : Files) (is : Is
       let there : content image k.at ≡ bytes = ap (λ (o : Option (List ℕ)). unwrap_or o []) some in
       let entries : entries_at log k.at ≡ k.kept ++ k.more = ap (λ (o : Option (List Entry)). unwrap_or o []) found_at in
       subst (HoldsPrefix k.at (k.kept ++ k.more)) there
-      (subst (λ (es : List Entry). HoldsPrefix k.at es (content image k.at)) entries (found_left k.at (entries_at log k.at) (content state.reads k.at) (content image k.at) (holds k.at) (no_chance k.at)))
+      (subst (λ (es : List Entry). HoldsPrefix k.at es (content image k.at)) entries (found_left k.at (entries_at log k.at) (content state.reads k.at) (content image k.at) (holds k.at) (no_chance k.at (inr none_read))))
 
   count_at : (bytes : List ℕ) (prefix : ValidPrefix) → image k.at ≡ Some bytes → scan_of k.at bytes ≡ Prefix prefix → (k.kept ≡ []) ⊎ KeepsFront (file_bytes k.at k.kept) (state.crash_states k.at) → length k.kept ≤ length prefix.entries
   count_at bytes prefix some found (inl empty) = let none = ap length empty in omega (arith, none)
@@ -395,4 +404,4 @@ module _ (log gone : Log) (least : ℕ) (state : State) (image : Files) (is : Is
   leaves = record { first = first_files; whole = whole_files; others = not_logged; within = not_above }
 
 pub kept_is_left : KeptIsLeft
-kept_is_left log gone least state image is k holds img no_chance = leaves log gone least state image is k holds img no_chance
+kept_is_left log gone least state image is k holds read img no_chance = leaves log gone least state image is k holds read img no_chance

@@ -52,7 +52,7 @@ holds_front f entries bytes has = by_decoded (decoded has.zeros) refl where
   by_decoded (Whole e prev len) is = absurd (zeros_are_torn has.zeros e prev len has.are_zeros is)
 
 pub zeros_have_no_chance : ZerosHaveNoChance
-zeros_have_no_chance reads image prefixes filled f =
+zeros_have_no_chance reads image prefixes filled f may =
     let here = prefixes f in
     meets f (content reads f) (content image f) here.prefix here.found (by_case here.prefix here.found (filled f))
   where

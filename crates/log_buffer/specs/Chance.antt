@@ -26,9 +26,13 @@ abbrev pub IsFoundOf : FileScan → FileScan → Type 0
 IsFoundOf (Prefix read) (Prefix prefix) = IsFrontOf read.entries prefix.entries
 IsFoundOf read found = found ≡ read
 
--- No checksum matches by chance: in each file the valid prefix of the image consists of the first entries of the valid prefix that the disk reads there, or the two are found the same.
+-- the disk reads a file, or reads none behind it: it is not one that is missing among others
+abbrev pub MayBeRead : Files → ℕ → Type 0
+MayBeRead reads f = ((bytes : List ℕ) × (reads f ≡ Some bytes)) ⊎ ((g : ℕ) → f < g → reads g ≡ None)
+
+-- No checksum matches by chance: in each file that the disk reads, and behind the last of them, the valid prefix of the image consists of the first entries of the valid prefix that the disk reads there, or the two are found the same.
 abbrev pub NoChanceMatch : Files → Files → Type 0
-NoChanceMatch reads image = (f : ℕ) → IsFoundOf (scan_of f (content reads f)) (scan_of f (content image f))
+NoChanceMatch reads image = (f : ℕ) → MayBeRead reads f → IsFoundOf (scan_of f (content reads f)) (scan_of f (content image f))
 
 -- what is there of a file, if the log has it
 abbrev pub if_logged : {A B : Type 0} → Option A → Option B → Option B
@@ -85,7 +89,7 @@ pub record LeavesLog (log removed : Log) (least : ℕ) (image : Files) : Type 0 
 
 -- what a crash keeps of a log is in each image
 abbrev pub KeptIsLeft : Type 0
-KeptIsLeft = (log removed : Log) (least : ℕ) (state : State) (image : Files) → IsLog log → KeepsLog log removed least state.crash_states → HoldPrefixes log state.reads → AreFileImages state.crash_states image
+KeptIsLeft = (log removed : Log) (least : ℕ) (state : State) (image : Files) → IsLog log → KeepsLog log removed least state.crash_states → HoldPrefixes log state.reads → AreFileImages state.crash_states state.reads → AreFileImages state.crash_states image
     → NoChanceMatch state.reads image → LeavesLog log removed least image
 
 -- ---- which images meet the premise
