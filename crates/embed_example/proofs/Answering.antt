@@ -1,5 +1,5 @@
 -- An environment answers calls on behind a call and behind a sync.
-use Rattle.std.proofs.Common.{◌≡◌, ℕ, Bool, true, false, true≢false, None, Result, Ok, Err, sym, if◌then◌else◌}
+use Rattle.std.proofs.Common.{◌≡◌, ℕ, Bool, true, false, true≢false, None, Some, Result, Ok, Err, ap, sym, if◌then◌else◌}
 use Rattle.std.specs.declared.alloc.AllocError.{AllocError}
 use Rattle.je_disk.specs.Moments.{History, now}
 use Rattle.store_model.specs.declared.answer.Answer.TheVariants.{Done, DiskFault}
@@ -19,6 +19,11 @@ usable_at {most = most} {st = st} here bounds = record { most = most; st = st; h
 pub begun_valid : (st : Standing) (began : Bool) → began ≡ true → st.fault ≡ None → (after_event st (SyncBegin (if began then Done else DiskFault))).fault ≡ None
 begun_valid st true is valid = valid
 begun_valid st false is valid = absurd (true≢false (sym is))
+
+-- the sync that began is of the commits so far
+pub begun_out : (st : Standing) (began : Bool) → began ≡ true → (commits : ℕ) → commits ≡ st.commits → (after_event st (SyncBegin (if began then Done else DiskFault))).begun ≡ Some commits
+begun_out st true is commits same = ap (λ (n : ℕ). Some n) (sym same)
+begun_out st false is commits same = absurd (true≢false (sym is))
 
 -- it does so behind a call too, and where there was no memory for one
 pub usable_after : {D : Type 0} {observable : Bool} {history : D → History} {new : Environment D} (old : Environment D) (most : ℕ) (st left : Standing) (event : Outcome → Event) (result : Result Outcome AllocError) →

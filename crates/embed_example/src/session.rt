@@ -62,8 +62,9 @@ impl<D: Disk + Drop> Session<D> {
         if let Some(first) = self.environment.fault() {
             return Answer::Invalid { first };
         }
+        let begun = self.environment.commits();
         match self.environment.sync_begin() {
-            Some(job) => self.environment.sync_end(job.run()),
+            Some(job) => self.environment.sync_end(job.run(), begun),
             None => Answer::DiskFault,
         }
     }

@@ -1,5 +1,5 @@
 -- A guarded run that was closed, and one that begins.
-use Rattle.std.proofs.Common.{◌≡◌, ℕ, ◌≤◌, Bool, true, false, true≢false, List, [], None, length, refl, ap, sym, ◌∙◌, subst, arith, inl}
+use Rattle.std.proofs.Common.{◌≡◌, ℕ, ◌≤◌, Bool, true, false, true≢false, List, [], Option, None, length, refl, ap, sym, ◌∙◌, subst, arith, inl}
 use Rattle.std.proofs.lemmas.List.{append-nil, take_all}
 use Rattle.je_disk.specs.States.{Files, State}
 use Rattle.je_disk.specs.Moments.{History, now}
@@ -24,13 +24,13 @@ use Rattle.crash_recovery.proofs.ImageStores.{states_recover}
 use Rattle.engine.specs.Crash.{IsSafeRun, ImagesMean}
 use Rattle.engine.specs.Environment.{RecoversStore}
 use Rattle.engine.specs.Files.{MeanStore}
-use Rattle.engine.specs.Guarded.{IsGuardedLog, IsKeeping, IsRead}
+use Rattle.engine.specs.Guarded.{CoversSync, IsGuardedLog, IsKeeping, IsRead}
 use Rattle.engine.proofs.GuardLaws.{keeping_read}
 use Rattle.engine.proofs.SafeLaws.{as_many, files_on, goes_on, grown_same, none_more, read_on, safe}
 
 module _ {D : Type 0} where
   -- a run that was closed; one whose buffer has failed was let go
-  pub closed_safely : (st : Standing) (log : Log) (start : History) (old new : History) (buffer : LogBuffer D) (journal : List Event) → (g : IsGuardedLog st log start old buffer journal None) →
+  pub closed_safely : (st : Standing) (log : Log) (start : History) (old new : History) (buffer : LogBuffer D) (journal : List Event) → (g : IsGuardedLog st log start old buffer journal) →
       KeptThrough old new log [] g.least → (has_failed buffer ≡ true → new ≡ old) → IsSafeRun st start new journal
   closed_safely st log start old new buffer journal g through same = record {
     since = goes_on start old new (IsKeptSince log [] g.least (now old).reads) g.since through;
@@ -75,10 +75,10 @@ files_mean log state store r keeps = all_recovered r.opening store (length r.tra
 
 module _ {D : Type 0} where
   -- where the model stands at a log's store, of which a crash keeps all
-  pub guarded_none : (first : ℕ) (p : Alone) (log : Log) (history : History) (buffer : LogBuffer D) → p.fault ≡ None → p.commits ≡ 0 →
+  pub guarded_none : (first : ℕ) (p : Alone) (log : Log) (history : History) (buffer : LogBuffer D) → p.fault ≡ None → p.commits ≡ 0 → p.begun ≡ None →
       HasLog true (now history) buffer log → Holds log [] (length (entries_of log)) None (first_of buffer) (now history) → RecoversLog first p.store (length (placed log)) [] log →
-      IsGuardedLog (alone p) log history history buffer [] None
-  guarded_none first p log history buffer none commits has holds recovers =
+      IsGuardedLog (alone p) log history history buffer []
+  guarded_none first p log history buffer none commits out has holds recovers =
       let count : ℕ = length (entries_of log) in
       let keeping : IsKeeping (now history) buffer log count None = record { has = has; holds = holds } in
       let keeps : KeepsRead log [] count (now history) = keeping_read (now history) buffer log count None keeping in
@@ -92,7 +92,9 @@ module _ {D : Type 0} where
         base = length (placed log);
         least = count;
         kept = record { from = from; first = first; logged = []; cut = []; attempts = refl; recovers = recovers; synced = omega arith; keeps = keeps; read = read };
+        begun = None;
         works = λ valid. keeping;
+        covers = λ valid. subst (λ (n : Option ℕ). CoversSync n (length (placed log)) log None) (sym out) tt;
         all = λ valid. refl;
         stops = λ ok. none;
         faultless = λ valid. refl;

@@ -68,3 +68,5 @@ pub mod OpenedLaws
 pub mod UntouchedLaws
 -- What a crash leaves of an environment while it is opened.
 pub mod EntryLaws
+-- Which sync is out, through each event.
+pub mod Begun

@@ -35,7 +35,7 @@ use Rattle.crash_recovery.specs.Recovery.{IsImageRecovered, RecoversLog, IsState
 use Rattle.crash_recovery.proofs.Commits.{commits_stay, kept_are_within}
 use Rattle.crash_recovery.proofs.ImageStores.{states_recover, wider_image, wider_is_recovered, written_recover}
 use Rattle.engine.specs.Crash.{Follows, IsSafe, IsSafeEvent, AreSafeEvents, IsSafeBehind}
-use Rattle.engine.specs.Guarded.{IsKeeping, IsGuardedLog, IsRead}
+use Rattle.engine.specs.Guarded.{CoversSync, IsKeeping, IsGuardedLog, IsRead}
 
 -- ---- entries
 
@@ -272,9 +272,9 @@ read_event base log least more state journal event from rises keeps durable read
 
 module _ {D : Type 0} where
   -- a run with an event more, through whose moments a crash keeps as much of the log with the event, and maybe more behind them
-  pub guarded_by : (st : Standing) (log grown : Log) (start : History) (old new : History) (buffer longer : LogBuffer D) (journal : List Event) (event : Event) (before begun : Option ℕ) (least : ℕ)
+  pub guarded_by : (st : Standing) (log grown : Log) (start : History) (old new : History) (buffer longer : LogBuffer D) (journal : List Event) (event : Event) (begun : Option ℕ) (least : ℕ)
       (logged cut : List (List Change)) →
-      (g : IsGuardedLog st log start old buffer journal before) →
+      (g : IsGuardedLog st log start old buffer journal) →
       RecoversLog g.kept.first st.store g.base logged grown →
       IsGrownFrom g.base log grown →
       attempts_of st (journal ++ event ∷ []) ≡ logged ++ cut →
@@ -284,12 +284,13 @@ module _ {D : Type 0} where
       durable_by event ≤ commits_in g.base least (placed grown) →
       IsRead g.base grown least (now new) (journal ++ event ∷ []) →
       ((after_events st (journal ++ event ∷ [])).fault ≡ None → IsKeeping (now new) longer grown least begun) →
+      ((after_events st (journal ++ event ∷ [])).fault ≡ None → CoversSync (after_events st (journal ++ event ∷ [])).begun g.base grown begun) →
       ((after_events st (journal ++ event ∷ [])).fault ≡ None → cut ≡ []) →
       (has_failed longer ≡ false → (after_events st (journal ++ event ∷ [])).fault ≡ None) →
       ((after_events st (journal ++ event ∷ [])).fault ≡ None → ((after_events st journal).fault ≡ None) × (answers_some is_disk_fault event ≡ false)) →
       (has_answer is_disk_fault journal ≡ true → new.moment ≤ old.moment) →
-      IsGuardedLog st grown start new longer (journal ++ event ∷ []) begun
-  guarded_by st log grown start old new buffer longer journal event before begun least logged cut g recovers grows attempts through synced rises keeps durable read works whole stops quiet still =
+      IsGuardedLog st grown start new longer (journal ++ event ∷ [])
+  guarded_by st log grown start old new buffer longer journal event begun least logged cut g recovers grows attempts through synced rises keeps durable read works covers whole stops quiet still =
       let all : List Event = journal ++ event ∷ [] in
       let first : ℕ = g.kept.first in
       let from : g.base ≤ g.least = g.kept.from in
@@ -309,7 +310,9 @@ module _ {D : Type 0} where
         base = g.base;
         least = least;
         kept = record { from = from_now; first = first; logged = logged; cut = cut; attempts = attempts; recovers = recovers; synced = synced_now; keeps = keeps; read = read };
+        begun = begun;
         works = works;
+        covers = covers;
         all = whole;
         stops = stops;
         faultless = λ fault. let before_it = quiet fault in none-push is_disk_fault journal event (g.faultless before_it.0) before_it.1;
@@ -317,9 +320,9 @@ module _ {D : Type 0} where
       }
 
   -- the same where the event says that no more commits are written than a crash keeps
-  pub guarded_on : (st : Standing) (log grown : Log) (start : History) (old new : History) (buffer longer : LogBuffer D) (journal : List Event) (event : Event) (before begun : Option ℕ) (least : ℕ)
+  pub guarded_on : (st : Standing) (log grown : Log) (start : History) (old new : History) (buffer longer : LogBuffer D) (journal : List Event) (event : Event) (begun : Option ℕ) (least : ℕ)
       (logged cut : List (List Change)) →
-      (g : IsGuardedLog st log start old buffer journal before) →
+      (g : IsGuardedLog st log start old buffer journal) →
       RecoversLog g.kept.first st.store g.base logged grown →
       IsGrownFrom g.base log grown →
       attempts_of st (journal ++ event ∷ []) ≡ logged ++ cut →
@@ -328,15 +331,16 @@ module _ {D : Type 0} where
       g.least ≤ least → KeepsRead grown [] least (now new) →
       written_by event ≤ commits_in g.base least (placed grown) →
       ((after_events st (journal ++ event ∷ [])).fault ≡ None → IsKeeping (now new) longer grown least begun) →
+      ((after_events st (journal ++ event ∷ [])).fault ≡ None → CoversSync (after_events st (journal ++ event ∷ [])).begun g.base grown begun) →
       ((after_events st (journal ++ event ∷ [])).fault ≡ None → cut ≡ []) →
       (has_failed longer ≡ false → (after_events st (journal ++ event ∷ [])).fault ≡ None) →
       ((after_events st (journal ++ event ∷ [])).fault ≡ None → ((after_events st journal).fault ≡ None) × (answers_some is_disk_fault event ≡ false)) →
       (has_answer is_disk_fault journal ≡ true → new.moment ≤ old.moment) →
-      IsGuardedLog st grown start new longer (journal ++ event ∷ []) begun
-  guarded_on st log grown start old new buffer longer journal event before begun least logged cut g recovers grows attempts through synced rises keeps written works whole stops quiet still =
+      IsGuardedLog st grown start new longer (journal ++ event ∷ [])
+  guarded_on st log grown start old new buffer longer journal event begun least logged cut g recovers grows attempts through synced rises keeps written works covers whole stops quiet still =
       let from : g.base ≤ g.least = g.kept.from in
       let low = durable-written event in
-      guarded_by st log grown start old new buffer longer journal event before begun least logged cut g recovers grows attempts through synced rises keeps (omega (arith, low, written))
+      guarded_by st log grown start old new buffer longer journal event begun least logged cut g recovers grows attempts through synced rises keeps (omega (arith, low, written))
       (read_event g.base grown g.least least (now new) journal event (omega (arith, from, rises)) rises keeps written
       (read_on g.base log grown g.least (now old) (now new) journal grows (stay_now grown [] g.least old new through) g.kept.read))
-      works whole stops quiet still
+      works covers whole stops quiet still

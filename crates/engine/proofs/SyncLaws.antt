@@ -17,8 +17,8 @@ use Rattle.log_buffer.specs.declared.buffer.LogBuffer.{LogBuffer}
 use Rattle.log_buffer.specs.Buffer.{has_failed}
 use Rattle.log_buffer.specs.Crash.{KeepsRead, KeptThrough}
 use Rattle.log_buffer.proofs.Staying.{read_through}
-use Rattle.crash_recovery.proofs.Commits.{all_are_committed, kept_are_within}
-use Rattle.engine.specs.Guarded.{IsKeeping, IsGuardedLog}
+use Rattle.crash_recovery.proofs.Commits.{all_are_committed}
+use Rattle.engine.specs.Guarded.{CoversSync, IsKeeping, IsGuardedLog}
 use Rattle.engine.proofs.GuardLaws.{goes_freely, guarded_same, keeping_read}
 
 -- the last moment, where time may have stood still
@@ -39,46 +39,61 @@ commits_attempted st journal none =
     ap (λ (l : List (List Change)). length l) goes.1 ∙ length-append (commits_of st journal) (option_to_list goes.0) in
     omega (arith, count, all, none)
 
+-- a sync that is out, by its entries
+pub out_is : (now_begun : Option ℕ) (base : ℕ) (log : Log) (begun : Option ℕ) (commits : ℕ) → now_begun ≡ Some commits → CoversSync now_begun base log begun → (entries : ℕ) × (begun ≡ Some entries)
+out_is now_begun base log begun commits out covers = by_begun begun (subst (λ (n : Option ℕ). CoversSync n base log begun) out covers)
+  where
+    by_begun : (b : Option ℕ) → CoversSync (Some commits) base log b → (entries : ℕ) × (b ≡ Some entries)
+    by_begun None none = absurd none
+    by_begun (Some entries) some = (entries, refl)
+
 module _ {D : Type 0} where
-  -- a sync began
+  -- before a fault all attempts are logged
+  pub all_logged : (st : Standing) (log : Log) (start : History) (history : History) (buffer : LogBuffer D) (journal : List Event) → (g : IsGuardedLog st log start history buffer journal) →
+      (after_events st journal).fault ≡ None → attempts_of st journal ≡ g.kept.logged
+  all_logged st log start history buffer journal g none = g.kept.attempts ∙ ap (λ (l : List (List Change)). g.kept.logged ++ l) (g.all none) ∙ append-nil g.kept.logged
+
+  -- a sync began, of all that was committed so far
   pub begun_safely : (st : Standing) (log : Log) (start : History) (old new : History) (buffer longer : LogBuffer D) (journal : List Event) → (after_events st journal).fault ≡ None →
-      (g : IsGuardedLog st log start old buffer journal None) → KeptThrough old new log [] g.least →
+      (g : IsGuardedLog st log start old buffer journal) → KeptThrough old new log [] g.least →
       IsKeeping (now new) longer log g.least (Some (length (entries_of log))) →
-      IsGuardedLog st log start new longer (journal ++ SyncBegin Done ∷ []) (Some (length (entries_of log)))
+      IsGuardedLog st log start new longer (journal ++ SyncBegin Done ∷ [])
   begun_safely st log start old new buffer longer journal none g through keeping =
-      guarded_same st log start old new buffer longer journal (SyncBegin Done) None (Some (length (entries_of log))) g.least g refl through (omega arith)
+      let few = commits_attempted st journal g.none_before in
+      let all = ap (λ (l : List (List Change)). length l) (all_logged st log start old buffer journal g none) in
+      let committed = (all_are_committed g.kept.first st.store g.base g.kept.logged log g.kept.recovers).1 in
+      guarded_same st log start old new buffer longer journal (SyncBegin Done) (Some (length (entries_of log))) g.least g refl through (omega arith)
       (keeping_read (now new) longer log g.least (Some (length (entries_of log))) keeping) (omega arith)
-      (λ fault. keeping) (λ ok. none) (λ fault. (none, refl)) (goes_freely st log start old new buffer journal None g none)
+      (λ fault. keeping) (λ fault. (omega arith, omega (arith, few, all, committed))) (λ ok. none) (λ fault. (none, refl)) (goes_freely st log start old new buffer journal g none)
 
   -- a sync could not begin
   pub not_begun_safely : (st : Standing) (log : Log) (start : History) (old new : History) (buffer longer : LogBuffer D) (journal : List Event) → (after_events st journal).fault ≡ None →
-      (g : IsGuardedLog st log start old buffer journal None) → KeptThrough old new log [] g.least → has_failed longer ≡ true →
-      IsGuardedLog st log start new longer (journal ++ SyncBegin DiskFault ∷ []) None
+      (g : IsGuardedLog st log start old buffer journal) → KeptThrough old new log [] g.least → has_failed longer ≡ true →
+      IsGuardedLog st log start new longer (journal ++ SyncBegin DiskFault ∷ [])
   not_begun_safely st log start old new buffer longer journal none g through failed =
-      guarded_same st log start old new buffer longer journal (SyncBegin DiskFault) None None g.least g refl through (omega arith)
+      guarded_same st log start old new buffer longer journal (SyncBegin DiskFault) None g.least g refl through (omega arith)
       (passes_now old new (KeepsRead log [] g.least) (read_through log [] g.least old new through) g.kept.keeps) (omega arith)
-      (λ fault. absurd cc) (λ ok. absurd cc) (λ fault. absurd cc) (goes_freely st log start old new buffer journal None g none)
+      (λ fault. absurd cc) (λ fault. absurd cc) (λ ok. absurd cc) (λ fault. absurd cc) (goes_freely st log start old new buffer journal g none)
 
-  -- a sync ended, and made all commits durable
-  pub ended_safely : (st : Standing) (log : Log) (start : History) (commits : ℕ) (old new : History) (buffer longer : LogBuffer D) (journal : List Event) → (after_events st journal).fault ≡ None →
-      commits ≡ (after_events st journal).commits →
-      (g : IsGuardedLog st log start old buffer journal (Some (length (entries_of log)))) → KeptThrough old new log [] g.least →
-      IsKeeping (now new) longer log (length (entries_of log)) None →
-      IsGuardedLog st log start new longer (journal ++ SyncEnd (Durable commits) ∷ []) None
-  ended_safely st log start commits old new buffer longer journal none count g through keeping =
-      let few = commits_attempted st journal g.none_before in
-      let all : length (attempts_of st journal) ≡ length g.kept.logged =
-      ap (λ (l : List (List Change)). length l) (g.kept.attempts ∙ ap (λ (l : List (List Change)). g.kept.logged ++ l) (g.all none) ∙ append-nil g.kept.logged) in
-      let committed = (all_are_committed g.kept.first st.store g.base g.kept.logged log g.kept.recovers).1 in
-      guarded_same st log start old new buffer longer journal (SyncEnd (Durable commits)) (Some (length (entries_of log))) None (length (entries_of log)) g refl through
-      (kept_are_within log [] g.least (now old).crash_states g.kept.keeps.keeps) (keeping_read (now new) longer log (length (entries_of log)) None keeping) (omega (arith, few, all, committed, count))
-      (λ fault. keeping) (λ ok. none) (λ fault. (none, refl)) (goes_freely st log start old new buffer journal (Some (length (entries_of log))) g none)
+  -- a sync ended, and made durable what was committed as it began, whatever was logged since
+  pub ended_safely : (st : Standing) (log : Log) (start : History) (commits entries : ℕ) (old new : History) (buffer longer : LogBuffer D) (journal : List Event) → (after_events st journal).fault ≡ None →
+      (after_events st journal).begun ≡ Some commits →
+      (g : IsGuardedLog st log start old buffer journal) → g.begun ≡ Some entries → KeptThrough old new log [] g.least → g.least ≤ entries →
+      IsKeeping (now new) longer log entries None →
+      IsGuardedLog st log start new longer (journal ++ SyncEnd (Durable commits) ∷ [])
+  ended_safely st log start commits entries old new buffer longer journal none began g is through rises keeping =
+      let covered : CoversSync (Some commits) g.base log (Some entries) =
+      subst (λ (n : Option ℕ). CoversSync n g.base log (Some entries)) began (subst (λ (b : Option ℕ). CoversSync (after_events st journal).begun g.base log b) is (g.covers none)) in
+      let few = covered.1 in
+      guarded_same st log start old new buffer longer journal (SyncEnd (Durable commits)) None entries g refl through
+      rises (keeping_read (now new) longer log entries None keeping) (omega (arith, few))
+      (λ fault. keeping) (λ fault. tt) (λ ok. none) (λ fault. (none, refl)) (goes_freely st log start old new buffer journal g none)
 
   -- the disk failed as it ended
-  pub not_ended_safely : (st : Standing) (log : Log) (start : History) (old new : History) (buffer longer : LogBuffer D) (journal : List Event) (begun : Option ℕ) → (after_events st journal).fault ≡ None →
-      (g : IsGuardedLog st log start old buffer journal begun) → KeptThrough old new log [] g.least → has_failed longer ≡ true →
-      IsGuardedLog st log start new longer (journal ++ SyncEnd DiskFault ∷ []) None
-  not_ended_safely st log start old new buffer longer journal begun none g through failed =
-      guarded_same st log start old new buffer longer journal (SyncEnd DiskFault) begun None g.least g refl through (omega arith)
+  pub not_ended_safely : (st : Standing) (log : Log) (start : History) (old new : History) (buffer longer : LogBuffer D) (journal : List Event) → (after_events st journal).fault ≡ None →
+      (g : IsGuardedLog st log start old buffer journal) → KeptThrough old new log [] g.least → has_failed longer ≡ true →
+      IsGuardedLog st log start new longer (journal ++ SyncEnd DiskFault ∷ [])
+  not_ended_safely st log start old new buffer longer journal none g through failed =
+      guarded_same st log start old new buffer longer journal (SyncEnd DiskFault) None g.least g refl through (omega arith)
       (passes_now old new (KeepsRead log [] g.least) (read_through log [] g.least old new through) g.kept.keeps) (omega arith)
-      (λ fault. absurd cc) (λ ok. absurd cc) (λ fault. absurd cc) (goes_freely st log start old new buffer journal begun g none)
+      (λ fault. absurd cc) (λ fault. absurd cc) (λ ok. absurd cc) (λ fault. absurd cc) (goes_freely st log start old new buffer journal g none)

@@ -29,7 +29,7 @@ use Rattle.crash_recovery.proofs.Commits.{all_are_committed}
 use Rattle.txn_log.specs.Own.{OwnChange}
 use Rattle.txn_log.specs.Buffers.{HasGiven}
 use Rattle.txn_log.specs.Gives.{GivesRecordsWith}
-use Rattle.engine.specs.Guarded.{IsGuardedLog, IsKeeping, IsRead}
+use Rattle.engine.specs.Guarded.{CoversSync, IsGuardedLog, IsKeeping, IsRead}
 use Rattle.engine.proofs.GuardLaws.{goes_freely, guarded_same, keeping_read}
 use Rattle.engine.proofs.ObservedLaws.{as_observed, of_observed}
 use Rattle.engine.proofs.SafeLaws.{as_many, attempts-push, grown_same, guarded_by, written-push}
@@ -38,7 +38,7 @@ use Rattle.engine.proofs.SyncLaws.{commits_attempted, passes_now}
 module _ {D : Type 0} where
   -- where a disk reads a whole guarded log, the commits so far are written
   all_read : (st : Standing) (log : Log) (start : History) (old : History) (state : State) (commits : ℕ) (buffer other : LogBuffer D) (journal : List Event) → (after_events st journal).fault ≡ None →
-      commits ≡ (after_events st journal).commits → (g : IsGuardedLog st log start old buffer journal None) → HasLog true state other log → ReadAs true state.reads log →
+      commits ≡ (after_events st journal).commits → (g : IsGuardedLog st log start old buffer journal) → HasLog true state other log → ReadAs true state.reads log →
       IsRead g.base log g.least state (journal ++ WriteOut (Durable commits) ∷ [])
   all_read st log start old state commits buffer other journal none count g has reads =
       let few = commits_attempted st journal g.none_before in
@@ -60,43 +60,43 @@ module _ {D : Type 0} where
   module _ (observable : Bool) (history : D → History) (sync_out read_out : D → Option ℕ) (read_of : D → ℕ) where
     -- all that was appended was written out: from then on the disk reads the commits so far
     pub written_safely : (st : Standing) (log : Log) (start : History) (commits : ℕ) (buffer other : LogBuffer D) (journal : List Event) → observable ≡ true → (after_events st journal).fault ≡ None →
-        commits ≡ (after_events st journal).commits → IsGuardedLog st log start (history (disk_of buffer)) buffer journal None → Grew observable history sync_out read_out read_of buffer other [] →
+        commits ≡ (after_events st journal).commits → IsGuardedLog st log start (history (disk_of buffer)) buffer journal → Grew observable history sync_out read_out read_of buffer other [] →
         ((l : Log) → HasLog observable (now (history (disk_of buffer))) buffer l → ReadAs observable (now (history (disk_of other))).reads l) →
-        IsGuardedLog st log start (history (disk_of other)) other (journal ++ WriteOut (Durable commits) ∷ []) None
+        IsGuardedLog st log start (history (disk_of other)) other (journal ++ WriteOut (Durable commits) ∷ [])
     written_safely st log start commits buffer other journal observed none count g grew whole =
         let old : History = history (disk_of buffer) in
         let new : History = history (disk_of other) in
         let event : Event = WriteOut (Durable commits) in
-        let keeping : IsKeeping (now old) buffer log g.least None = g.works none in
+        let keeping : IsKeeping (now old) buffer log g.least g.begun = g.works none in
         let has = as_observed observable (now old) buffer log observed keeping.has in
-        let kept : IsKeeping (now new) other log g.least None = record {
+        let kept : IsKeeping (now new) other log g.least g.begun = record {
           has = of_observed observable (now new) other log observed (grew.log log has);
-          holds = grew.holds observed log [] g.least None has keeping.holds;
+          holds = grew.holds observed log [] g.least g.begun has keeping.holds;
         } in
-        let keeps : KeepsRead log [] g.least (now new) = keeping_read (now new) other log g.least None kept in
+        let keeps : KeepsRead log [] g.least (now new) = keeping_read (now new) other log g.least g.begun kept in
         let then_ : after_events st (journal ++ event ∷ []) ≡ after_events st journal = after_events-append st journal (event ∷ []) in
         let attempts : attempts_of st (journal ++ event ∷ []) ≡ g.kept.logged ++ g.kept.cut = attempts-push st journal event ∙ append-nil (attempts_of st journal) ∙ g.kept.attempts in
         let read : IsRead g.base log g.least (now new) (journal ++ event ∷ []) =
         all_read st log start old (now new) commits buffer other journal none count g kept.has
         (subst (λ (b : Bool). ReadAs b (now new).reads log) observed (whole log has)) in
-        guarded_by st log log start old new buffer other journal event None None g.least g.kept.logged g.kept.cut g g.kept.recovers (grown_same g.base log) attempts
-        (grew.crash observed log [] g.least None has keeping.holds) g.kept.synced (omega arith) keeps (omega arith) read
-        (λ fault. kept) (λ fault. g.all none) (λ ok. ap (λ (s : Standing). s.fault) then_ ∙ none) (λ fault. (none, refl))
-        (goes_freely st log start old new buffer journal None g none)
+        guarded_by st log log start old new buffer other journal event g.begun g.least g.kept.logged g.kept.cut g g.kept.recovers (grown_same g.base log) attempts
+        (grew.crash observed log [] g.least g.begun has keeping.holds) g.kept.synced (omega arith) keeps (omega arith) read
+        (λ fault. kept) (λ fault. subst (λ (t : Standing). CoversSync t.begun g.base log g.begun) (sym then_) (g.covers none)) (λ fault. g.all none) (λ ok. ap (λ (s : Standing). s.fault) then_ ∙ none) (λ fault. (none, refl))
+        (goes_freely st log start old new buffer journal g none)
 
     -- the disk failed meanwhile
     pub not_written_safely : (st : Standing) (log : Log) (start : History) (buffer other : LogBuffer D) (journal : List Event) → observable ≡ true → (after_events st journal).fault ≡ None →
-        IsGuardedLog st log start (history (disk_of buffer)) buffer journal None → Tried observable history sync_out read_out read_of buffer other [] →
-        IsGuardedLog st log start (history (disk_of other)) other (journal ++ WriteOut DiskFault ∷ []) None
+        IsGuardedLog st log start (history (disk_of buffer)) buffer journal → Tried observable history sync_out read_out read_of buffer other [] →
+        IsGuardedLog st log start (history (disk_of other)) other (journal ++ WriteOut DiskFault ∷ [])
     not_written_safely st log start buffer other journal observed none g tried =
         let old : History = history (disk_of buffer) in
         let new : History = history (disk_of other) in
-        let keeping : IsKeeping (now old) buffer log g.least None = g.works none in
-        let through : KeptThrough old new log [] g.least = tried.crash observed log [] g.least None (as_observed observable (now old) buffer log observed keeping.has) keeping.holds in
+        let keeping : IsKeeping (now old) buffer log g.least g.begun = g.works none in
+        let through : KeptThrough old new log [] g.least = tried.crash observed log [] g.least g.begun (as_observed observable (now old) buffer log observed keeping.has) keeping.holds in
         let failed = tried.failed in
-        guarded_same st log start old new buffer other journal (WriteOut DiskFault) None None g.least g refl through (omega arith)
+        guarded_same st log start old new buffer other journal (WriteOut DiskFault) g.begun g.least g refl through (omega arith)
         (passes_now old new (KeepsRead log [] g.least) (read_through log [] g.least old new through) g.kept.keeps) (omega arith)
-        (λ fault. absurd cc) (λ ok. absurd cc) (λ fault. absurd cc) (goes_freely st log start old new buffer journal None g none)
+        (λ fault. absurd cc) (λ fault. absurd cc) (λ ok. absurd cc) (λ fault. absurd cc) (goes_freely st log start old new buffer journal g none)
 
     -- where the log got nothing it gives what it did
     pub given_on : (buffer other : LogBuffer D) (log : Log) (rows : Rows) (last_txn last_db : ℕ) (is_active : ℕ → Bool) (own : ℕ → List OwnChange) → Grew observable history sync_out read_out read_of buffer other [] →

@@ -1,5 +1,5 @@
 -- What the parts of a run keep of its log. No clause of the top call speaks of these.
-use Rattle.std.specs.Prelude.{ℕ, ◌≡◌, ◌≤◌, ◌⊎◌, [], ◌++◌, length, List, Option, None, Bool, true, false}
+use Rattle.std.specs.Prelude.{ℕ, ◌≡◌, ◌≤◌, ◌⊎◌, [], ◌++◌, length, List, Option, None, Some, Bool, true, false}
 use Rattle.je_disk.specs.States.{State}
 use Rattle.je_disk.specs.Moments.{History, now}
 use Rattle.store_model.specs.declared.change.Change.{Change}
@@ -45,6 +45,12 @@ pub record IsKept (st : Standing) (base : ℕ) (log : Log) (least : ℕ) (state 
   pub keeps : KeepsRead log [] least state
   pub read : IsRead base log least state journal
 
+-- A sync is out that began when so many transactions were committed: once it has ended a crash keeps entries that commit them all. Where none is out nothing is said.
+abbrev pub CoversSync : Option ℕ → ℕ → Log → Option ℕ → Type 0
+CoversSync None base log begun = Unit {0}
+CoversSync (Some commits) base log None = ⊥
+CoversSync (Some commits) base log (Some entries) = (entries ≤ length (entries_of log)) × (commits ≤ commits_in base entries (placed log))
+
 module _ {D : Type 0} where
   -- the buffer has this log; a crash keeps at least so many of its entries, and more once a sync that is out has ended
   pub record IsKeeping (state : State) (buffer : LogBuffer D) (log : Log) (least : ℕ) (begun : Option ℕ) : Type 0 where
@@ -52,7 +58,7 @@ module _ {D : Type 0} where
     pub holds : Holds log [] least begun (first_of buffer) state
 
   -- A run under way whose disk was safe at each moment of it, and the log that it has now. A buffer that works has met no fault, and has the log.
-  pub record IsGuardedLog (st : Standing) (log : Log) (start : History) (history : History) (buffer : LogBuffer D) (journal : List Event) (begun : Option ℕ) : Type 0 where
+  pub record IsGuardedLog (st : Standing) (log : Log) (start : History) (history : History) (buffer : LogBuffer D) (journal : List Event) : Type 0 where
     pub since : Follows start history
     pub begins : IsSafe st [] [] (now start)
     pub events : AreSafeEvents st history (λ from over. from ≡ history.moment) start.moment [] journal
@@ -60,7 +66,9 @@ module _ {D : Type 0} where
     pub base : ℕ
     pub least : ℕ
     pub kept : IsKept st base log least (now history) journal
+    pub begun : Option ℕ
     pub works : (after_events st journal).fault ≡ None → IsKeeping (now history) buffer log least begun
+    pub covers : (after_events st journal).fault ≡ None → CoversSync (after_events st journal).begun base log begun
     pub all : (after_events st journal).fault ≡ None → kept.cut ≡ []
     pub stops : has_failed buffer ≡ false → (after_events st journal).fault ≡ None
     pub faultless : (after_events st journal).fault ≡ None → has_answer is_disk_fault journal ≡ false

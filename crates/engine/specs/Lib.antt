@@ -1,4 +1,5 @@
 pub mod Untouched
+pub mod Syncs
 pub mod Limits
 pub mod Contents
 pub mod Environment

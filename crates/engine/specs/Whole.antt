@@ -1,5 +1,5 @@
 -- An engine as one value. Users speak of it by these alone; what it is made of may change below them.
-use Rattle.std.specs.Prelude.{ℕ, suc, ◌≡◌, ◌≤◌, ◌<◌, ◌^◌, ◌+◌, ◌++◌, ◌∷◌, [], List, Option, None, Some, Bool, Result, Ok, Err, true, false, length, map, if◌then◌else◌}
+use Rattle.std.specs.Prelude.{ℕ, suc, ◌≡◌, ◌≤◌, ◌<◌, ◌^◌, ◌+◌, ◌++◌, ◌∷◌, [], List, Option, None, Bool, Result, Ok, Err, true, false, length, map, if◌then◌else◌}
 use Rattle.std.specs.declared.alloc.AllocError.{AllocError}
 use Rattle.je_disk.specs.States.{Files, State, synced_crash_states}
 use Rattle.je_disk.specs.Moments.{History, now}
@@ -13,7 +13,7 @@ use Rattle.je_answers.specs.Standing.{Standing}
 use Rattle.je_answers.specs.Events.{IsAnswered, IsSyncBegun, IsSyncEnded}
 use Rattle.je_answers.specs.After.{after_event}
 use Rattle.je_answers.specs.Journal.{changes_by}
-use Rattle.log_file.specs.Log.{Log, entries_of}
+use Rattle.log_file.specs.Log.{Log}
 use Rattle.log_replay.specs.Logging.{all_row_changes}
 use Rattle.log_replay.specs.Rows.{numbers_of}
 use Rattle.record_tree.specs.declared.tree_change.TreeChange.{TreeChange}
@@ -121,12 +121,7 @@ module _ {D : Type 0} where
 
   -- a run under way whose disk was safe at each moment of it, with this journal so far
   abbrev pub IsGuarded : ℕ → Standing → History → History → Engine D → List Event → Type 0
-  IsGuarded most st start history engine journal = (log : Log) × IsGuardedLog st log start history engine.trees.log journal None
-
-  -- the same while a sync is out of all that was logged
-  abbrev pub IsGuardedInSync : ℕ → Standing → History → History → Engine D → List Event → Type 0
-  IsGuardedInSync most st start history engine journal =
-      (log : Log) × IsGuardedLog st log start history engine.trees.log journal (Some (length (entries_of log)))
+  IsGuarded most st start history engine journal = (log : Log) × IsGuardedLog st log start history engine.trees.log journal
 
   -- the file in which a log ends, were the image of each node that waits in a file of its own; a log that failed grows no more, and reaches none
   abbrev pub end_file : LogTrees D → ℕ
@@ -173,13 +168,12 @@ module _ {D : Type 0} where
 
   -- a sync began, of all that was logged, or the disk failed
   abbrev pub BeginsSafely : ℕ → Standing → History → History → Engine D → List Event → Bool → Type 0
-  BeginsSafely most st start history engine journal true = IsGuardedInSync most st start history engine (journal ++ SyncBegin Done ∷ [])
+  BeginsSafely most st start history engine journal true = IsGuarded most st start history engine (journal ++ SyncBegin Done ∷ [])
   BeginsSafely most st start history engine journal false = IsGuarded most st start history engine (journal ++ SyncBegin DiskFault ∷ [])
 
-  -- a sync made the commits so far durable, or the disk failed
+  -- a sync made durable the commits as it began, or the disk failed
   abbrev pub EndsSync : ℕ → Bool → State → Engine D → Standing → Answer → Type 0
-  EndsSync most observable state engine st answer =
-      IsSyncEnded None (Some st.commits) answer × IsAt most observable state engine (after_event (record st { begun = Some st.commits }) (SyncEnd answer))
+  EndsSync most observable state engine st answer = IsSyncEnded None st.begun answer × IsAt most observable state engine (after_event st (SyncEnd answer))
 
   -- an engine was opened: the model starts from what the files mean, and the log goes on in the last of them
   pub record IsOpenedAt (most : ℕ) (observable : Bool) (files : Files) (state : State) (engine : Engine D) (opening : Store) (st : Standing) : Type 0 where

@@ -21,7 +21,7 @@ ghost use Rattle.in_tree.specs.Observed.{cells_of, has_tree_of, limit_in};
 ghost use Rattle.txn_core.specs.Totals.{totals_of};
 ghost use Rattle.engine.specs.Limits.{IsWithin, last_number, numbers_for, reach_after};
 ghost use Rattle.engine.specs.Steps.{HasStepCause, IsNumbered, LogsChanges, refusal_by, txn_of};
-ghost use Rattle.engine.specs.Whole.{AreLeft, AreTrees, BeginsSafely, BeginsSync, CanGoOn, EndsNear, EndsSync, GoesOn, GoesOnSafely, HasLimit, IsAt, IsGuarded, IsGuardedInSync, LeavesCells, LeavesTrees, contents, disk_of, reach_of};
+ghost use Rattle.engine.specs.Whole.{AreLeft, AreTrees, BeginsSafely, BeginsSync, CanGoOn, EndsNear, EndsSync, GoesOn, GoesOnSafely, HasLimit, IsAt, IsGuarded, LeavesCells, LeavesTrees, contents, disk_of, reach_of};
 
 use crate::kept::Kept;
 use in_tree::LogTrees;
@@ -194,14 +194,14 @@ impl<D: Disk> Engine<D> {
     }
 
     /// Ends the sync that is out: the commits before its beginning are durable, or the disk failed. It
-    /// takes no memory.
-    pub fn sync_end(&mut self, done: <D::Job as SyncJob>::Done) -> Answer
+    /// takes no memory. `begun` is how many commits there were as it began.
+    pub fn sync_end(&mut self, done: <D::Job as SyncJob>::Done, begun: u64) -> Answer
         requires { D.sync_out (disk_of self.old) ≡ Some (D.Job.Done.done_number done) }
-        ensures ends { (most : ℕ) (st : Standing) → IsAt most D.observable (now (D.history (disk_of self.old))) self.old st → st.fault ≡ None
+        ensures ends { (most : ℕ) (st : Standing) → IsAt most D.observable (now (D.history (disk_of self.old))) self.old st → st.fault ≡ None → st.begun ≡ Some begun
             → EndsSync most D.observable (now (D.history (disk_of self.new))) self.new st result }
         ensures crash { D.observable ≡ true → (most : ℕ) (st : Standing) (start : History) (journal : List Event)
-            → IsAt most D.observable (now (D.history (disk_of self.old))) self.old (after_events st journal) → (after_events st journal).fault ≡ None
-            → IsGuardedInSync most st start (D.history (disk_of self.old)) self.old journal
+            → IsAt most D.observable (now (D.history (disk_of self.old))) self.old (after_events st journal) → (after_events st journal).fault ≡ None → (after_events st journal).begun ≡ Some begun
+            → IsGuarded most st start (D.history (disk_of self.old)) self.old journal
             → IsGuarded most st start (D.history (disk_of self.new)) self.new (journal ++ SyncEnd result ∷ []) }
         ensures within { IsWithin (reach_of self.new) (reach_of self.old) }
         ensures indexes { self.new.kept.indexes ≡ self.old.kept.indexes }
@@ -212,7 +212,7 @@ impl<D: Disk> Engine<D> {
     {
         match self.trees.log.sync_end(done) {
             Ok(()) => Answer::Durable {
-                commit: self.kept.commits,
+                commit: begun,
             },
             Err(_) => {
                 self.kept.fault = Some(Fault::Disk);

@@ -34,6 +34,7 @@ use Rattle.standing_laws.proofs.StandingsStay.{standings_stay-right}
 use Rattle.standing_laws.proofs.StandingsBare.{standings_stay-bare}
 use Rattle.txn_core.specs.Known.{committed}
 use Rattle.engine.specs.Guarded.{IsGuardedLog}
+use Rattle.engine.specs.Syncs.{is_sync}
 use Rattle.engine.specs.Limits.{IsBounded, IsWithin, last_number, limit_by, most_changed, most_logged, numbers_for, reach_after}
 use Rattle.engine.proofs.GuardedCalls.{guarded_along}
 use Rattle.engine.proofs.GuardedEvents.{guarded_idle, guarded_grown, guarded_tried}
@@ -118,14 +119,14 @@ module _ {D : Type 0} where
   -- ---- a guarded run
 
   module _ (observable : Bool) (history : D → History) (sync_out read_out : D → Option ℕ) (read_of : D → ℕ) where
-    pub guarded_step : (st : Standing) (start : History) (old new : LogBuffer D) (journal : List Event) (event : Event) (more : List (List Change)) (log : Log) → observable ≡ true →
+    pub guarded_step : (st : Standing) (start : History) (old new : LogBuffer D) (journal : List Event) (event : Event) (more : List (List Change)) (log : Log) → observable ≡ true → is_sync event ≡ false →
         IsLogStep observable history sync_out read_out read_of (answers_some is_disk_fault event) old new more → attempt_of (after_events st journal) event ≡ more → written_out event ≡ 0 →
         (after_events st journal).fault ≡ None → (after_event (after_events st journal) event).fault ≡ cond (answers_some is_disk_fault event) (Some Disk) None →
-        IsGuardedLog st log start (history (disk_below old)) old journal None → (grown : Log) × IsGuardedLog st grown start (history (disk_below new)) new (journal ++ event ∷ []) None
-    guarded_step st start old new journal event more log observed step is durable none fault g = by_fault (answers_some is_disk_fault event) refl step
+        IsGuardedLog st log start (history (disk_below old)) old journal → (grown : Log) × IsGuardedLog st grown start (history (disk_below new)) new (journal ++ event ∷ [])
+    guarded_step st start old new journal event more log observed apart step is durable none fault g = by_fault (answers_some is_disk_fault event) refl step
       where
         Goal : Type 0
-        Goal = (grown : Log) × IsGuardedLog st grown start (history (disk_below new)) new (journal ++ event ∷ []) None
+        Goal = (grown : Log) × IsGuardedLog st grown start (history (disk_below new)) new (journal ++ event ∷ [])
 
         not_none : Some Disk ≡ None → ⊥
         not_none e = absurd cc
@@ -133,19 +134,19 @@ module _ {D : Type 0} where
         by_fault : (b : Bool) → answers_some is_disk_fault event ≡ b → IsLogStep observable history sync_out read_out read_of b old new more → Goal
         by_fault false calm (inl idle) = (
           log,
-          guarded_idle history st log start old new journal event idle.0 none (is ∙ idle.1) durable calm (fault ∙ ap (λ (b : Bool). cond b (Some Disk) None) calm ∙ sym none) g,
+          guarded_idle history st log start old new journal event apart idle.0 none (is ∙ idle.1) durable calm (fault ∙ ap (λ (b : Bool). cond b (Some Disk) None) calm ∙ sym none) g,
         )
         by_fault false calm (inr grown) = (
           _,
           guarded_grown observable history sync_out read_out read_of st log start old new journal event more grown.entries observed g
-              (record { more_is = is; durable = durable; before = none; after = fault ∙ ap (λ (b : Bool). cond b (Some Disk) None) calm; calm = calm })
+              (record { other = apart; more_is = is; durable = durable; before = none; after = fault ∙ ap (λ (b : Bool). cond b (Some Disk) None) calm; calm = calm })
               grown.grew
               (grown.recovers observed log (subst (λ (b : Bool). HasLog b (now (history (disk_below old))) old log) (sym observed) (g.works none).has) g.kept.first st.store g.base g.kept.logged g.kept.recovers),
         )
         by_fault true failed step_ = (
           _,
           guarded_tried observable history sync_out read_out read_of st log start old new journal event more step_.front observed g
-              (record { more_is = is; durable = durable; before = none; after = λ e. not_none (sym (fault ∙ ap (λ (b : Bool). cond b (Some Disk) None) failed) ∙ e) })
+              (record { other = apart; more_is = is; durable = durable; before = none; after = λ e. not_none (sym (fault ∙ ap (λ (b : Bool). cond b (Some Disk) None) failed) ∙ e) })
               step_.tried (by_either step_.recovers),
         )
           where
@@ -194,7 +195,7 @@ module _ {D : Type 0} where
         grows = λ most st here. (comes most st here).near;
         crash = λ observed most st start journal here is.
             let has = comes most (after_events st journal) here in
-            guarded_step st start old.engine.trees.log new.engine.trees.log journal (called session line call o) _ is.0 observed has.logged refl refl (fault_none most (after_events st journal) here) has.fault is.1;
+            guarded_step st start old.engine.trees.log new.engine.trees.log journal (called session line call o) _ is.0 observed refl has.logged refl refl (fault_none most (after_events st journal) here) has.fault is.1;
         stays = tt;
       }
       answers_call (Err error) comes near = record {

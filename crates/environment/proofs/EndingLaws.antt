@@ -467,9 +467,9 @@ module _ {D : Type 0} where
 
   -- after a fault the buffer's log does not matter
   guarded_faulted : (history_of : D → History) (st : Standing) (log : Log) (start : History) (buffer other : LogBuffer D) (journal : List Event) (first : Fault) → IsUnchanged buffer other →
-      (after_events st journal).fault ≡ Some first → IsGuardedLog st log start (history_of (disk_of buffer)) buffer journal None → IsGuardedLog st log start (history_of (disk_of other)) other journal None
+      (after_events st journal).fault ≡ Some first → IsGuardedLog st log start (history_of (disk_of buffer)) buffer journal → IsGuardedLog st log start (history_of (disk_of other)) other journal
   guarded_faulted history_of st log start buffer other journal first same fault g =
-      let h : IsGuardedLog st log start (history_of (disk_of other)) buffer journal None = subst (λ (d : D). IsGuardedLog st log start (history_of d) buffer journal None) (sym same.disk) g in
+      let h : IsGuardedLog st log start (history_of (disk_of other)) buffer journal = subst (λ (d : D). IsGuardedLog st log start (history_of d) buffer journal) (sym same.disk) g in
       record {
         since = h.since;
         begins = h.begins;
@@ -478,7 +478,9 @@ module _ {D : Type 0} where
         base = h.base;
         least = h.least;
         kept = h.kept;
+        begun = h.begun;
         works = λ none. absurd (none-some first (sym none ∙ fault));
+        covers = λ none. absurd (none-some first (sym none ∙ fault));
         all = h.all;
         stops = λ ok. h.stops (sym same.failed ∙ ok);
         faultless = h.faultless;
@@ -486,7 +488,7 @@ module _ {D : Type 0} where
       }
 
   pub ended_safely : (history_of : D → History) (st : Standing) (log : Log) (start : History) (buffer other : LogBuffer D) (journal : List Event) (session : ℕ) → IsUnchanged buffer other →
-      IsGuardedLog st log start (history_of (disk_of buffer)) buffer journal None → IsGuardedLog st log start (history_of (disk_of other)) other (journal ++ End session ∷ []) None
+      IsGuardedLog st log start (history_of (disk_of buffer)) buffer journal → IsGuardedLog st log start (history_of (disk_of other)) other (journal ++ End session ∷ [])
   ended_safely history_of st log start buffer other journal session same g = by (after_events st journal).fault refl
     where
       before : Standing
@@ -495,7 +497,7 @@ module _ {D : Type 0} where
       fault : (after_event before (End session)).fault ≡ before.fault
       fault = ended_fault (active_of session before.actives) (record before { waiting = without_wait session before.waiting })
 
-      by : (f : Option Fault) → before.fault ≡ f → IsGuardedLog st log start (history_of (disk_of other)) other (journal ++ End session ∷ []) None
-      by None e = guarded_idle history_of st log start buffer other journal (End session) same e refl refl refl fault g
+      by : (f : Option Fault) → before.fault ≡ f → IsGuardedLog st log start (history_of (disk_of other)) other (journal ++ End session ∷ [])
+      by None e = guarded_idle history_of st log start buffer other journal (End session) refl same e refl refl refl fault g
       by (Some first) e =
-          guarded_quiet st log start (history_of (disk_of other)) other journal (End session) refl refl refl fault (guarded_faulted history_of st log start buffer other journal first same e g)
+          guarded_quiet st log start (history_of (disk_of other)) other journal (End session) refl refl refl refl fault (guarded_faulted history_of st log start buffer other journal first same e g)

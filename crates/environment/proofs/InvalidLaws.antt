@@ -70,7 +70,7 @@ module _ {D : Type 0} (observable : Bool) (history : D → History) (e : Environ
         grows = λ most st here. within_more e e (written_call st session call) (same_reach e);
         crash = λ observed most st start journal here is_.
             let i = invalid most (after_events st journal) here in
-            (is_.0, guarded_quiet st is_.0 start (history (disk_of e)) e.engine.trees.log journal (Called session line call (Invalid first) []) i.attempt refl refl (ap (λ (s : Standing). s.fault) i.after) is_.1);
+            (is_.0, guarded_quiet st is_.0 start (history (disk_of e)) e.engine.trees.log journal (Called session line call (Invalid first) []) refl i.attempt refl refl (ap (λ (s : Standing). s.fault) i.after) is_.1);
         stays = tt;
       }))
 

@@ -1,16 +1,16 @@
 -- An environment that was opened stands at a beginning, from which journals lead on.
-use Rattle.std.proofs.Common.{◌≡◌, ◌∙◌, ℕ, Bool, List, Option, None, Some, inl, refl, sym, subst}
+use Rattle.std.proofs.Common.{◌≡◌, ◌⊎◌, ◌∙◌, ℕ, Bool, List, Option, None, Some, refl, sym, subst}
 use Rattle.je_disk.specs.States.{Files}
 use Rattle.store_model.specs.declared.store.Store.{Store}
 use Rattle.store_model.specs.Indexes.{AreIndexed}
 use Rattle.store_model.specs.Store.{IsStore}
 use Rattle.store_model.specs.declared.answer.Answer.{Answer}
-use Rattle.store_model.specs.declared.answer.Answer.TheVariants.{Done}
+use Rattle.store_model.specs.declared.answer.Answer.TheVariants.{Durable, DiskFault}
 use Rattle.store_model.specs.declared.answer.Fault.{Fault}
 use Rattle.store_model.specs.declared.event.Event.TheVariants.{SyncBegin, SyncEnd}
 use Rattle.je_answers.specs.Standing.{Standing}
 use Rattle.je_answers.specs.After.{after_event}
-use Rattle.je_answers.specs.Events.{Covers, IsSyncBegun, IsSyncEnded}
+use Rattle.je_answers.specs.Events.{IsSyncEnded}
 use Rattle.engine.specs.Opening.{AreNumbers, StartsAt}
 use Rattle.serial_replay.specs.Laws.{HaveNumbers}
 use Rattle.serial_replay.specs.Reached.{IsBeginning, IsReached}
@@ -32,8 +32,7 @@ pub starts_reached : (observable : Bool) (files : Files) (opening : Store) (st :
 starts_reached observable files opening st starts =
     subst IsReached (sym starts.st_is) (beginnings_are-reached starts.alone_at (starts_begins observable files opening st starts))
 
--- a sync that began may end
-pub sync_reached : (st : Standing) (answer : Answer) → IsReached st → st.fault ≡ None → Covers (Some st.commits) answer → IsReached (after_event (record st { begun = Some st.commits }) (SyncEnd answer))
-sync_reached st answer reached none covers =
-    let begun : IsReached (record st { begun = Some st.commits }) = reached_goes-on None st (SyncBegin Done) reached (subst (λ (f : Option Fault). IsSyncBegun f Done) (sym none) (inl refl)) in
-    reached_goes-on None (record st { begun = Some st.commits }) (SyncEnd answer) begun (subst (λ (f : Option Fault). IsSyncEnded f (Some st.commits) answer) (sym none) covers)
+-- a sync that is out may end
+pub ends_by : (st : Standing) (commits : ℕ) (answer : Answer) → st.fault ≡ None → st.begun ≡ Some commits → (answer ≡ Durable commits) ⊎ (answer ≡ DiskFault) → IsSyncEnded st.fault st.begun answer
+ends_by st commits answer none out is =
+    subst (λ (f : Option Fault). IsSyncEnded f st.begun answer) (sym none) (subst (λ (n : Option ℕ). IsSyncEnded None n answer) (sym out) is)

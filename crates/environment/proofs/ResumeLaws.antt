@@ -329,7 +329,7 @@ module _ {D : Type 0} where
       crash = λ observed most st start journal line here m is.
           let before = after_events st journal in
           let g = going most before line here m in let has = again most before m.wait here.at.sessions_at g.at_mid g.may in
-          guarded_step observable history sync_out read_out read_of st start old.engine.trees.log new.engine.trees.log journal (resumed_by session line o) _ is.0 observed has.logged (attempts before line m o) refl g.none
+          guarded_step observable history sync_out read_out read_of st start old.engine.trees.log new.engine.trees.log journal (resumed_by session line o) _ is.0 observed refl has.logged (attempts before line m o) refl g.none
           (ap (λ (x : Standing). x.fault) (after_is most before line m o g) ∙ has.fault) is.1;
       stays = tt;
       settles = λ most st line here m.
@@ -419,7 +419,7 @@ module _ {D : Type 0} (observable : Bool) (history : D → History) (old : Envir
         grows = λ most st line here m. within_written most st line here m;
         crash = λ observed most st start journal line here m is_.
             let i = faulted_is most (after_events st journal) line here m in
-            (is_.0, guarded_quiet st is_.0 start (history (disk_of old)) old.engine.trees.log journal (Resume session line (Invalid first) []) i.attempt refl refl (ap (λ (x : Standing). x.fault) i.after) is_.1);
+            (is_.0, guarded_quiet st is_.0 start (history (disk_of old)) old.engine.trees.log journal (Resume session line (Invalid first) []) refl i.attempt refl refl (ap (λ (x : Standing). x.fault) i.after) is_.1);
         stays = tt;
         settles = λ most st line here m.
             let i = faulted_is most st line here m in

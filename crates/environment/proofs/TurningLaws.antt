@@ -264,7 +264,7 @@ module _ {D : Type 0} (observable : Bool) (history : D → History) (sync_out re
       (after_events st journal).fault ≡ None → Turned most old new (after_events st journal) line step result → IsGuarded most st start (history (disk_of old)) old journal →
       TurnsSafely most st start (history (disk_of new)) new journal line step result
   guarded_turn most old new st start journal line step (Ok answer) observed none h is =
-      guarded_step observable history sync_out read_out read_of st start old.engine.trees.log new.engine.trees.log journal (Turn line step answer) [] is.0 observed h.log refl refl none h.fault is.1
+      guarded_step observable history sync_out read_out read_of st start old.engine.trees.log new.engine.trees.log journal (Turn line step answer) [] is.0 observed refl h.log refl refl none h.fault is.1
   guarded_turn most old new st start journal line step (Err error) observed none h is =
       (is.0, guarded_along history st is.0 start old.engine.trees.log new.engine.trees.log journal h.log is.1 none)
 

@@ -305,7 +305,7 @@ module _ {D : Type 0} (observable : Bool) (history : D → History) (sync_out re
       IsGuarded most st start (history (disk_of e)) e (journal ++ Turn line step (Invalid first) ∷ [])
   invalid_safely e first most st start journal line step is = (
     is.0,
-    guarded_quiet st is.0 start (history (disk_of e)) e.engine.trees.log journal (Turn line step (Invalid first)) refl refl refl
+    guarded_quiet st is.0 start (history (disk_of e)) e.engine.trees.log journal (Turn line step (Invalid first)) refl refl refl refl
         (ap (λ (s : Standing). s.fault) (invalid_stays step (after_events st journal) first)) is.1,
   )
 

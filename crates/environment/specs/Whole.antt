@@ -54,12 +54,7 @@ module _ {D : Type 0} where
 
   -- a run under way whose disk was safe at each moment of it, with this journal so far
   abbrev pub IsGuarded : ℕ → Standing → History → History → Environment D → List Event → Type 0
-  IsGuarded most st start history environment journal = (log : Log) × IsGuardedLog st log start history environment.engine.trees.log journal None
-
-  -- the same while a sync is out of all that was logged
-  abbrev pub IsGuardedInSync : ℕ → Standing → History → History → Environment D → List Event → Type 0
-  IsGuardedInSync most st start history environment journal =
-      (log : Log) × IsGuardedLog st log start history environment.engine.trees.log journal (Some (length (entries_of log)))
+  IsGuarded most st start history environment journal = (log : Log) × IsGuardedLog st log start history environment.engine.trees.log journal
 
   -- the file in which the log ends, were the image of each node that waits in a file of its own, and each Commit that is owed; a log that failed
   -- grows no more, and reaches none
@@ -109,13 +104,12 @@ module _ {D : Type 0} where
 
   -- a sync began, of all that was logged, or the disk failed
   abbrev pub BeginsSafely : ℕ → Standing → History → History → Environment D → List Event → Bool → Type 0
-  BeginsSafely most st start history environment journal true = IsGuardedInSync most st start history environment (journal ++ SyncBegin Done ∷ [])
+  BeginsSafely most st start history environment journal true = IsGuarded most st start history environment (journal ++ SyncBegin Done ∷ [])
   BeginsSafely most st start history environment journal false = IsGuarded most st start history environment (journal ++ SyncBegin DiskFault ∷ [])
 
-  -- a sync made the commits so far durable, or the disk failed
+  -- a sync made durable the commits as it began, or the disk failed
   abbrev pub EndsSync : ℕ → Bool → State → Environment D → Standing → Answer → Type 0
-  EndsSync most observable state environment st answer =
-      IsSyncEnded None (Some st.commits) answer × IsAt most observable state environment (after_event (record st { begun = Some st.commits }) (SyncEnd answer))
+  EndsSync most observable state environment st answer = IsSyncEnded None st.begun answer × IsAt most observable state environment (after_event st (SyncEnd answer))
 
   -- an environment was opened: the model starts from what the files mean, and the log goes on in the last of them
   pub record IsOpenedAt (most : ℕ) (observable : Bool) (files : Files) (state : State) (environment : Environment D) (opening : Store) (st : Standing) : Type 0 where

@@ -15,7 +15,7 @@ ghost use Rattle.engine.specs.Limits.{IsWithin, reach_after};
 ghost use Rattle.engine.specs.Steps.{IsNumbered};
 ghost use Rattle.environment.specs.Calls.{HasCause, MayResume, called};
 ghost use Rattle.environment.specs.Limits.{owing_after, written_call};
-ghost use Rattle.environment.specs.Whole.{BeginsSafely, BeginsSync, CanGoOn, EndsSync, GoesOn, GoesOnSafely, HasLimit, IsAt, IsGuarded, IsGuardedInSync, disk_of, reach_of};
+ghost use Rattle.environment.specs.Whole.{BeginsSafely, BeginsSync, CanGoOn, EndsSync, GoesOn, GoesOnSafely, HasLimit, IsAt, IsGuarded, disk_of, reach_of};
 
 use crate::outcome::Outcome;
 use crate::written::Written;
@@ -112,6 +112,13 @@ impl<D: Disk> Environment<D> {
         self.engine.kept.fault
     }
 
+    /// How many transactions were committed since the opening.
+    pub fn commits(&self) -> u64
+        ensures { (most : ℕ) (st : Standing) → IsAt most D.observable (now (D.history (disk_of self.now))) self.now st → result ≡ st.commits }
+    {
+        self.engine.kept.commits
+    }
+
     /// Begins a sync of the commits so far: the log is written out, and the job is to be run. None where
     /// the disk failed. It takes no memory.
     pub fn sync_begin(&mut self) -> Option<D::Job>
@@ -136,14 +143,14 @@ impl<D: Disk> Environment<D> {
     }
 
     /// Ends the sync that is out: the commits before its beginning are durable, or the disk failed. It
-    /// takes no memory.
-    pub fn sync_end(&mut self, done: <D::Job as SyncJob>::Done) -> Answer
+    /// takes no memory. `begun` is what `commits` was as it began, whatever was committed since.
+    pub fn sync_end(&mut self, done: <D::Job as SyncJob>::Done, begun: u64) -> Answer
         requires { D.sync_out (disk_of self.old) ≡ Some (D.Job.Done.done_number done) }
-        ensures ends { (most : ℕ) (st : Standing) → IsAt most D.observable (now (D.history (disk_of self.old))) self.old st → st.fault ≡ None
+        ensures ends { (most : ℕ) (st : Standing) → IsAt most D.observable (now (D.history (disk_of self.old))) self.old st → st.fault ≡ None → st.begun ≡ Some begun
             → EndsSync most D.observable (now (D.history (disk_of self.new))) self.new st result }
         ensures crash { D.observable ≡ true → (most : ℕ) (st : Standing) (start : History) (journal : List Event)
-            → IsAt most D.observable (now (D.history (disk_of self.old))) self.old (after_events st journal) → (after_events st journal).fault ≡ None
-            → IsGuardedInSync most st start (D.history (disk_of self.old)) self.old journal
+            → IsAt most D.observable (now (D.history (disk_of self.old))) self.old (after_events st journal) → (after_events st journal).fault ≡ None → (after_events st journal).begun ≡ Some begun
+            → IsGuarded most st start (D.history (disk_of self.old)) self.old journal
             → IsGuarded most st start (D.history (disk_of self.new)) self.new (journal ++ SyncEnd result ∷ []) }
         ensures within { IsWithin (reach_of self.new) (reach_of self.old) }
         ensures bounds { CanGoOn self.old → CanGoOn self.new }
@@ -152,7 +159,7 @@ impl<D: Disk> Environment<D> {
     {
         match self.engine.trees.log.sync_end(done) {
             Ok(()) => Answer::Durable {
-                commit: self.engine.kept.commits,
+                commit: begun,
             },
             Err(_) => {
                 self.engine.kept.fault = Some(Fault::Disk);

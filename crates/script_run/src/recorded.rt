@@ -166,6 +166,7 @@ impl<D: Disk> Recorded<D> {
         ensures gained { (stopped : List Bool) → HasGained stopped self.old.journal.items self.new.journal.items }
         ensures room { HasRoom 3 self.old → HasRoom 1 self.new }
     {
+        let begun = self.environment.commits();
         let Some(job) = self.environment.sync_begin() else {
             let answer = Answer::DiskFault;
             record(&mut self.journal, Event::SyncBegin { answer });
@@ -173,7 +174,7 @@ impl<D: Disk> Recorded<D> {
         };
         let answer = Answer::Done;
         record(&mut self.journal, Event::SyncBegin { answer });
-        let answer = self.environment.sync_end(job.run());
+        let answer = self.environment.sync_end(job.run(), begun);
         record(&mut self.journal, Event::SyncEnd { answer });
     }
 

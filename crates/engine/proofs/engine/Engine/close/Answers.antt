@@ -1,4 +1,4 @@
-use Rattle.std.proofs.Common.{false, None, ap, sym, subst, ◌≡◌}
+use Rattle.std.proofs.Common.{false, ap, sym, subst, ◌≡◌}
 use Rattle.je_disk.specs.Moments.{now}
 use Rattle.je_answers.specs.After.{after_events}
 use Rattle.log_file.specs.Log.{Log}
@@ -8,6 +8,7 @@ use Rattle.log_buffer.specs.Log.{HasLog}
 use Rattle.engine.specs.Guarded.{IsGuardedLog}
 use Rattle.engine.specs.Whole.{contents_of}
 use Rattle.engine.proofs.ClosedLaws.{closed_images, closed_safely, files_mean}
+use Rattle.engine.proofs.GuardLaws.{keeping_any}
 use Rattle.engine.proofs.WholeLaws.{valid_at}
 use Rattle.engine.proofs.engine.Engine.close.Goals as goal
 
@@ -15,9 +16,9 @@ pub returns-clause-crash : goal.returns-clause-crash
 returns-clause-crash g c = λ observed most st start journal is.
     let buffer = c.into_parts-log.result.0 in
     let log : Log = is.0 in
-    let guarded = subst (λ (b : LogBuffer g.row.D.Denot). IsGuardedLog st log start (g.D.Disk.history (disk_of b)) b journal None) (sym c.into_parts-log.ensures.log) is.1 in
+    let guarded = subst (λ (b : LogBuffer g.row.D.Denot). IsGuardedLog st log start (g.D.Disk.history (disk_of b)) b journal) (sym c.into_parts-log.ensures.log) is.1 in
     closed_safely st log start (g.D.Disk.history (disk_of buffer)) (g.D.Disk.history c.close_log-disk.result.0) buffer journal guarded
-    (c.close_log-disk.ensures.crash observed log guarded.least (λ works. guarded.works (guarded.stops works)))
+    (c.close_log-disk.ensures.crash observed log guarded.least (λ works. keeping_any (now (g.D.Disk.history (disk_of buffer))) buffer log guarded.least guarded.begun (guarded.works (guarded.stops works))))
     (λ failed. ap (λ (d : g.row.D.Denot). g.D.Disk.history d) (c.close_log-disk.ensures.still failed))
 
 pub returns-clause-images : goal.returns-clause-images

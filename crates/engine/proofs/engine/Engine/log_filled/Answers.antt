@@ -1,4 +1,4 @@
-use Rattle.std.proofs.Common.{◌≡◌, ◌∙◌, ◌+◌, refl, sym, subst, ap, length, nat_lt, true, false, List, None}
+use Rattle.std.proofs.Common.{◌≡◌, ◌∙◌, ◌+◌, refl, sym, subst, ap, length, nat_lt, List, None}
 use Rattle.std.specs.List.{AllByRecursion}
 use Rattle.log_entry.specs.Body.{IsEntry}
 use Rattle.record_tree.specs.Logged.{entry_for}

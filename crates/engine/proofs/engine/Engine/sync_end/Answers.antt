@@ -1,33 +1,35 @@
-use Rattle.std.proofs.Common.{[], None, Some, Err, length, ap, refl, inl, inr}
+use Rattle.std.proofs.Common.{ℕ, [], Option, None, Some, Err, ap, refl, sym, subst, inl, inr}
 use Rattle.je_disk.specs.Moments.{now}
 use Rattle.je_disk.specs.States.{State}
 use Rattle.store_model.specs.declared.answer.Answer.TheVariants.{Durable, DiskFault}
 use Rattle.store_model.specs.declared.answer.Fault.TheVariants.{Disk}
 use Rattle.store_model.specs.declared.event.Event.TheVariants.{SyncEnd}
 use Rattle.je_answers.specs.Standing.{Standing}
-use Rattle.je_answers.specs.After.{after_event}
-use Rattle.log_buffer.specs.Buffer.{disk_of}
-use Rattle.log_file.specs.Log.{Log, entries_of}
+use Rattle.je_answers.specs.After.{after_event, after_events}
+use Rattle.je_answers.specs.Events.{IsSyncEnded}
+use Rattle.log_buffer.specs.Buffer.{disk_of, first_of}
+use Rattle.log_buffer.specs.Crash.{Holds}
+use Rattle.log_file.specs.Log.{Log}
 use Rattle.engine.specs.Whole.{contents_of}
 use Rattle.engine.proofs.ObservedLaws.{as_observed, of_observed}
 use Rattle.engine.proofs.SyncedStanding.{faulted_at, synced_at}
-use Rattle.engine.proofs.SyncLaws.{ended_safely, not_ended_safely}
-use Rattle.engine.proofs.WholeLaws.{commits_at, still_works, works_at}
+use Rattle.engine.proofs.SyncLaws.{ended_safely, not_ended_safely, out_is}
+use Rattle.engine.proofs.WholeLaws.{still_works, works_at}
 use Rattle.engine.proofs.engine.Engine.sync_end.Goals as goal
 
 pub returns-in-Ok-clause-ends : goal.returns-in-Ok-clause-ends
-returns-in-Ok-clause-ends g c = λ most st here none.
+returns-in-Ok-clause-ends g c = λ most st here none out.
     let state : g.row.D.Denot → State = λ d. now (g.D.Disk.history d) in
     let old = c.args.self.now in
     let new = c.sync_end.new.self in
     let p = here.at.alone_at in
     let trees = here.trees none in
     let same = c.sync_end.ensures.kept in (
-      inl (ap Durable (commits_at most g.D.Disk.observable (state (disk_of old.trees.log)) old.trees.log (contents_of old) st here.at)),
+      subst (λ (n : Option ℕ). IsSyncEnded None n (Durable c.args.begun)) (sym out) (inl refl),
       record {
         at = record {
           alone_at = record p { begun = None };
-          st_is = ap (λ (s : Standing). after_event (record s { begun = Some s.commits }) (SyncEnd (Durable old.kept.commits))) here.at.st_is;
+          st_is = ap (λ (s : Standing). after_event s (SyncEnd (Durable c.args.begun))) here.at.st_is;
           here = synced_at most g.D.Disk.observable (state (disk_of old.trees.log)) (state (disk_of new)) old.trees.log new (contents_of old) p None here.at.here
               c.in-Ok.ensures.log same.end same.max (still_works c.sync_end.result c.in-Ok.field-0 new c.in-Ok.is c.sync_end.ensures.cause.failed);
         };
@@ -36,17 +38,17 @@ returns-in-Ok-clause-ends g c = λ most st here none.
     )
 
 pub returns-in-Err-clause-ends : goal.returns-in-Err-clause-ends
-returns-in-Err-clause-ends g c = λ most st here none.
+returns-in-Err-clause-ends g c = λ most st here none out.
     let state : g.row.D.Denot → State = λ d. now (g.D.Disk.history d) in
     let old = c.args.self.now in
     let new = c.sync_end.new.self in
     let p = here.at.alone_at in
     let trees = here.trees none in (
-      inr refl,
+      subst (λ (n : Option ℕ). IsSyncEnded None n DiskFault) (sym out) (inr refl),
       record {
         at = record {
           alone_at = record p { fault = Some Disk; begun = None };
-          st_is = ap (λ (s : Standing). after_event (record s { begun = Some s.commits }) (SyncEnd DiskFault)) here.at.st_is;
+          st_is = ap (λ (s : Standing). after_event s (SyncEnd DiskFault)) here.at.st_is;
           here = faulted_at most g.D.Disk.observable (state (disk_of old.trees.log)) (state (disk_of new)) old.trees.log new (contents_of old) (record (contents_of old) { fault = Some Disk }) p None here.at.here
               (record { totals = refl; last_txn = refl; last_db = refl; last_node = refl; commits = refl; fault = refl; checkpoints = refl }) c.sync_end.ensures.kept.max;
         };
@@ -55,36 +57,38 @@ returns-in-Err-clause-ends g c = λ most st here none.
     )
 
 pub returns-in-Ok-clause-crash : goal.returns-in-Ok-clause-crash
-returns-in-Ok-clause-crash g c = λ observed most st start journal here none is.
-    let log : Log = is.0 in
-    let guarded = is.1 in
-    let state : g.row.D.Denot → State = λ d. now (g.D.Disk.history d) in
-    let engine = c.args.self.now in
-    let old = engine.trees.log in
-    let new = c.sync_end.new.self in
-    let keeping = guarded.works none in
-    let has = as_observed g.D.Disk.observable (state (disk_of old)) old log observed keeping.has in (
-      log,
-      ended_safely st log start engine.kept.commits (g.D.Disk.history (disk_of old)) (g.D.Disk.history (disk_of new)) old new journal none
-          (commits_at most g.D.Disk.observable (state (disk_of old)) old (contents_of engine) _ here.at) guarded
-          (c.sync_end.ensures.crash observed log [] guarded.least (length (entries_of log)) has keeping.holds)
-          (record {
-            has = of_observed g.D.Disk.observable (state (disk_of new)) new log observed (c.in-Ok.ensures.log log has);
-            holds = c.in-Ok.ensures.holds observed log [] guarded.least (length (entries_of log)) has keeping.holds;
-          }),
-    )
-
-pub returns-in-Err-clause-crash : goal.returns-in-Err-clause-crash
-returns-in-Err-clause-crash g c = λ observed most st start journal here none is.
+returns-in-Ok-clause-crash g c = λ observed most st start journal here none out is.
     let log : Log = is.0 in
     let guarded = is.1 in
     let state : g.row.D.Denot → State = λ d. now (g.D.Disk.history d) in
     let old = c.args.self.now.trees.log in
     let new = c.sync_end.new.self in
-    let keeping = guarded.works none in (
+    let keeping = guarded.works none in
+    let has = as_observed g.D.Disk.observable (state (disk_of old)) old log observed keeping.has in
+    let covered = out_is (after_events st journal).begun guarded.base log guarded.begun c.args.begun out (guarded.covers none) in
+    let holds : Holds log [] guarded.least (Some covered.0) (first_of old) (state (disk_of old)) = subst (λ (b : Option ℕ). Holds log [] guarded.least b (first_of old) (state (disk_of old))) covered.1 keeping.holds in (
       log,
-      not_ended_safely st log start (g.D.Disk.history (disk_of old)) (g.D.Disk.history (disk_of new)) old new journal (Some (length (entries_of log))) none guarded
-          (c.sync_end.ensures.crash observed log [] guarded.least (length (entries_of log)) (as_observed g.D.Disk.observable (state (disk_of old)) old log observed keeping.has) keeping.holds)
+      ended_safely st log start c.args.begun covered.0 (g.D.Disk.history (disk_of old)) (g.D.Disk.history (disk_of new)) old new journal none out guarded covered.1
+          (c.sync_end.ensures.crash observed log [] guarded.least covered.0 has holds) holds.job.no_less
+          (record {
+            has = of_observed g.D.Disk.observable (state (disk_of new)) new log observed (c.in-Ok.ensures.log log has);
+            holds = c.in-Ok.ensures.holds observed log [] guarded.least covered.0 has holds;
+          }),
+    )
+
+pub returns-in-Err-clause-crash : goal.returns-in-Err-clause-crash
+returns-in-Err-clause-crash g c = λ observed most st start journal here none out is.
+    let log : Log = is.0 in
+    let guarded = is.1 in
+    let state : g.row.D.Denot → State = λ d. now (g.D.Disk.history d) in
+    let old = c.args.self.now.trees.log in
+    let new = c.sync_end.new.self in
+    let keeping = guarded.works none in
+    let covered = out_is (after_events st journal).begun guarded.base log guarded.begun c.args.begun out (guarded.covers none) in
+    let holds : Holds log [] guarded.least (Some covered.0) (first_of old) (state (disk_of old)) = subst (λ (b : Option ℕ). Holds log [] guarded.least b (first_of old) (state (disk_of old))) covered.1 keeping.holds in (
+      log,
+      not_ended_safely st log start (g.D.Disk.history (disk_of old)) (g.D.Disk.history (disk_of new)) old new journal none guarded
+          (c.sync_end.ensures.crash observed log [] guarded.least covered.0 (as_observed g.D.Disk.observable (state (disk_of old)) old log observed keeping.has) holds)
           (c.in-Err.ensures.cause.failed.1 (ap Err c.in-Err.ensures.by_fault)),
     )
 

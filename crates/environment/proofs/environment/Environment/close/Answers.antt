@@ -6,6 +6,7 @@ use Rattle.log_buffer.specs.declared.buffer.LogBuffer.{LogBuffer}
 use Rattle.log_buffer.specs.Buffer.{disk_of, has_failed}
 use Rattle.log_buffer.specs.Log.{HasLog}
 use Rattle.engine.specs.Guarded.{IsGuardedLog}
+use Rattle.engine.proofs.GuardLaws.{keeping_any}
 use Rattle.engine.proofs.ClosedLaws.{closed_images, closed_safely, files_mean}
 use Rattle.environment.proofs.environment.Environment.close.Goals as goal
 
@@ -13,9 +14,9 @@ pub returns-clause-crash : goal.returns-clause-crash
 returns-clause-crash g c = λ observed most st start journal is.
     let buffer = c.into_parts-log.result.0 in
     let log : Log = is.0 in
-    let guarded = subst (λ (b : LogBuffer g.row.D.Denot). IsGuardedLog st log start (g.D.Disk.history (disk_of b)) b journal None) (sym c.into_parts-log.ensures.log) is.1 in
+    let guarded = subst (λ (b : LogBuffer g.row.D.Denot). IsGuardedLog st log start (g.D.Disk.history (disk_of b)) b journal) (sym c.into_parts-log.ensures.log) is.1 in
     closed_safely st log start (g.D.Disk.history (disk_of buffer)) (g.D.Disk.history c.close_log-disk.result.0) buffer journal guarded
-    (c.close_log-disk.ensures.crash observed log guarded.least (λ works. guarded.works (guarded.stops works)))
+    (c.close_log-disk.ensures.crash observed log guarded.least (λ works. keeping_any (now (g.D.Disk.history (disk_of buffer))) buffer log guarded.least guarded.begun (guarded.works (guarded.stops works))))
     (λ failed. ap (λ (d : g.row.D.Denot). g.D.Disk.history d) (c.close_log-disk.ensures.still failed))
 
 pub returns-clause-images : goal.returns-clause-images

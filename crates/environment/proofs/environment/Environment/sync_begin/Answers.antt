@@ -50,10 +50,10 @@ returns-in-Ok-clause-crash g c = λ observed most st start journal none is.
     let has = as_observed g.D.Disk.observable (state (disk_of old)) old log observed keeping.has in (
       log,
       begun_safely st log start (g.D.Disk.history (disk_of old)) (g.D.Disk.history (disk_of new)) old new journal none guarded
-          (c.sync_begin.ensures.crash observed log [] guarded.least None has keeping.holds)
+          (c.sync_begin.ensures.crash observed log [] guarded.least guarded.begun has keeping.holds)
           (record {
             has = of_observed g.D.Disk.observable (state (disk_of new)) new log observed (c.in-Ok.ensures.log log has);
-            holds = c.in-Ok.ensures.holds observed log [] guarded.least None has keeping.holds;
+            holds = c.in-Ok.ensures.holds observed log [] guarded.least guarded.begun has keeping.holds;
           }),
     )
 
@@ -67,7 +67,7 @@ returns-in-Err-clause-crash g c = λ observed most st start journal none is.
     let keeping = guarded.works none in (
       log,
       not_begun_safely st log start (g.D.Disk.history (disk_of old)) (g.D.Disk.history (disk_of new)) old new journal none guarded
-          (c.sync_begin.ensures.crash observed log [] guarded.least None (as_observed g.D.Disk.observable (state (disk_of old)) old log observed keeping.has) keeping.holds)
+          (c.sync_begin.ensures.crash observed log [] guarded.least guarded.begun (as_observed g.D.Disk.observable (state (disk_of old)) old log observed keeping.has) keeping.holds)
           (c.in-Err.ensures.cause.failed.1 (ap Err c.in-Err.ensures.by_fault)),
     )
 

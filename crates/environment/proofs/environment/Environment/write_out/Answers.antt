@@ -18,7 +18,7 @@ use Rattle.environment.proofs.environment.Environment.write_out.Goals as goal
 pub returns-in-Some-clause-crash : goal.returns-in-Some-clause-crash
 returns-in-Some-clause-crash g c = λ observed most st start journal here is. (
   is.0,
-  guarded_quiet st is.0 start (g.D.Disk.history (disk_of c.args.self.now.engine.trees.log)) c.args.self.now.engine.trees.log journal (WriteOut (Invalid c.in-Some.first)) refl refl refl refl is.1,
+  guarded_quiet st is.0 start (g.D.Disk.history (disk_of c.args.self.now.engine.trees.log)) c.args.self.now.engine.trees.log journal (WriteOut (Invalid c.in-Some.first)) refl refl refl refl refl is.1,
 )
 
 pub returns-in-Ok-clause-goes_on : goal.returns-in-Ok-clause-goes_on

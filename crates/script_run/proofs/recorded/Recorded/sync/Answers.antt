@@ -1,7 +1,7 @@
 use Rattle.script_run.proofs.EndLaws.{gained_one, gained_then}
 use Rattle.script_run.proofs.Standings.{alike_by, faulted_actives, faulted_waits}
 use Rattle.script_run.proofs.Steps.{synced_by}
-use Rattle.std.proofs.Common.{List, [], ◌∷◌, ◌++◌, ◌≡◌, None, Option, refl, inl, inr, ap, sym, ◌∙◌, subst}
+use Rattle.std.proofs.Common.{ℕ, List, [], ◌∷◌, ◌++◌, ◌≡◌, None, Some, Option, refl, inl, inr, ap, sym, ◌∙◌, subst}
 use Rattle.std.specs.Option.{is_some}
 use Rattle.je_disk.specs.Moments.{now}
 use Rattle.je_answers.specs.Events.{IsSyncBegun, IsSyncEnded}
@@ -83,7 +83,8 @@ returns-clause-goes_on g c = λ p under.
     let stands : after_events p.st begun ≡ st1 = after_events-append p.st x.journal.items (SyncBegin Done ∷ []) in
     let here1 : IsAt p.most observable (now (history (disk_of middle))) middle st1 =
     subst (λ (s : Standing). IsAt p.most observable (now (history (disk_of middle))) middle s) stands syncing.here in
-    let ends = e.ends p.most st1 here1 valid in
+    let out : st1.begun ≡ Some c.commits-begun.result = ap (λ (n : ℕ). Some n) (sym (c.commits-begun.ensures p.most st under.running.here)) in
+    let ends = e.ends p.most st1 here1 valid out in
     let done = running_push observable history faults p Ending Nothing middle new begun (SyncEnd ending) syncing
     (subst (λ (s : Standing). IsNextEvent observable history faults p Ending Nothing middle new (last_after None begun) s (SyncEnd ending)) (sym stands) (record {
       done = record { limit = None; bounded = inl refl; answered = subst (λ (f : Option Fault). IsSyncEnded f st1.begun ending) (sym valid) ends.0; here = ends.1 };
@@ -103,7 +104,7 @@ returns-clause-goes_on g c = λ p under.
       guarded = λ observed.
           let guarded_begun = b.crash observed p.most p.st p.start x.journal.items valid (under.guarded observed) in
           subst (λ (l : List Event). IsGuarded p.most p.st p.start (history (disk_of new)) new l) (sym {A = List Event} all)
-          (e.crash observed p.most p.st p.start begun syncing.here (subst (λ (s : Standing). s.fault ≡ None) (sym stands) valid) guarded_begun);
+          (e.crash observed p.most p.st p.start begun syncing.here (subst (λ (s : Standing). s.fault ≡ None) (sym stands) valid) (ap (λ (s : Standing). s.begun) stands ∙ out) guarded_begun);
     }
 
 pub returns-in_default-clause-alike : goal.returns-in_default-clause-alike
@@ -148,4 +149,5 @@ returns-clause-synced g c = λ p under.
     let m : Recorded g.row.D.Denot = record { environment = c.sync_begin.new.self; journal = c.record-2.new.journal } in
     let y : Recorded g.row.D.Denot = record { environment = c.sync_end-answer.new.self; journal = c.record-3.new.journal } in
     synced_by p x m y c.sync_end-answer.result c.record-2.ensures.items c.record-3.ensures.items
-    (c.sync_end-answer.ensures.ends p.most (after_event st (SyncBegin Done)) (c.in-Some.ensures.begins p.most st under.running.here valid).1 valid).0
+    (c.sync_end-answer.ensures.ends p.most (after_event st (SyncBegin Done)) (c.in-Some.ensures.begins p.most st under.running.here valid).1 valid
+        (ap (λ (n : ℕ). Some n) (sym (c.commits-begun.ensures p.most st under.running.here)))).0
