@@ -159,7 +159,7 @@ impl LockTable {
         ensures settled { IsLockTable self.new }
     {
         release_in(&mut self.queues, &mut self.lists, txn);
-        let _ = self.pending.remove(&txn);
+        drop(self.pending.remove(&txn));
         let _ = self.ranging.remove(&txn);
         let _ = self.reading.remove(&txn);
     }
