@@ -6,11 +6,12 @@ use Rattle.std.specs.List.Sorted.{IsStrictlyIncreasing}
 use Rattle.std.specs.Map.{lookup}
 use Rattle.std.proofs.lemmas.Bool.{cases_lt, cases_order, eqb-true}
 use Rattle.std.proofs.lemmas.Bool.Decides.{nat_tests}
-use Rattle.std.proofs.lemmas.List.{append-nil, length-take-le, take-append-drop, take_all}
+use Rattle.std.proofs.lemmas.List.{append-nil, length-take, length-take-le, take-append-drop, take_all}
 use Rattle.je_bytes.specs.Reading.{AreBytes}
 use Rattle.je_disk.specs.States.{Files, IsEither, CrashState, State, cut, cut_by, put_at, put_file, shortened, synced, synced_crash_state}
-use Rattle.je_disk.specs.Images.{IsFileImage}
+use Rattle.je_disk.specs.Images.{AreFileImages, IsFileImage, Leaves}
 use Rattle.je_disk.specs.Moments.{History, Passes, now}
+use Rattle.je_disk.proofs.ImageLaws.{image_put, image_synced}
 use Rattle.je_disk.proofs.MomentLaws.{passes_none, passes_then, passes_weaken}
 use Rattle.store_model.specs.declared.store.Store.{Store}
 use Rattle.log_entry.specs.declared.entry.Entry.{Entry}
@@ -370,6 +371,51 @@ read_settling s x held (Some last) tail observed is f =
     by_test true = by_file (f == last.file.0) refl
     by_test false = inl refl
 
+-- ---- what its files read as is one of the images
+
+pending_is_image : (s : State) → NothingPending s → AreFileImages s.crash_states s.reads
+pending_is_image s pending f = subst (λ (c : CrashState). IsFileImage c (s.reads f)) (sym (pending f)) (image_synced (s.reads f))
+
+cut_is_image : (f len : ℕ) (s : State) → NothingPending s → AreFileImages (cut f len s).crash_states (cut f len s).reads
+cut_is_image f len s pending = by_file (s.reads f) refl
+  where
+    shorter : (there : List ℕ) → Leaves (shortened len (synced_crash_state (Some there))) (take len there)
+    shorter there = record {
+      allowed = refl;
+      front = take_all (length (take len there)) (take len there) (omega arith);
+      within = let len_is = length-take len there in omega (arith, len_is);
+    }
+
+    by_test : (there : List ℕ) → s.reads f ≡ Some there → (b : Bool) → AreFileImages (cond b (put_file f (Some (take len there)) (shortened len) s) s).crash_states (cond b (put_file f (Some (take len there)) (shortened len) s) s).reads
+    by_test there is true = image_put s.crash_states s.reads f (Some (take len there)) (shortened len) (pending_is_image s pending)
+        (subst (λ (c : CrashState). IsFileImage (shortened len c) (Some (take len there))) (sym (pending f ∙ ap synced_crash_state is)) (shorter there))
+    by_test there is false = pending_is_image s pending
+
+    by_file : (file : Option (List ℕ)) → s.reads f ≡ file → AreFileImages (cut_by file f len s).crash_states (cut_by file f len s).reads
+    by_file None is = pending_is_image s pending
+    by_file (Some there) is = by_test there is (nat_lt len (length there))
+
+-- where nothing was pending before, or nothing is now
+read_is_image : (tail : Option LastFile) (s x : State) → NothingPending s ⊎ NothingPending x → IsSettling tail s x → AreFileImages x.crash_states x.reads
+read_is_image tail s x (inr here) is = pending_is_image x here
+read_is_image tail s x (inl before) is = by_settling tail is
+  where
+    Is : State → Type 0
+    Is y = AreFileImages y.crash_states y.reads
+
+    by_test : (last : LastFile) (b : Bool) → Is (cond b (cut last.file.0 last.end s) s)
+    by_test last true = cut_is_image last.file.0 last.end s before
+    by_test last false = pending_is_image s before
+
+    by_tail : (tail : Option LastFile) → Is (cut_off tail s)
+    by_tail None = pending_is_image s before
+    by_tail (Some last) = by_test last (nat_lt last.end last.len)
+
+    by_settling : (tail : Option LastFile) → IsSettling tail s x → Is x
+    by_settling tail (inl (inl same)) = subst (λ (y : State). Is y) (sym same) (pending_is_image s before)
+    by_settling tail (inl (inr same)) = subst (λ (y : State). Is y) (sym same) (by_tail tail)
+    by_settling tail (inr same) = subst (λ (y : State). Is y) (sym same) (λ f. image_synced ((cut_off tail s).reads f))
+
 -- ---- what its images mean
 
 -- an image that means a store changed by no transactions means the store
@@ -382,11 +428,11 @@ unchanged store least image is = (
 
 -- images of a disk that keeps a whole log mean the store that it recovers
 images_mean : (first : ℕ) (store : Store) (base : ℕ) (log : Log) (s : State) → RecoversLog first store base [] log → KeepsLog log [] (length (entries_of log)) s.crash_states → HoldPrefixes log s.reads →
-    ImagesMean s store
-images_mean first store base log s recovers keeps prefixes = λ image is chance.
+    AreFileImages s.crash_states s.reads → ImagesMean s store
+images_mean first store base log s recovers keeps prefixes read = λ image is chance.
     let all : ℕ = length (entries_of log) in
     unchanged store (commits_in base all (placed log)) image
-    (kept_images_recover first store base all [] log s recovers (all_are_committed first store base [] log recovers).0 keeps prefixes image is.files chance)
+    (kept_images_recover first store base all [] log s recovers (all_are_committed first store base [] log recovers).0 keeps prefixes read image is.files chance)
 
 -- files that were read mean their store while their log is settled
 read_means : (s x : State) (held : List File) (tail : Option LastFile) (meaning : Meaning) → AreLogFiles held tail → AreFiles s.reads held → reading_of held ≡ Ok meaning → NothingPending s ⊎ NothingPending x →
@@ -395,7 +441,7 @@ read_means s x held tail meaning files observed reads pending is =
     let ends = found_ends held tail files in
     let found : IsOpenedLog 0 held (log_start_of tail) meaning = found_logs_recover 0 held (log_start_of tail) ends.0 meaning (found_named held tail files) ends.1 reads in
     images_mean (first_of_found 0 held) meaning.store (length (placed (found_log 0 held))) (found_log 0 held) x found.recovers (kept_settling s x held tail files observed pending is)
-    (prefixes_settling s x held tail files observed is)
+    (prefixes_settling s x held tail files observed is) (read_is_image tail s x pending is)
 
 -- ---- moments
 
