@@ -5,7 +5,13 @@ use Rattle.node_core.specs.declared.slot.Slot.{Slot}
 use Rattle.node_core.specs.declared.node.Node.{Node}
 use Rattle.node_core.specs.Changes.{set_now}
 use Rattle.node_log.proofs.NodeFromSlots.{fills, cleared_is}
+use Rattle.node_log.proofs.RisingSlots.{room_left}
 use Rattle.node_log.proofs.reading.filled.Goals as goal
+
+pub put_slot-requires : goal.put_slot-requires
+put_slot-requires c none =
+    room_left c.loop-slot.node.slots c.in-Some.slot (into_iter_items c.next.new.self) c.args.slots
+    (ap (λ (l : List Slot). c.loop-slot.node.slots ++ map set_now l) (sym c.in-Some.ensures.steps.0) ∙ c.loop-slot.invariant.0) c.requires.few
 
 pub loop-slot-preserved : goal.loop-slot-preserved
 loop-slot-preserved c =
