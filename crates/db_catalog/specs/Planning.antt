@@ -106,6 +106,7 @@ abbrev pub is_plain_record : DbKind → Bool
 is_plain_record PlainRecord = true
 is_plain_record kind = false
 
+-- whether the catalog has a record for a name, and it is a plain database's
 abbrev pub is_primary_record : Option DbRecord → Bool
 is_primary_record None = false
 is_primary_record (Some r) = is_plain_record r.kind

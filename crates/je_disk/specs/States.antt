@@ -20,6 +20,7 @@ pub record CrashState : Type 0 where
   -- the file may be there
   pub may_exist : Bool
 
+-- a disk at one moment: what its files read as, what a crash keeps of each, and the same counted from the beginning of the sync that is out
 pub record State : Type 0 where
   pub reads : Files
   pub crash_states : ℕ → CrashState
@@ -76,6 +77,7 @@ abbrev pub created_by : Option (List ℕ) → ℕ → State → State
 created_by None f s = put_file f (Some []) begun s
 created_by (Some _) f s = s
 
+-- an empty file is made, unless one is there
 abbrev pub created : ℕ → State → State
 created f s = created_by (s.reads f) f s
 
@@ -84,6 +86,7 @@ abbrev pub partly_appended_by : Option (List ℕ) → ℕ → List ℕ → List 
 partly_appended_by None f part bytes s = put_file f (Some part) (λ crash_state. grown (length bytes) (begun crash_state)) s
 partly_appended_by (Some there) f part bytes s = put_file f (Some (there ++ part)) (grown (length (there ++ bytes))) s
 
+-- the same, at what the file reads as now
 abbrev pub partly_appended : ℕ → List ℕ → List ℕ → State → State
 partly_appended f part bytes s = partly_appended_by (s.reads f) f part bytes s
 
@@ -96,6 +99,7 @@ abbrev pub cut_by : Option (List ℕ) → ℕ → ℕ → State → State
 cut_by None f len s = s
 cut_by (Some there) f len s = if nat_lt len (length there) then put_file f (Some (take len there)) (shortened len) s else s
 
+-- the same, at what the file reads as now
 abbrev pub cut : ℕ → ℕ → State → State
 cut f len s = cut_by (s.reads f) f len s
 
@@ -104,6 +108,7 @@ abbrev pub removed_by : Option (List ℕ) → ℕ → State → State
 removed_by None f s = s
 removed_by (Some _) f s = put_file f None dropped s
 
+-- the same, at what the file reads as now
 abbrev pub removed : ℕ → State → State
 removed f s = removed_by (s.reads f) f s
 

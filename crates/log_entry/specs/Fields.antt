@@ -39,6 +39,7 @@ abbrev pub version_bytes : Option ℕ → List ℕ
 version_bytes (Some lsn) = 0 ∷ to_be_bytes w64 lsn
 version_bytes None = 1 ∷ to_be_bytes w64 0
 
+-- a record's last change as it is read, with the bytes behind it
 unfoldable pub version_in : List ℕ → Option (Option ℕ × List ℕ)
 version_in bytes = do
   state ← byte_in bytes
@@ -50,6 +51,7 @@ abbrev pub optional_bytes : Option ℕ → List ℕ
 optional_bytes (Some lsn) = to_be_bytes w64 lsn
 optional_bytes None = to_be_bytes w64 0
 
+-- an LSN or none as it is read, with the bytes behind it
 unfoldable pub optional_in : List ℕ → Option (Option ℕ × List ℕ)
 optional_in bytes = do
   lsn ← number_in w64 bytes

@@ -47,6 +47,7 @@ rising_in item_in before most count bytes =
 abbrev pub counted_bytes : {A : Type 0} → Width → (A → List ℕ) → List A → List ℕ
 counted_bytes w item_bytes items = to_be_bytes w (length items) ++ flat_map item_bytes items
 
+-- a list as it is read, with the bytes behind it: at most so many items, each before the next
 unfoldable pub counted_in : {A : Type 0} → Width → (List ℕ → Option (A × List ℕ)) → (A → A → Bool) → ℕ → List ℕ → Option (List A × List ℕ)
 counted_in w item_in before most bytes = do
   count ← number_in w bytes
@@ -57,12 +58,15 @@ counted_in w item_in before most bytes = do
 abbrev pub IsChildSlot : ChildSlot → Type 0
 IsChildSlot slot = IsName slot.name × (slot.child < 2 ^ 64)
 
+-- the slot's name comes before the other's
 abbrev pub child_before : ChildSlot → ChildSlot → Bool
 child_before a b = is_lt (name_cmp a.name b.name)
 
+-- a child's slot as it is written: its name and the LSN of its image
 abbrev pub child_slot_bytes : ChildSlot → List ℕ
 child_slot_bytes slot = name_bytes slot.name ++ to_be_bytes w64 slot.child
 
+-- a child's slot as it is read, with the bytes behind it
 unfoldable pub child_slot_in : List ℕ → Option (ChildSlot × List ℕ)
 child_slot_in bytes = do
   name ← name_in bytes
@@ -74,12 +78,15 @@ child_slot_in bytes = do
 abbrev pub IsRecordSlot : RecordSlot → Type 0
 IsRecordSlot slot = IsName slot.name × IfSome slot.lsn (λ lsn. lsn < 2 ^ 64)
 
+-- the slot's name comes before the other's
 abbrev pub record_before : RecordSlot → RecordSlot → Bool
 record_before a b = is_lt (name_cmp a.name b.name)
 
+-- a record's slot as it is written: its name and its last change
 abbrev pub record_slot_bytes : RecordSlot → List ℕ
 record_slot_bytes slot = name_bytes slot.name ++ version_bytes slot.lsn
 
+-- a record's slot as it is read, with the bytes behind it
 unfoldable pub record_slot_in : List ℕ → Option (RecordSlot × List ℕ)
 record_slot_in bytes = do
   name ← name_in bytes
@@ -91,12 +98,15 @@ record_slot_in bytes = do
 abbrev pub IsRoot : Root → Type 0
 IsRoot root = (root.db < 2 ^ 32) × (root.image < 2 ^ 64)
 
+-- the root's database has the lesser number
 abbrev pub root_before : Root → Root → Bool
 root_before a b = nat_lt a.db b.db
 
+-- a root as it is written: its database's number and the LSN of its image
 abbrev pub root_bytes : Root → List ℕ
 root_bytes root = to_be_bytes w32 root.db ++ to_be_bytes w64 root.image
 
+-- a root as it is read, with the bytes behind it
 unfoldable pub root_in : List ℕ → Option (Root × List ℕ)
 root_in bytes = do
   db ← number_in w32 bytes
@@ -108,12 +118,15 @@ root_in bytes = do
 abbrev pub IsFileUsage : FileUsage → Type 0
 IsFileUsage usage = (usage.file.0 < 2 ^ 32) × (usage.total < 2 ^ 64) × (usage.live < 2 ^ 64)
 
+-- the file has the lesser number
 abbrev pub file_before : FileUsage → FileUsage → Bool
 file_before a b = nat_lt a.file.0 b.file.0
 
+-- a file's use as it is written: its number, all its bytes and its live bytes
 abbrev pub file_usage_bytes : FileUsage → List ℕ
 file_usage_bytes usage = to_be_bytes w32 usage.file.0 ++ (to_be_bytes w64 usage.total ++ to_be_bytes w64 usage.live)
 
+-- a file's use as it is read, with the bytes behind it
 unfoldable pub file_usage_in : List ℕ → Option (FileUsage × List ℕ)
 file_usage_in bytes = do
   file ← number_in w32 bytes

@@ -13,6 +13,7 @@ use Rattle.log_replay.specs.Rows.{Rows, is_environment, IsRising, store_of}
 abbrev pub is_same_pair : Pair → Pair → Bool
 is_same_pair p q = is_same_bytes p.0 q.0 && is_same_bytes p.1 q.1
 
+-- whether two lists have the same pairs in the same order
 abbrev pub are_same_pairs : List Pair → List Pair → Bool
 are_same_pairs [] [] = true
 are_same_pairs [] (q ∷ qs) = false

@@ -18,6 +18,7 @@ use Rattle.log_replay.specs.Rows.{Rows, RowChange, rows_changed, data_at, number
 
 -- ---- what the catalog has for a name
 
+-- the catalog record in a name's data, if it has data and this is one
 abbrev pub record_in : Option (List ℕ) → Option DbRecord
 record_in None = None
 record_in (Some bytes) = db_record_in bytes

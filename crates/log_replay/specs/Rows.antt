@@ -79,6 +79,7 @@ abbrev pub number_or_0 : Option DbRecord → ℕ
 number_or_0 None = 0
 number_or_0 (Some record_) = record_.number
 
+-- the same of the data's bytes
 abbrev pub catalog_number : List ℕ → ℕ
 catalog_number bytes = number_or_0 (db_record_in bytes)
 
@@ -87,6 +88,7 @@ abbrev pub kind_or_plain : Option DbRecord → Kind
 kind_or_plain None = Plain
 kind_or_plain (Some record_) = kind_of_catalog record_.kind
 
+-- the same of the data's bytes
 abbrev pub catalog_kind : List ℕ → Kind
 catalog_kind bytes = kind_or_plain (db_record_in bytes)
 
@@ -95,6 +97,7 @@ abbrev pub index_or_none : Option DbRecord → Option (ℕ × Extract)
 index_or_none None = None
 index_or_none (Some record_) = index_of_catalog record_.kind
 
+-- the same of the data's bytes
 abbrev pub catalog_index : List ℕ → Option (ℕ × Extract)
 catalog_index bytes = index_or_none (db_record_in bytes)
 
@@ -163,6 +166,7 @@ pair_of Dup row = (row.0.key, row.0.dup)
 abbrev pub index_over : Extract → Row → Index
 index_over extract row = record { primary = row.0.key; extract = extract }
 
+-- the index with that key of the primary with that number, if the catalog has it
 abbrev pub index_in : List Row → Option (ℕ × Extract) → Option Index
 index_in catalog None = None
 index_in catalog (Some made) = option_map (index_over made.1) (row_numbered made.0 catalog)
@@ -176,6 +180,7 @@ database_by catalog rows row = record {
   pairs = map (pair_of (catalog_kind row.1)) (rows_of_row rows row);
 }
 
+-- the store whose databases are those that a catalog names, with the records under their numbers
 abbrev pub store_by : List Row → Rows → Store
 store_by catalog rows = record { databases = map (database_by catalog rows) (rows 0) }
 

@@ -40,6 +40,7 @@ abbrev pub lesser : Numbered → Option Numbered → Option Numbered
 lesser d None = Some d
 lesser d (Some e) = Some (if nat_le d.number e.number then d else e)
 
+-- the first of those databases that have the least number
 abbrev pub least : List Numbered → Option Numbered
 least [] = None
 least (d ∷ ds) = lesser d (least ds)

@@ -26,6 +26,7 @@ abbrev pub in_front : ℕ → List (List ℕ) → List (List ℕ)
 in_front byte [] = (byte ∷ []) ∷ []
 in_front byte (field ∷ fields) = (byte ∷ field) ∷ fields
 
+-- data as the fields between its separators; without one it is one field
 abbrev pub fields_of : ℕ → List ℕ → List (List ℕ)
 fields_of separator [] = [] ∷ []
 fields_of separator (byte ∷ bytes) = if byte == separator then [] ∷ fields_of separator bytes else in_front byte (fields_of separator bytes)
@@ -35,6 +36,7 @@ abbrev pub key_in : Extract → List ℕ → Option (List ℕ)
 key_in (ByteSlice offset len) value = if nat_le (offset + len) (length value) then Some (take len (drop offset value)) else None
 key_in (Field number separator) value = option_map (take KEY_LIMIT) (slice_get (fields_of separator value) number)
 
+-- the same of a record that may be missing
 abbrev pub key_of : Extract → Option (List ℕ) → Option (List ℕ)
 key_of extract None = None
 key_of extract (Some value) = key_in extract value
@@ -46,6 +48,7 @@ abbrev pub taken_out : List ℕ → Option (List ℕ) → List RecordChange
 taken_out primary_key None = []
 taken_out primary_key (Some key) = Unset (named key primary_key) ∷ []
 
+-- the pair of a key and a record's own key comes, if there is a key
 abbrev pub put_in : List ℕ → Option (List ℕ) → List RecordChange
 put_in primary_key None = []
 put_in primary_key (Some key) = Set (named key primary_key) [] ∷ []
@@ -54,6 +57,7 @@ put_in primary_key (Some key) = Set (named key primary_key) [] ∷ []
 abbrev pub pairs_put : Extract → List Pair → List RecordChange
 pairs_put extract records = flat_map (λ p. put_in p.0 (key_in extract p.1)) records
 
+-- the pairs that an index of these records has, in name order
 abbrev pub index_pairs : Extract → List Pair → List Pair
 index_pairs extract records = all_pairs_changed Dup (pairs_put extract records) []
 
@@ -62,9 +66,11 @@ abbrev pub is_same_key : Option (List ℕ) → Option (List ℕ) → Bool
 is_same_key (Some key) (Some other) = is_same_bytes key other
 is_same_key key other = false
 
+-- the changes of an index as a record's key goes from one to another
 abbrev pub keys_changed : List ℕ → Option (List ℕ) → Option (List ℕ) → List RecordChange
 keys_changed primary_key old new = if is_same_key old new then [] else taken_out primary_key old ++ put_in primary_key new
 
+-- the changes of an index as a record's data goes from one to another; none where it had or has no record
 abbrev pub index_changes : Extract → List ℕ → Option (List ℕ) → Option (List ℕ) → List RecordChange
 index_changes extract primary_key old new = keys_changed primary_key (key_of extract old) (key_of extract new)
 
@@ -90,6 +96,7 @@ abbrev pub IsMadeFrom : Option Database → Extract → List Pair → Type 0
 IsMadeFrom None extract pairs = ⊥
 IsMadeFrom (Some primary) extract pairs = (primary.kind ≡ Plain) × (primary.index ≡ None) × (pairs ≡ index_pairs extract primary.pairs)
 
+-- a database that is an index has sorted duplicates, and the pairs of its primary's records
 abbrev pub IsIndex : Store → Database → Option Index → Type 0
 IsIndex store d None = Unit {0}
 IsIndex store d (Some index) = (d.kind ≡ Dup) × IsMadeFrom (database_of index.primary store) index.extract d.pairs
@@ -110,10 +117,12 @@ MakesNoIndex change = Unit {0}
 abbrev pub Numbered : Type 0
 Numbered = ℕ × Database
 
+-- a database put among others in the order of their numbers
 abbrev pub with_among : Numbered → List Numbered → List Numbered
 with_among d [] = d ∷ []
 with_among d (e ∷ es) = if nat_lt d.0 e.0 then d ∷ e ∷ es else e ∷ with_among d es
 
+-- databases with their numbers, in the order of these
 abbrev pub by_number : (List ℕ → ℕ) → List Database → List Numbered
 by_number numbers [] = []
 by_number numbers (d ∷ ds) = with_among (numbers d.name, d) (by_number numbers ds)
@@ -122,6 +131,7 @@ by_number numbers (d ∷ ds) = with_among (numbers d.name, d) (by_number numbers
 abbrev pub is_index_of : List ℕ → Database → Bool
 is_index_of name d = option_map_or (λ index. is_same_bytes index.primary name) d.index false
 
+-- the indexes of the database of a name, in the order of their numbers
 abbrev pub indexes_of : (List ℕ → ℕ) → Store → List ℕ → List Numbered
 indexes_of numbers store name = by_number numbers (filter (is_index_of name) store.databases)
 
@@ -144,6 +154,7 @@ with_indexes d indexes records change = (d, change) ∷ flat_map (λ i. map (λ 
 abbrev pub changed_database : Option Numbered → Numbered → Numbered
 changed_database over d = unwrap_or over d
 
+-- a change as it is made in the primary: one through an index takes the primary's record out
 abbrev pub changed_through : Option Numbered → RecordChange → RecordChange
 changed_through None change = change
 changed_through (Some primary) change = Unset (named (changed_name change).dup [])
@@ -159,6 +170,7 @@ abbrev pub index_answer : Numbered → (Numbered → List Pair) → Answer → A
 index_answer primary see (Rec key primary_key) = IndexRec key primary_key (unwrap_or (data_under primary_key (see primary)) [])
 index_answer primary see answer = answer
 
+-- an answer as the caller gets it: by an index, the record's own key and its data
 abbrev pub answer_through : Option Numbered → (Numbered → List Pair) → Answer → Answer
 answer_through None see answer = answer
 answer_through (Some primary) see answer = index_answer primary see answer

@@ -22,10 +22,12 @@ answer_of (Turn line step answer) = Some answer
 abbrev pub answers_some : (Answer → Bool) → Event → Bool
 answers_some test event = option_map_or test (answer_of event) false
 
+-- a commit was answered, whose sync or write-out comes later
 abbrev pub is_logged : Answer → Bool
 is_logged (Logged commit) = true
 is_logged answer = false
 
+-- a disk fault was answered
 abbrev pub is_disk_fault : Answer → Bool
 is_disk_fault DiskFault = true
 is_disk_fault answer = false

@@ -26,6 +26,7 @@ use Rattle.store_model.specs.Reads.{Way, Range, is_within, just, seen, passed, p
 use Rattle.store_model.specs.Reads.Way.{Lowest}
 use Rattle.store_model.specs.Records.{look_of, early_of, conclude}
 
+-- a lock of that type on that place of a database
 abbrev pub need : ℕ → Bound → LockType → Need
 need db at asked = record { db = db; at = at; asked = asked }
 
@@ -36,6 +37,7 @@ pub record Part : Type 0 where
   pub inside : LockType
   pub behind : Option LockType
 
+-- a read with these two types of lock
 abbrev pub part : LockType → Option LockType → Option Part
 part inside behind = Some (record { inside = inside; behind = behind })
 
@@ -46,14 +48,17 @@ read_part ReadCommitted = part Read None
 read_part RepeatableRead = part Read None
 read_part Serializable = part RangeRead (Some RangeRead)
 
+-- a read that announces a write
 abbrev pub rmw_part : Isolation → Option Part
 rmw_part Serializable = part RangeWrite (Some RangeWrite)
 rmw_part level = part Write None
 
+-- a read by a call that writes
 abbrev pub write_part : Isolation → Option Part
 write_part Serializable = part RangeWrite (Some RangeRead)
 write_part level = part Write None
 
+-- a read, with or without the announcement of a write
 abbrev pub part_of_read : Bool → Isolation → Option Part
 part_of_read true level = rmw_part level
 part_of_read false level = read_part level
@@ -64,6 +69,7 @@ part_of_put Overwrite level = None
 part_of_put NoOverwrite level = write_part level
 part_of_put NoDupData level = write_part level
 
+-- what a call's own read locks, by its level; None where it reads nothing or locks nothing
 abbrev pub part_of : Isolation → Call → Option Part
 part_of level (Get db key rmw) = part_of_read rmw level
 part_of level (GetBoth db key value rmw) = part_of_read rmw level
@@ -89,10 +95,12 @@ place_of (Some n) = On n
 abbrev pub first_from : Edge → List Name → Bound
 first_from edge occupied = place_of (find (λ n. not (is_below edge n)) occupied)
 
+-- the lock on the place behind a range, where it is locked and no record that was answered ends the range
 abbrev pub needs_behind : ℕ → Option LockType → Bool → Bound → List Need
 needs_behind db (Some asked) false at = need db at asked ∷ []
 needs_behind db behind ended at = []
 
+-- the locks of a read: each occupied name of its range, and then the place behind it
 abbrev pub part_needs : ℕ → Option Part → Range → Bool → List Name → List Need
 part_needs db None r ended occupied = []
 part_needs db (Some p) r ended occupied =
@@ -100,6 +108,7 @@ part_needs db (Some p) r ended occupied =
 
 -- ---- what a write locks
 
+-- the type of a write's lock on the name that it changes
 abbrev pub write_type : Isolation → LockType
 write_type Serializable = RangeWrite
 write_type level = Write
@@ -109,6 +118,7 @@ abbrev pub insert_needs : ℕ → List Pair → Bound → List Need
 insert_needs db [] next = need db next RangeInsert ∷ []
 insert_needs db (p ∷ ps) next = []
 
+-- the locks of one change: its name, and where that has no record the next occupied place
 abbrev pub write_needs : Isolation → ℕ → Kind → List Pair → List Name → RecordChange → List Need
 write_needs level db kind pairs occupied change =
     let n = changed_name change in
@@ -116,6 +126,7 @@ write_needs level db kind pairs occupied change =
 
 -- ---- the needs of a call
 
+-- these locks, or none where the call is answered before it reads
 abbrev pub needs_unless : Option Answer → List Need → List Need
 needs_unless None needs = needs
 needs_unless (Some answer) needs = []

@@ -13,9 +13,11 @@ pub record Range : Type 0 where
   pub from : Edge
   pub upto : Edge
 
+-- the names from an edge up to another one
 abbrev pub range : Edge → Edge → Range
 range from upto = record { from = from; upto = upto }
 
+-- whether a name is in a range
 abbrev pub is_within : Range → Name → Bool
 is_within r n = is_between r.from r.upto n
 
@@ -23,9 +25,11 @@ is_within r n = is_between r.from r.upto n
 abbrev pub empty_range : Range
 empty_range = range First First
 
+-- all names
 abbrev pub whole_range : Range
 whole_range = range First End
 
+-- one name
 abbrev pub just : Name → Range
 just n = range (At n) (Behind n)
 
@@ -43,11 +47,13 @@ pub data Way : Type 0 where
   Highest : Way
   Each : Way
 
+-- the last record of a list, as a list of one or none
 abbrev pub last_of : List Pair → List Pair
 last_of [] = []
 last_of (p ∷ []) = p ∷ []
 last_of (p ∷ q ∷ ps) = last_of (q ∷ ps)
 
+-- the records that are taken of those of a range
 abbrev pub taken_by : Way → List Pair → List Pair
 taken_by Lowest [] = []
 taken_by Lowest (p ∷ ps) = p ∷ []
@@ -76,5 +82,6 @@ pub record Look : Type 0 where
   pub way : Way
   pub range : Range
 
+-- a look by that way in that range
 abbrev pub look : Way → Range → Look
 look way r = record { way = way; range = r }

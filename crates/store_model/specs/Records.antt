@@ -83,6 +83,7 @@ look_from_none kind (InRange key) = look Lowest (range (At (named key [])) End)
 look_from_none kind (Both key value) = exactly kind key value
 look_from_none kind (BothRange key value) = exactly_or_above kind key value
 
+-- where a motion looks, from where the cursor stands, if it stands anywhere
 abbrev pub look_of_motion : Kind → Motion → Option Name → Look
 look_of_motion kind motion None = look_from_none kind motion
 look_of_motion kind motion (Some n) = look_from kind motion n
@@ -92,6 +93,7 @@ abbrev pub look_at_key : Kind → Option Name → Look
 look_at_key kind None = no_look
 look_at_key kind (Some n) = all_of_key kind n.key
 
+-- the record at which the cursor stands
 abbrev pub look_at_place : Option Name → Look
 look_at_place None = no_look
 look_at_place (Some n) = look Lowest (just n)
@@ -125,10 +127,12 @@ place_needs (CPutCur cursor value) = (true, true)
 place_needs (CDel cursor) = (true, true)
 place_needs call = (false, false)
 
+-- KeyEmpty, where a record has to be there and none is
 abbrev pub empty_if : Bool → List Pair → Option Answer
 empty_if true [] = Some KeyEmpty
 empty_if needs pairs = None
 
+-- NoPosition where the cursor stands nowhere and has to, KeyEmpty where its record is gone and has to be there
 abbrev pub place_refusal : Kind → Bool × Bool → Option Name → List Pair → Option Answer
 place_refusal kind needs None pairs = if needs.0 then Some NoPosition else None
 place_refusal kind needs (Some n) pairs = empty_if needs.1 (at_name kind n pairs)
@@ -146,6 +150,7 @@ pub record Evaluated : Type 0 where
   pub changes : List RecordChange
   pub place : Option Name
 
+-- only an answer: no record, no change, and the cursor stands there
 abbrev pub says : Answer → Option Name → Evaluated
 says answer at = record { answer = answer; answered = false; changes = []; place = at }
 
@@ -169,6 +174,7 @@ abbrev pub data_of : Kind → List ℕ → List ℕ
 data_of Plain value = value
 data_of Dup value = []
 
+-- the change that puts this record into a database of that kind
 abbrev pub set : Kind → List ℕ → List ℕ → RecordChange
 set kind key value = Set (name_of kind (key, value)) (data_of kind value)
 
@@ -193,6 +199,7 @@ tested Plain (Both key value) taken = with_data value taken
 tested Plain (BothRange key value) taken = with_data value taken
 tested kind motion taken = taken
 
+-- the same for a call that names data
 abbrev pub tested_for : Kind → List ℕ → List Pair → List Pair
 tested_for Plain value taken = with_data value taken
 tested_for Dup value taken = taken
@@ -210,6 +217,7 @@ conclude kind (CDel cursor) at taken = deleted kind at taken
 conclude kind (CPut cursor key value mode) at taken = put_unless kind at (Some (name_of kind (key, value))) key value taken
 conclude kind call at taken = says Done at
 
+-- what a call comes to, or the answer that it has before it reads
 abbrev pub unless_early : Option Answer → Option Name → Evaluated → Evaluated
 unless_early None at evaluated = evaluated
 unless_early (Some answer) at evaluated = says answer at

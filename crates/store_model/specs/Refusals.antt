@@ -43,9 +43,11 @@ abbrev pub creation_refusal : Bool → ℕ → Option Answer
 creation_refusal taken count =
     if taken then Some NameTaken else if nat_le MOST_DATABASES count then Some (TooMany MOST_DATABASES) else None
 
+-- the database is not there
 abbrev pub access_refusal : Bool → Option Answer
 access_refusal there = if there then None else Some NoDatabase
 
+-- the name is taken
 abbrev pub taken_refusal : Bool → Option Answer
 taken_refusal taken = if taken then Some NameTaken else None
 
@@ -58,6 +60,7 @@ abbrev pub is_plain : Kind → Bool
 is_plain Plain = true
 is_plain Dup = false
 
+-- whether an index may be made of a database: it is there, plain and no index
 abbrev pub is_primary : Option Database → Bool
 is_primary None = false
 is_primary (Some d) = is_plain d.kind && is_none d.index
@@ -85,9 +88,11 @@ abbrev pub data_limit : Kind → ℕ
 data_limit Plain = VALUE_LIMIT
 data_limit Dup = DUP_LIMIT
 
+-- a key, or data, past its limit in a database of that kind
 abbrev pub pair_refusal : Kind → List ℕ → List ℕ → Option Answer
 pair_refusal kind key value = or_refusal (too_long KEY_LIMIT key) (too_long (data_limit kind) value)
 
+-- what a motion brings is past its limit
 abbrev pub motion_refusal : Motion → Kind → Option Answer
 motion_refusal (Key key) kind = too_long KEY_LIMIT key
 motion_refusal (Range key) kind = too_long KEY_LIMIT key
@@ -95,6 +100,7 @@ motion_refusal (Both key value) kind = pair_refusal kind key value
 motion_refusal (BothRange key value) kind = pair_refusal kind key value
 motion_refusal motion kind = None
 
+-- what a call brings is past its limit
 abbrev pub size_refusal : Call → Kind → Option Answer
 size_refusal (Get db key rmw) kind = too_long KEY_LIMIT key
 size_refusal (GetBoth db key value rmw) kind = pair_refusal kind key value

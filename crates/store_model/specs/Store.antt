@@ -23,6 +23,7 @@ no_databases = record { databases = [] }
 abbrev pub Pair : Type 0
 Pair = List ℕ × List ℕ
 
+-- a name of these two parts
 abbrev pub named : List ℕ → List ℕ → Name
 named key dup = record { key = key; dup = dup }
 
@@ -90,6 +91,7 @@ with_name d name = record { name = name; kind = d.kind; index = d.index; pairs =
 abbrev pub index_renamed : List ℕ → List ℕ → Index → Index
 index_renamed db to index = record { primary = if is_same_bytes index.primary db then to else index.primary; extract = index.extract }
 
+-- a database whose index, if it has one of the primary of that name, names the primary anew
 abbrev pub with_primary : List ℕ → List ℕ → Database → Database
 with_primary db to d = record { name = d.name; kind = d.kind; index = option_map (index_renamed db to) d.index; pairs = d.pairs }
 
@@ -134,6 +136,7 @@ abbrev pub changed_name : RecordChange → Name
 changed_name (SetRecord at value) = at
 changed_name (UnsetRecord at) = at
 
+-- the data that a change of records leaves, if it leaves a record
 abbrev pub data_after : RecordChange → Option (List ℕ)
 data_after (SetRecord at value) = Some value
 data_after (UnsetRecord at) = None
