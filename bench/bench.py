@@ -16,14 +16,15 @@ import sys
 import tempfile
 
 from child import run_child
-from scripts import create_scripts, empty_script, get_scripts, index_scripts, put_scripts, records_of
+from scripts import create_scripts, empty_script, get_scripts, index_scripts, level_put_scripts, put_scripts, records_of, scan_scripts
 
 TOP = os.path.dirname(os.path.dirname(os.path.abspath(__file__)))
 PROGRAM = os.path.join(TOP, "crates", "jedb", "out", "jedb")
 LOCKS = os.path.join(TOP, "crates", "lock_bench", "out", "lock_bench")
 TUNABLES = "GLIBC_TUNABLES"  # by which ./jedb asks for large pages; left as it is
 
-PARTS = ["memory", "disk", "databases", "indexes", "opening", "files", "locks"]
+PARTS = ["memory", "disk", "levels", "databases", "indexes", "opening", "files", "locks"]
+LEVELS = ["ru", "rc", "rr", "ser"]
 PROCESSORS = sorted(os.sched_getaffinity(0))
 MANY_FILES = ("--file-max", "100000")
 
@@ -80,9 +81,10 @@ class Case:
 
 
 class StoreCase(Case):
-    """Puts into new folders, gets from a folder, an index made of its records (fill), or an empty script on it (reopen)."""
+    """Puts into new folders, gets from a folder or a scan of it, an index made of its records (fill), or an empty script on it (reopen).
+    With a level, the puts or the scan are one transaction."""
 
-    def __init__(self, bench, folder, work, size, system, names=("t",), options=(), note="", indexes=0):
+    def __init__(self, bench, folder, work, size, system, names=("t",), options=(), note="", indexes=0, level=None):
         super().__init__(work + note, size)
         self.bench, self.folder, self.kind, self.program, self.options = bench, folder, work, system, options
         self.system = system.name
@@ -90,6 +92,10 @@ class StoreCase(Case):
         self.create += index_scripts(bench.work, names[0], 0) if indexes else []
         self.index = index_scripts(bench.work, names[0], size) if work == "fill" else []
         self.gets = get_scripts(bench.work, bench.records(size), names[0]) if work == "get" else []
+        if level and work == "put":
+            self.puts = level_put_scripts(bench.work, bench.records(size), names[0], level)
+        elif level:
+            self.gets = scan_scripts(bench.work, bench.records(size), names[0], level)
         self.bare = self.full = None
 
     def ran(self, home, scripts):
@@ -116,7 +122,7 @@ class StoreCase(Case):
             return times
         if self.full is None:
             self.bare, self.full = self.made(self.create), self.made(self.create, self.puts)
-        return (self.ran(self.full, empty), self.ran(self.full, self.gets)) if self.kind == "get" else (self.ran(self.bare, empty), self.ran(self.full, empty))
+        return (self.ran(self.full, empty), self.ran(self.full, self.gets)) if self.gets else (self.ran(self.bare, empty), self.ran(self.full, empty))
 
 
 class LockCase(Case):
@@ -169,6 +175,9 @@ class Bench:
         if part in ("memory", "disk"):
             works = ["put", "get", "reopen"]
             return [store(work, size, it) for work in works for it in self.systems for size in self.sizes(40_000, 80_000, 160_000)], 20 if part == "memory" else 5
+        if part == "levels":
+            size = self.sizes(100_000)[0]
+            return [store(work, size, it, level=level, note=f", {level}") for work in ("put", "scan") for level in LEVELS for it in self.systems], 5
         if part == "opening":
             return [store("reopen", size) for size in self.sizes(250_000, 500_000, 1_000_000)], 20
         if part == "files":

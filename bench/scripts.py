@@ -11,7 +11,7 @@ Record = namedtuple("Record", "key data")
 
 
 class Script:
-    """A script file, the answers that its report must have, and what must stand at the report's end."""
+    """A script file, the answers that its report must have (None: a transaction's number), and what must stand at the report's end."""
 
     def __init__(self, work, name, lines, answers, ending):
         self.path, self.answers, self.ending = os.path.join(work, name), answers, ending
@@ -23,6 +23,8 @@ class Script:
         with open(report, encoding="ascii", errors="replace") as lines:
             for number, answer in enumerate(self.answers, 1):
                 line = lines.readline()
+                if answer is None and line.startswith(f"{number} s1 ok txn "):
+                    continue
                 if line != f"{number} s1 {answer}\n":
                     return line or "its end"
             last = lines.readline()
@@ -79,3 +81,23 @@ def get_scripts(work, records, name):
     random.Random(SEED + 1).shuffle(asked)
     lines, answers = [f"s1 get {name} {it.key}" for it in asked], [f"ok {it.key} {it.data}" for it in asked]
     return cut(work, f"get-{len(records)}", lines, answers, lambda _: f" databases 1 records {len(records)}")
+
+
+def level_scripts(work, name, level, what, lines, answers, records):
+    """One transaction at an isolation level: its calls between `begin` and `commit`."""
+    lines = [f"s1 begin {level} sync wait", *lines, "s1 commit"]
+    answers = [None, *answers, "ok"]
+    return [Script(work, f"{what}-{len(lines)}-{name}-{level}", lines, answers, f" databases 1 records {records}")]
+
+
+def level_put_scripts(work, records, name, level):
+    """Each record once, in one transaction."""
+    lines = [f"s1 put {name} {it.key} {it.data}" for it in records]
+    return level_scripts(work, name, level, "put", lines, ["ok"] * len(lines), len(records))
+
+
+def scan_scripts(work, records, name, level):
+    """Each record once in byte order, by a cursor of one transaction."""
+    lines = [f"s1 open c1 {name}", "s1 cur c1 first", *["s1 cur c1 next"] * (len(records) - 1)]
+    answers = ["ok", *[f"ok {it.key} {it.data}" for it in sorted(records)]]
+    return level_scripts(work, name, level, "scan", lines, answers, len(records))
