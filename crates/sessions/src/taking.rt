@@ -54,11 +54,11 @@ fn room_for(
     ensures others { IfOk result (λ room. room.others ≡ others.now) }
     ensures room { IfOk result (HasRoomFor calls) }
 {
-    let call = copy_call(call)?;
     let db = copy_of(db)?;
     let others = copy_of(others)?;
     let told = Vec::with_capacity(alloc, calls)?;
     let buffers = buffers_of(alloc, calls)?;
+    let call = copy_call(call)?;
     Ok(StopRoom {
         wait: Wait {
             session,
