@@ -80,6 +80,9 @@ returns-in-Err-clause-stopped_entry g c = λ observed reads w_ same.
 pub returns-in_default-clause-stopped_entry : goal.returns-in_default-clause-stopped_entry
 returns-in_default-clause-stopped_entry g c = λ observed reads w same. entry_none (g.D.Disk.history c.args.disk)
 
+pub returns-then-last_node-ge-LAST_NODE-clause-stopped_entry : goal.returns-then-last_node-ge-LAST_NODE-clause-stopped_entry
+returns-then-last_node-ge-LAST_NODE-clause-stopped_entry g c = λ observed reads w same. entry_none (g.D.Disk.history c.args.disk)
+
 pub returns-in_default-clause-stopped : goal.returns-in_default-clause-stopped
 returns-in_default-clause-stopped g c = λ reads w observed. no_numbers reads c.args.read (subst (λ (t : Bool). WasRead t reads c.args.read) observed w) c.in_default.ensures
 
