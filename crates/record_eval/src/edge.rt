@@ -73,9 +73,12 @@ pub fn before_key(alloc: Global, key: &Octets) -> Result<NameEdge, AllocError>
 pub fn after_key(alloc: Global, key: &Octets) -> Result<NameEdge, AllocError>
     ensures { IfOk result (λ edge. edge_in edge ≡ behind_key key.now) }
 {
-    let mut longer = copy_of(key)?;
+    let mut longer = Vec::from_slice(alloc, key.as_slice())?;
     longer.push(0)?;
-    let name = key_name(alloc, &longer)?;
+    let name = Name {
+        key: Octets::from_vec(longer),
+        dup: Octets::new(alloc),
+    };
     Ok(NameEdge::At { name })
 }
 
