@@ -60,6 +60,7 @@ impl<D: Disk> Environment<D> {
         if self.sessions.is_empty() {
             return self.access_alone(alloc, db, found, call);
         }
+        let owed = self.owed_with_one()?;
         let CallPlan { target, others } = self.plan_auto(alloc, db, found, call)?;
         let TargetPlan {
             answer,
@@ -69,7 +70,6 @@ impl<D: Disk> Environment<D> {
         } = target;
         drop(place);
         let planned = self.log_planned(alloc, answer, changes)?;
-        let owed = self.owed_with_one()?;
         self.run_auto(
             alloc, session, line, db, found.kind, call, planned, &others, needs, owed,
         )
@@ -165,10 +165,12 @@ impl<D: Disk> Environment<D> {
         {
             Ok(Taken::Ready) => self.go_auto(alloc, session, txn, planned, owed),
             Ok(Taken::Stopped { answer, victims }) => {
+                drop(planned);
                 self.engine.kept.last_txn = last + 1;
                 Ok(Outcome { answer, victims })
             }
             Err(error) => {
+                drop(planned);
                 self.sessions.undo_begin();
                 Err(error)
             }

@@ -158,9 +158,7 @@ impl<D: Disk> Environment<D> {
         ensures cause { (most : ℕ) (st : Standing) → IsAt most D.observable (now (D.history (disk_of self.old))) self.old st → st.fault ≡ None → result ≡ Answer.DiskFault → HasRisen (D.faults (disk_of self.old)) (D.faults (disk_of self.new)) }
     {
         match self.engine.trees.log.sync_end(done) {
-            Ok(()) => Answer::Durable {
-                commit: begun,
-            },
+            Ok(()) => Answer::Durable { commit: begun },
             Err(_) => {
                 self.engine.kept.fault = Some(Fault::Disk);
                 Answer::DiskFault
