@@ -2,11 +2,14 @@
 use je_lsn::{FileNo, file_name, parse_name};
 use std::alloc::{AllocError, Global};
 use std::collections::BTreeSet;
-use std::fs::OpenOptions;
+use std::fs::{DirEntry, OpenOptions};
 use std::io::{Error, ErrorKind};
 use std::path::Path;
 use std::rt::Files;
 use std::{fs, io};
+
+// Berkeley DB Java Edition makes a file of this name in each of its environments. Its log files have names as ours.
+const JE_LOCK_FILE: &str = "je.lck";
 
 /// A folder's path, with the calls of the system that take one.
 #[derive(Drop)]
@@ -22,6 +25,19 @@ fn if_there<T>(answer: io::Result<T>) -> io::Result<Option<T>> {
         Err(e) if e.kind() == ErrorKind::NotFound => Ok(None),
         Err(e) => Err(e),
     }
+}
+
+// An error at Berkeley DB Java Edition's lock file, and where a log file's name is no regular file's: a symbolic
+// link's (which is not followed), a folder's, a device's.
+fn check_entry<R: Files>(entry: &DirEntry<R>) -> io::Result<()> {
+    let name = entry.file_name();
+    if name == JE_LOCK_FILE {
+        return Err(Error::from(ErrorKind::AlreadyExists));
+    }
+    if parse_name(name.as_bytes()).is_some() && !entry.file_type()?.is_file() {
+        return Err(Error::from(ErrorKind::InvalidInput));
+    }
+    Ok(())
 }
 
 impl<R: Files + AllocGlobal + Clone + Drop> DirPath<R> {
@@ -70,6 +86,23 @@ impl<R: Files + AllocGlobal + Clone + Drop> DirPath<R> {
             Some(_) => Err(Error::from(ErrorKind::NotADirectory)),
             None => Ok(false),
         }
+    }
+
+    /// An error where the folder has a file that is not ours to touch. Nothing is opened or changed; a folder that is
+    /// not there has none.
+    pub fn check_entries(&self) -> io::Result<()> {
+        let Some(entries) = if_there(fs::read_dir(&self.rt, self.path()?))? else {
+            return Ok(());
+        };
+        for entry in entries {
+            match entry {
+                Ok(entry) => check_entry(&entry)?,
+                // a name that is no text is no log file's
+                Err(e) if e.kind() == ErrorKind::InvalidFilename => {}
+                Err(e) => return Err(e),
+            }
+        }
+        Ok(())
     }
 
     pub fn make_folder(&self) -> io::Result<()> {

@@ -75,7 +75,7 @@ impl<R: Files + AllocGlobal + Clone + Drop> Folder<R> {
     }
 
     /// Forgets the open files, and gives the room behind their bytes back first. A folder that is not there is no
-    /// error; anything else of its name is, and so is an empty name.
+    /// error; anything else of its name is, and so is an empty name, or a file in it that is not ours to touch.
     pub fn mount(&mut self) -> io::Result<()>
         ensures empty { string_bytes self.old.dir_path.path ≡ [] → IsErr result }
     {
@@ -86,7 +86,7 @@ impl<R: Files + AllocGlobal + Clone + Drop> Folder<R> {
         self.is_unflushed = true;
         self.reading = None;
         self.dir_path.is_there()?;
-        Ok(())
+        self.dir_path.check_entries()
     }
 
     /// The numbers of the log files, rising; none where there is no folder.

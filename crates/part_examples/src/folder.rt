@@ -217,3 +217,56 @@ fn trusts_no_sync_after_one_that_failed(rt: HostRuntime) {
     assert!(rt; symlink(&rt, "/dev/null", "lost/00000008.jdb").is_ok());
     assert_eq!(rt; wrong_step(&rt, "lost", &LOST), Ok(None));
 }
+
+// The first step of a disk over a folder that has what is not ours to touch.
+static NOT_OURS: [Row; 1] = [(Mount, Err(DiskErr::Failed), 1)];
+
+// Makes a folder of Berkeley DB Java Edition, and folders in which a symbolic link, a folder and a device stand under a
+// log file's name.
+fn make_not_ours(rt: &HostRuntime) -> io::Result<()> {
+    fs::create_dir_all(rt, "not_ours/lock_file")?;
+    fs::write(rt, "not_ours/lock_file/00000000.jdb", "of another program")?;
+    fs::write(rt, "not_ours/lock_file/je.lck", "")?;
+    fs::create_dir(rt, "not_ours/link")?;
+    fs::write(rt, "not_ours/behind_it", "of someone else")?;
+    symlink(rt, "../behind_it", "not_ours/link/00000000.jdb")?;
+    fs::create_dir(rt, "not_ours/link_to_nothing")?;
+    symlink(rt, "nothing", "not_ours/link_to_nothing/00000007.jdb")?;
+    fs::create_dir_all(rt, "not_ours/folder/00000003.jdb")?;
+    fs::create_dir(rt, "not_ours/device")?;
+    symlink(rt, "/dev/null", "not_ours/device/00000001.jdb")
+}
+
+static FOLDERS_NOT_OURS: [&str; 5] = [
+    "not_ours/lock_file",
+    "not_ours/link",
+    "not_ours/link_to_nothing",
+    "not_ours/folder",
+    "not_ours/device",
+];
+
+// Files of other names, links and folders too, are no log files, and are left alone.
+fn make_beside(rt: &HostRuntime) -> io::Result<()> {
+    fs::create_dir_all(rt, "beside/je.lck.d")?;
+    fs::create_dir(rt, "beside/backup")?;
+    symlink(rt, "../not_ours", "beside/0000000A.jdb")
+}
+
+static BESIDE: [Row; 3] = [
+    (Mount, Ok(true), 0),
+    (Do(Append(4, b"ours")), Ok(true), 0),
+    (Do(Sync), Ok(true), 0),
+];
+
+#[test]
+fn leaves_alone_what_is_not_ours(rt: HostRuntime) {
+    assert!(rt; make_not_ours(&rt).is_ok());
+    for path in &FOLDERS_NOT_OURS {
+        let wrong = wrong_step(&rt, path, &NOT_OURS);
+        assert!(rt; wrong == Ok(None), "{path}: {wrong:?}");
+    }
+    assert!(rt; has_text(&rt, "not_ours/lock_file/00000000.jdb", "of another program"));
+    assert!(rt; has_text(&rt, "not_ours/behind_it", "of someone else"));
+    assert!(rt; make_beside(&rt).is_ok());
+    assert_eq!(rt; wrong_step(&rt, "beside", &BESIDE), Ok(None));
+}
