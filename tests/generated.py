@@ -1,23 +1,29 @@
 #!/usr/bin/env python3
 """Runs generated scripts on the built program and compares each report with a plain model.
 
-    ./jedb; python3 tests/generated.py             builds the program at the first use; then the table of motions.py, and
-                                                   2,000 scripts of 30 calls
-    python3 tests/generated.py --seed 7 --scripts 1  the script of one seed, with its report where it differs
+    ./jedb; python3 tests/generated.py             builds the program at the first use; then the table of motions.py,
+                                                   2,000 scripts of one session and 2,000 of several
+    python3 tests/generated.py --seed 7 --scripts 1  the two scripts of one seed, each where its report differs
     python3 tests/generated.py --program PATH      another build
 
-A script makes calls of one session on a database of each kind and on indexes: by key, at cursors, with and without a transaction, with
-steps of checkpoints between them. Each folder is then opened again, and its records are read from both ends.
+A script of one session has 30 calls on a database of each kind and on indexes: by key, at cursors, with and without a transaction, with
+steps of checkpoints between them, each with the one answer that the trees make right (trees.py). Each folder is then opened again, and its records
+are read from both ends.
+
+One of two to four sessions has 40 calls on two databases, and half of them on an index, in transactions of all levels: it says which call waits for whom, which goes on
+when, and which transaction of a cycle has to abort (sessions.py). Each folder is then opened again, and its records are read.
 """
 
 import argparse
 import concurrent.futures
+import itertools
 import os
 import random
 import sys
 import tempfile
 
 import motions
+import sessions
 from model import KINDS, Model, PROGRAM, field, first_wrong, hexed, report_of, sliced
 
 KEYS = [b"", b"a", b"a\x00", b"ab", b"b", b"c", b"\xff", b"\xff\xff"]
@@ -31,12 +37,7 @@ INDEXES = {
     "field 2 2c": field(2, b","),
 }
 MOTIONS = "first last next prev nextdup prevdup nextnodup prevnodup current".split()
-STEPS = {
-    "begin": ("ok", "incheckpoint"),
-    "flush": ("flushed", "nothing", "nocheckpoint"),
-    "finish": ("ok", "nodesleft", "nocheckpoint"),
-    "sync": ("ok",),
-}
+STEPS = ["begin", "flush", "flush", "flush", "finish", "finish", "sync"]
 
 
 def drawn(chance, model):
@@ -106,10 +107,10 @@ def script_of(seed, calls):
         lines.append("s1 begin ser nosync wait")
         said.append(model.begin())
     for _ in range(calls):
-        if chance.random() < 0.15:
-            step = chance.choice(sorted(STEPS))
+        if chance.random() < 0.3:
+            step = chance.choice(STEPS)
             lines.append(f"m {step}")
-            said.append(STEPS[step])
+            said.append(model.trees.step(step))
         line, answer = drawn(chance, model)
         lines.append(line)
         said.append(answer)
@@ -143,6 +144,37 @@ def tried(program, seed, calls):
         return f"seed {seed}, opened again: {wrong}" if wrong else None
 
 
+def differing(told, due):
+    """The first line of a report that is not as it is due; None where each is."""
+    for number, (line, right) in enumerate(itertools.zip_longest(told, due), 1):
+        if line != right:
+            return f"line {number} of the report: told {line!r}, due {right!r}"
+    return None
+
+
+def tried_beside(program, seed, calls):
+    """The same of a seed's script of several sessions."""
+    lines, model = sessions.script_of(seed, calls)
+    with tempfile.TemporaryDirectory() as folder:
+        home = os.path.join(folder, "home")
+        status, report = report_of(program, home, lines)
+        wrong = differing(report, model.report) or (f"status {status}" if status else None)
+        if wrong:
+            return f"seed {seed}, several sessions: {wrong}"
+        again, due = sessions.read_again(model)
+        wrong = differing(report_of(program, home, again)[1], due)
+        return f"seed {seed}, several sessions, opened again: {wrong}" if wrong else None
+
+
+def tell(found, of_what):
+    """Prints what is wrong, and how many scripts are right: whether all are."""
+    wrong = [what for what in found if what]
+    for what in wrong[:10]:
+        print(what)
+    print(f"{len(found) - len(wrong)} of {len(found)} scripts of {of_what} are answered as the model does")
+    return not wrong
+
+
 def main():
     parser = argparse.ArgumentParser()
     parser.add_argument("--program", default=PROGRAM)
@@ -155,13 +187,12 @@ def main():
     with concurrent.futures.ThreadPoolExecutor(os.cpu_count()) as pool:
         are_moved = arguments.scripts == 1 or motions.all_tried(arguments.program, pool)
         found = list(pool.map(lambda seed: tried(arguments.program, seed, arguments.calls), seeds))
-    wrong = [what for what in found if what]
-    for what in wrong[:10]:
-        print(what)
-    if arguments.scripts == 1 and wrong:
-        print("".join(line + "\n" for line in script_of(seeds.start, arguments.calls)[0]), end="")
-    print(f"{len(found) - len(wrong)} of {len(found)} scripts are answered as the model does")
-    return 0 if are_moved and not wrong else 1
+        beside = list(pool.map(lambda seed: tried_beside(arguments.program, seed, arguments.calls + 10), seeds))
+    for wrong, made_by, calls in ((found, script_of, arguments.calls), (beside, sessions.script_of, arguments.calls + 10)):
+        if arguments.scripts == 1 and any(wrong):
+            print("".join(line + "\n" for line in made_by(seeds.start, calls)[0]), end="")
+    are_right = [tell(found, "one session"), tell(beside, "several sessions")]
+    return 0 if are_moved and all(are_right) else 1
 
 
 if __name__ == "__main__":

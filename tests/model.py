@@ -1,10 +1,13 @@
 """A plain model of an environment of two databases and indexes of one, and how a report of the program is compared with it.
 
-The model keeps the records of each database as a sorted list and walks it. An index is made anew at each look. It knows nothing of the program.
+The model keeps the records of each database as a sorted list and walks it. An index is made anew at each look. Beside the records it has the trees
+that hold them (trees.py), which say what the steps of checkpoints are answered. It knows nothing of the program.
 """
 
 import os
 import subprocess
+
+from trees import FANOUT, Trees
 
 TOP = os.path.dirname(os.path.dirname(os.path.abspath(__file__)))
 PROGRAM = os.path.join(TOP, "crates", "jedb", "out", "jedb")
@@ -35,6 +38,10 @@ class Model:
         self.cursors = {}  # by number: the database, and where it stands
         self.changed = False
         self.commits = len(KINDS)
+        self.trees = Trees()
+        for db in KINDS:
+            self.trees.create(db)
+            self.trees.end(True)
 
     def all(self, db):
         """The records of a database. Those of an index are pairs of its key and the record's own."""
@@ -68,6 +75,18 @@ class Model:
             db, remove = "p", [r for r in self.records["p"] if r[0] in keys]
         self.records[db] = sorted([r for r in self.records[db] if r not in remove] + add)
         self.changed = True
+        for name in sorted({self.key_of(db, r) for r in remove + add}):
+            self.log_change(db, name, *([r for r in those if self.key_of(db, r) == name] for those in (remove, add)))
+
+    def log_change(self, db, name, old, new):
+        """A record's change, and those of its pairs in indexes that it gives another key, in the order of the indexes."""
+        self.trees.change(db, (name, b"") if db == "p" else name, bool(new))
+        for index, key_in in sorted(self.indexes.items(), key=lambda it: self.trees.numbered[it[0]]) if db == "p" else []:
+            pairs = [[(key_in(data), key) for key, data in those if key_in(data) is not None] for those in (old, new)]
+            if pairs[0] != pairs[1]:
+                for is_there, those in enumerate(pairs):
+                    for pair in those:
+                        self.trees.change(index, pair, bool(is_there))
 
     def write(self, db, record):
         self.change(db, self.at(db, record), [record])
@@ -113,6 +132,9 @@ class Model:
             return "nametaken"
         self.indexes[db] = key_in
         self.changed = True
+        self.trees.create(db)
+        for pair in self.all(db):
+            self.trees.change(db, pair, True)
         return "ok"
 
     def remove_index(self, db):
@@ -121,6 +143,7 @@ class Model:
         if self.indexes.pop(db, None) is None:
             return "nodatabase"
         self.changed = True
+        self.trees.remove(db)
         return "ok"
 
     def truncate(self, db):
@@ -132,6 +155,7 @@ class Model:
             return "hasindex"
         self.records[db] = []
         self.changed = True
+        self.trees.truncate(db)
         return "ok"
 
     # Calls of cursors.
@@ -253,6 +277,7 @@ class Model:
         else:
             self.records = self.committed
         self.committed, self.cursors, self.changed = None, {}, False
+        self.trees.end(keeps)
         return "ok"
 
     def after_call(self):
@@ -260,6 +285,7 @@ class Model:
         if self.committed is None:
             self.commits += self.changed
             self.changed = False
+            self.trees.end(True)
 
 
 def is_answered(report, number, line, said):
@@ -269,8 +295,6 @@ def is_answered(report, number, line, said):
     if not report.startswith(prefix):
         return False
     text = report[len(prefix):]
-    if isinstance(said, tuple):
-        return text.split()[0] in said
     if said in ("ok txn", "intxn"):
         return text.startswith(said)
     return text == said
@@ -278,7 +302,7 @@ def is_answered(report, number, line, said):
 
 def report_of(program, home, lines):
     run = subprocess.run(
-        [program, "run", "--home", home, "--fanout", "4"],
+        [program, "run", "--home", home, "--fanout", str(FANOUT)],
         input="".join(line + "\n" for line in lines).encode(),
         capture_output=True,
         check=False,

@@ -58,10 +58,8 @@ def putting(db, records):
     for key, data in records:
         script.give(f"s1 put {db} {hexed(key)} {hexed(data)}", script.model.put("", db, key, data))
     script.give("s1 commit", script.model.end(True))
-    script.give("m begin", "ok")
-    for _ in range(2 * len(records) + 4):
-        script.give("m flush", ("flushed", "nothing"))
-    script.give("m finish", "ok")
+    for step in ["begin"] + ["flush"] * (2 * len(records) + 4) + ["finish"]:
+        script.give(f"m {step}", script.model.trees.step(step))
     return script
 
 
