@@ -1,12 +1,14 @@
 #!/usr/bin/env python3
 """Writes docs/TRUSTED.md: the definitions that a reader of the contracts has to believe.
 
-    python3 docs/trusted.py             writes the page
-    python3 docs/trusted.py --check     says where the page differs, and ends with 1 then
+    python3 docs/trusted.py                 writes the page
+    python3 docs/trusted.py --check         says where the page differs, and ends with 1 then
+    python3 docs/trusted.py --clause NAME   lists all definitions that a clause of the store's theorem reaches; `run: PART` is a part of `run`
 
 It starts at the contracts of public functions and traits (crates/*/src), follows each name that they cite through the
 imports to its definition (crates/*/specs), and goes on with the names that this definition cites. What a definition says is
-the comment above it; one without a comment goes on with that of the definition before it, or of its part of the file.
+the comment above it. Each definition that the store's theorem rests on has to have one of its own: where one has none, no page is
+written, and the status is 1. Another one without a comment goes on with that of the definition before it, or of its part of the file.
 """
 
 import collections
@@ -19,6 +21,7 @@ import sys
 TOP = os.path.dirname(os.path.dirname(os.path.abspath(__file__)))
 PAGE = os.path.join(TOP, "docs", "TRUSTED.md")
 TOP_CALL = "run_je"  # the call whose contract is the store's theorem
+TOP_RECORD = "IsRunOf"  # the record of what a run keeps; each of its fields is told of alone
 
 # The questions that a reader has, in order, each with the crates whose definitions answer it. What the theorem takes of a
 # crate that is not named here answers the question on the run.
@@ -46,6 +49,16 @@ The definitions of the standard library (lists, options, `filter`, `map`, number
 not listed. `docs/trusted.py` makes this page from the comments in the sources.
 """
 
+CLAUSES = """\
+## Which definitions each clause of `{top}` reaches
+
+How many a clause reaches, by those that it cites and all that these cite, and which of them no row above has reached. So the rows read from the first
+on, each with what is new in it. `python3 docs/trusted.py --clause NAME` lists all that one clause reaches.
+
+| Clause | Reaches | New here |
+|---|---:|---|
+"""
+
 TAIL = """\
 ## Beside the definitions
 
@@ -60,12 +73,15 @@ TAIL = """\
 - The toolchain, the C library, the system's file calls, and the statements of the toolchain's crates are trusted.
 """
 
-NAME = re.compile(r"[A-Za-z_][\w']*")
+NAME = re.compile(r"(?<![.\w'])[A-Za-z_][\w']*")  # behind a dot stands a field
 IMPORT = re.compile(r"use Rattle\.(\w+)\.specs\.([\w.]+)\.\{([^}]*)\}")
 DEFINITION = re.compile(r"^( *)(?:(?:abbrev|unfoldable|opaque) )*pub (?:(?:record|data) )?([A-Za-z_][\w']*|◌\S+◌)(?=[ :])")
 
-Definition = collections.namedtuple("Definition", "crate module name file line says cites")
-Contract = collections.namedtuple("Contract", "name owner crate module cites bounds is_public")
+FIELD = re.compile(r"^ *pub (\w+) :")
+CLAUSE = re.compile(r"^ *ensures (\w+) \{")
+
+Definition = collections.namedtuple("Definition", "crate module name file line says cites has_own fields")
+Contract = collections.namedtuple("Contract", "name owner crate module cites bounds is_public clauses", defaults=[()])
 Constant = collections.namedtuple("Constant", "crate name value says file")
 
 
@@ -106,12 +122,20 @@ def definitions_of(crate, file):
     scope = Scope("\n".join(lines), crate, module, [m[2] for _, m in starts])
     before = sentence([lines[0][2:]]) if lines[0].startswith("-- ") else ""
     for at, (n, m) in enumerate(starts):
-        says = sentence(comment_above(lines, n) or heading_above(lines, n)) or before
+        own = comment_above(lines, n)
+        says = sentence(own or heading_above(lines, n)) or before
         end = starts[at + 1][0] if at + 1 < len(starts) else len(lines)
-        body = "\n".join(line for line in lines[n:end] if not line.lstrip().startswith("--"))
-        cites = [it for it in scope.cited(body) if it != (crate, module, m[2])]
-        yield Definition(crate, module, m[2], file, n, says, cites)
+        body = [line for line in lines[n:end] if not line.lstrip().startswith("--")]
+        cites = [it for it in scope.cited("\n".join(body)) if it != (crate, module, m[2])]
+        yield Definition(crate, module, m[2], file, n, says, cites, bool(own), parts_of(body, FIELD, scope))
         before = says
+
+
+def parts_of(lines, begins, scope):
+    """The parts of a text that each begin with such a line, by their names, and what each cites."""
+    starts = [(n, m[1]) for n, m in ((n, begins.match(line)) for n, line in enumerate(lines)) if m]
+    ends = [n for n, _ in starts[1:]] + [len(lines)]
+    return tuple((name, scope.cited("\n".join(lines[n:end]))) for (n, name), end in zip(starts, ends))
 
 
 def is_outer(lines, n, match):
@@ -168,11 +192,12 @@ def contracts_of(crate, file, is_public_name):
             owner, has_public_methods, is_public_owner = "", False, False
         elif function:
             end = end_of_contract(lines, n, function[1])
-            text = "\n".join(code for code in lines[n:end] if not code.lstrip().startswith("//"))
+            code = [it for it in lines[n:end] if not it.lstrip().startswith("//")]
+            text = "\n".join(code)
             bounds = re.findall(r"\w+:\s*(\w+)", text.split("(")[0])
             in_owner = bool(function[1]) and bool(owner)
             public = (bool(function[2]) or has_public_methods) and is_public_owner if in_owner else bool(function[2]) and is_public_name(function[3])
-            yield Contract(function[3], owner if in_owner else "", crate, module, scope.cited(text), bounds, public)
+            yield Contract(function[3], owner if in_owner else "", crate, module, scope.cited(text), bounds, public, parts_of(code, CLAUSE, scope))
             n = end
             continue
         elif re.match(r" {4}ghost (?!use)", line) and is_public_owner and ("ghost invariant" not in line or has_public_fields(lines, owner)):
@@ -239,8 +264,11 @@ class Repository:
 
     def followed(self, contracts):
         """The definitions and constants that contracts cite, and all that these cite."""
-        waiting = [it for contract in contracts for it in contract.cites]
-        found, constants = {}, {}
+        return self.reached([it for contract in contracts for it in contract.cites])
+
+    def reached(self, cites):
+        """The definitions and constants of these names, and of all that they cite."""
+        waiting, found, constants = list(cites), {}, {}
         while waiting:
             crate, module, name = self.handed_on.get(waiting[-1], waiting[-1])
             waiting.pop()
@@ -254,11 +282,26 @@ class Repository:
                 self.lost.add(f"crates/{crate}/specs/{module}.antt has no {name}, which is cited")
         return found, constants
 
-    def of_theorem(self):
-        """The contract of the top call, and those of the traits that it is stated over."""
+    def top(self):
         tops = [it for it in self.contracts if it.name == TOP_CALL and it.is_public]
         if len(tops) != 1:
             sys.exit(f"trusted: {len(tops)} public functions {TOP_CALL}")
+        return tops[0]
+
+    def clauses(self):
+        """The clauses of the top call, each with the definitions that it reaches; of the record of a run each field alone."""
+        for name, cites in self.top().clauses:
+            records = [self.definitions[it] for it in cites if it in self.definitions and it[2] == TOP_RECORD]
+            yield f"`{name}`", self.reached(it for it in cites if it[2] != TOP_RECORD)[0]
+            for record in records:
+                yield f"`{name}`: the record", {(record.crate, record.module, record.name): record}
+                for field, its in record.fields:
+                    yield f"`{name}`: `{field}`", self.reached(its)[0]
+        yield "the contracts of the traits that it is stated over", self.followed(self.of_theorem()[1:])[0]
+
+    def of_theorem(self):
+        """The contract of the top call, and those of the traits that it is stated over."""
+        tops = [self.top()]
         traits = set(tops[0].bounds)
         chosen = []
         while True:
@@ -294,6 +337,29 @@ def tables(repository, definitions, constants):
         yield f"| {names} | {says} |"
 
 
+def in_order(repository, definitions):
+    return sorted(definitions, key=lambda it: (repository.crates.index(it.crate), it.file, it.line))
+
+
+def clause_rows(repository):
+    """The rows of the clauses, each with the definitions that none above has reached."""
+    met = set()
+    for label, found in repository.clauses():
+        new = in_order(repository, (it for key, it in found.items() if key not in met))
+        met |= set(found)
+        yield f"| {label} | {len(found)} | {', '.join(f'`{it.name}`' for it in new)} |"
+
+
+def tell_clause(repository, name):
+    """Prints the definitions that a clause reaches, each with its file and what it says."""
+    for label, found in repository.clauses():
+        if label.replace("`", "") == name:
+            for it in in_order(repository, found.values()):
+                print(f"{it.file}: {it.name}: {it.says}")
+            return
+    sys.exit(f"trusted: {TOP_CALL} has no clause {name}")
+
+
 def page(repository):
     own, own_constants = repository.followed(repository.of_theorem())
     whole, constants = repository.followed([it for it in repository.contracts if it.is_public])
@@ -304,12 +370,20 @@ def page(repository):
             print(f"trusted: no comment above {it.name} in {it.file}", file=sys.stderr)
     for text in sorted(repository.lost):
         print(f"trusted: {text}", file=sys.stderr)
+    lacking = in_order(repository, (it for it in own.values() if not it.has_own))
+    for it in lacking:
+        print(f"trusted: {it.file}: {it.name} has no comment of its own", file=sys.stderr)
+    if lacking:
+        sys.exit(f"trusted: {len(lacking)} of the {len(own)} definitions that {TOP_CALL} rests on have no comment of their own")
     parts = [HEAD.format(top=TOP_CALL), f"\n## What `{TOP_CALL}` rests on: {len(own)} definitions\n", *tables(repository, own, own_constants),
+             "\n\n" + CLAUSES.format(top=TOP_CALL) + "\n".join(clause_rows(repository)),
              f"\n\n## What contracts of other public functions cite besides: {len(rest)} definitions\n", *tables(repository, rest, more), "\n\n" + TAIL]
     return re.sub(r"\n{3,}", "\n\n", "\n".join(parts)).rstrip() + "\n"
 
 
 def main():
+    if "--clause" in sys.argv[1:]:
+        return tell_clause(Repository(), " ".join(sys.argv[sys.argv.index("--clause") + 1:]))
     made = page(Repository())
     if "--check" in sys.argv[1:]:
         kept = "\n".join(lines_of(PAGE)) if os.path.isfile(PAGE) else ""
