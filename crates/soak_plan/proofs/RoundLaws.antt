@@ -1,0 +1,33 @@
+-- One round of a soak more.
+use Rattle.std.proofs.Common.{◌≡◌, ◌+◌, ◌-◌, ◌<◌, ◌≤◌, ◌++◌, ◌∷◌, [], ℕ, zero, suc, List, length, sym, ap, refl, ◌∙◌, append_assoc, arith}
+use Rattle.std.proofs.lemmas.List.{append-nil}
+use Rattle.store_model.specs.declared.plan.ScriptLine.{ScriptLine}
+use Rattle.store_model.specs.declared.plan.ScriptLine.TheVariants.{Session}
+use Rattle.soak_plan.specs.declared.soak_state.SoakState.{SoakState}
+use Rattle.soak_plan.specs.declared.round.Round.{Round}
+use Rattle.soak_plan.specs.Rounds.{next_round, rounds_from, step_lines}
+
+one_more : (all lines : List ScriptLine) (left round line : ℕ) (s : SoakState) → all ≡ lines ++ rounds_from (suc left) round line s →
+    all ≡ ((lines ++ Session (next_round s).session line (next_round s).call ∷ []) ++ step_lines round (line + 1)) ++ rounds_from left (round + 1) (line + 1 + length (step_lines round (line + 1))) (next_round s).after
+unfolding rounds_from
+one_more all lines left round line s e =
+    let call : List ScriptLine = Session (next_round s).session line (next_round s).call ∷ [] in
+    let steps : List ScriptLine = step_lines round (line + 1) in
+    let rest : List ScriptLine = rounds_from left (round + 1) (line + 1 + length steps) (next_round s).after in
+    e ∙ sym (append_assoc lines call (steps ++ rest)) ∙ sym (append_assoc (lines ++ call) steps rest)
+
+pub few_steps : (round line : ℕ) → length (step_lines round line) ≤ 1
+few_steps round line = grind (arith)
+
+-- behind a round
+pub round_done : (all lines : List ScriptLine) (done line : ℕ) (s : SoakState) (it : Round) → done < 4000 → it ≡ next_round s → all ≡ lines ++ rounds_from (4000 - done) (done + 1) line s →
+    all ≡ ((lines ++ Session it.session line it.call ∷ []) ++ step_lines (done + 1) (line + 1)) ++ rounds_from (4000 - (done + 1)) (done + 1 + 1) (line + 1 + length (step_lines (done + 1) (line + 1))) it.after
+round_done all lines done line s it within is e =
+    let next : 4000 - done ≡ suc (4000 - (done + 1)) = omega arith in
+    rw is (one_more all lines (4000 - (done + 1)) (done + 1) line s (rw next at e))
+
+pub all_done : (all lines : List ScriptLine) (done line : ℕ) (s : SoakState) → 4000 ≤ done → all ≡ lines ++ rounds_from (4000 - done) (done + 1) line s → lines ≡ all
+unfolding rounds_from
+all_done all lines done line s past e =
+    let none : 4000 - done ≡ 0 = omega arith in
+    sym (append-nil lines) ∙ sym (rw none at e)
