@@ -1,13 +1,11 @@
--- A text cut at its first blank or line feed.
+-- A text cut at its first blank.
 mod TextCuts
--- Hexadecimal digits, one byte after another.
-mod HexDigits
 -- What the lines of a script give, one line after another.
 mod ScriptLines
 -- The steps of a script's plan have the numbers of lines.
 mod PlanCalls
--- Texts sent through a buffer.
-mod BufferedText
+-- The lines of a report, as they are sent.
+mod ReportLines
 -- Which calls wait, along a journal.
 mod WaitingCalls
 -- Which transactions have changed something, and how many commits there are, along a journal.

@@ -1,7 +1,8 @@
 -- What the lines of a script give, one line after another.
 use Rattle.std.proofs.Common.{◌≡◌, ◌+◌, ℕ, List, ◌∷◌, ◌++◌, Option, Result, Ok, Err, option_to_list, refl, sym, ap, ◌∙◌, append_assoc}
 use Rattle.store_model.specs.declared.plan.ScriptLine.{ScriptLine}
-use Rattle.script_text.specs.Grammar.{text_lines, lines_give, line_gives, and_then}
+use Rattle.text_lines.specs.Lines.{text_lines}
+use Rattle.script_text.specs.Grammar.{lines_give, line_gives, and_then}
 
 -- what was given before, and then what others give
 abbrev pub with_front : List ScriptLine → Result (List ScriptLine) ℕ → Result (List ScriptLine) ℕ

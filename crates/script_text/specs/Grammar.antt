@@ -1,6 +1,6 @@
 -- The grammar of scripts (this project's own): what the bytes of a script ask for, or the first line that is outside it.
 use Rattle.std.specs.Prelude.{ℕ, ◌+◌, ◌-◌, ◌*◌, ◌≡◌, ◌==◌, ◌&&◌, ◌++◌, ◌∷◌, [], nat_le, nat_lt, not, ◌||◌, true, false, codes, List, Bool, Option, Some, None, option_to_list, Result, Ok, Err, if◌then◌else◌}
-use Rattle.std.specs.List.{list_all, onto_first}
+use Rattle.std.specs.List.{list_all}
 use Rattle.std.specs.Str.{bytes_eq}
 use Rattle.je_order.specs.Words.{is_word}
 use Rattle.store_model.specs.declared.isolation.Isolation.{Isolation}
@@ -18,6 +18,7 @@ use Rattle.store_model.specs.declared.plan.ScriptLine.TheVariants.{Session, Main
 use Rattle.store_model.specs.declared.step.Step.{Step}
 use Rattle.store_model.specs.declared.step.Step.TheVariants.{Begin as BeginStep, Flush, Finish, Sync as SyncStep}
 use Rattle.store_model.specs.declared.plan.RunPlan.{RunPlan}
+use Rattle.text_lines.specs.Lines.{text_lines}
 use Rattle.script_text.specs.Words.{words_of}
 use Rattle.script_text.specs.Bytes.{bytes_of}
 use Rattle.script_text.specs.Cursors.{rmw_of, cursor_call_of}
@@ -25,11 +26,6 @@ use Rattle.script_text.specs.Indexes.{is_digit, index_of}
 use Rattle.script_text.specs.declared.parsing.TheConstants.{MOST_LINES}
 use Rattle.script_text.specs.declared.parsing.ParseErr.{ParseErr}
 use Rattle.script_text.specs.declared.parsing.ParseErr.TheVariants.{BadScript, Memory}
-
--- the lines of a script: each ends with a line feed, which the last one may lack
-abbrev pub text_lines : List ℕ → List (List ℕ)
-text_lines [] = []
-text_lines (c ∷ rest) = if c == 10 then [] ∷ text_lines rest else onto_first c (text_lines rest)
 
 -- a session is s1 to s64, its number without a leading zero
 abbrev pub one_digit : ℕ → ℕ → Option ℕ

@@ -1,14 +1,14 @@
 // The texts of answers.
 ghost use Rattle.std.specs.Prelude.{◌≡◌, ◌++◌, [], codes, decimal, unwrap_or, is_some, position};
 ghost use Rattle.std.specs.List.{flat_map};
-ghost use Rattle.script_text.specs.OutBuffer.{Adds, point};
+ghost use Rattle.text_out.specs.OutBuffer.{Adds, point};
 ghost use Rattle.script_text.specs.Report.{answer_text, bytes_text, cycle_text, dup_text, is_least_in, name_text, number_in, number_text, place_text, short_text, turned, txn_text, waiting_text, word_text};
 
-use crate::out_buffer::OutBuffer;
-use crate::texts::{put_bytes, put_number};
+use crate::texts::put_bytes;
 use je_io::Sink;
 use je_order::{Bound, TxnId, Word};
 use store_model::{Answer, Kind, LockTarget};
+use text_out::{OutBuffer, put_number};
 
 fn put_record<K: Sink>(buffer: &mut OutBuffer, out: &mut K, key: &[u8], value: &[u8])
     ensures { Adds (point (K.written out.old) (K.faults out.old) buffer.old)

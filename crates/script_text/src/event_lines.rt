@@ -1,14 +1,14 @@
 // The lines of events.
 ghost use Rattle.std.specs.Prelude.{◌≡◌, ◌++◌, [], codes};
 ghost use Rattle.std.specs.List.{flat_map};
-ghost use Rattle.script_text.specs.OutBuffer.{Adds, point};
+ghost use Rattle.text_out.specs.OutBuffer.{Adds, point};
 ghost use Rattle.script_text.specs.Report.{answer_text, line_if_any, own_line, step_line, victim_line, victims_text};
 
 use crate::answer_texts::{has_text, put_answer, put_cycle};
-use crate::out_buffer::OutBuffer;
-use crate::texts::{put_front, put_number};
+use crate::texts::put_front;
 use je_io::Sink;
 use store_model::{Answer, Event, Victim};
+use text_out::{OutBuffer, put_number};
 
 // Sends the line of a call with its answer, where the answer has a text.
 fn put_call<K: Sink>(buffer: &mut OutBuffer, out: &mut K, session: u8, line: u32, answer: &Answer)

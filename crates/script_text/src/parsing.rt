@@ -5,12 +5,12 @@ ghost use Rattle.script_text.specs.Grammar.{Gives, given_of, is_line, is_skipped
 ghost use Rattle.script_text.specs.Words.{words_of};
 
 use crate::calls::call_of;
-use crate::lines::cut_line;
 use crate::session::session_number;
 use crate::words::Words;
 use je_order::List;
 use std::alloc::{AllocError, AllocFailed, Global};
 use store_model::{RunPlan, ScriptLine, Step};
+use text_lines::cut_line;
 
 /// The most lines that a script may have.
 pub const MOST_LINES: u32 = 1_000_000;

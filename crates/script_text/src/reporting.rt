@@ -3,17 +3,17 @@ ghost use Rattle.std.specs.Prelude.{◌≡◌, ◌<◌, ◌≤◌, ◌+◌, ◌+
 ghost use Rattle.std.specs.List.{flat_map};
 ghost use Rattle.je_order.specs.Counts.{HasRisen};
 ghost use Rattle.je_io.specs.Sink.{Gains, GainsPart};
-ghost use Rattle.script_text.specs.OutBuffer.{Adds, point};
+ghost use Rattle.text_out.specs.OutBuffer.{Adds, point};
 ghost use Rattle.script_text.specs.Report.{end_line, NoneWaits, event_text, events_text, none_begun, report_text, settled_line, waiting_after, waiting_if};
 
 use crate::counting::commits_of;
 use crate::event_lines::{put_own_line, put_victims};
 use crate::logged_call::LoggedCall;
-use crate::out_buffer::OutBuffer;
-use crate::texts::{put_line, put_number};
+use crate::texts::put_line;
 use crate::waiting::{first_waiting, is_settled, logged_call, may_settle, settles, settling_text};
 use je_io::{Failed, Sink};
 use store_model::{Event, Totals};
+use text_out::{OutBuffer, put_number};
 
 /// Prints the report of a journal: a line for each answer to a call or a step, those of an event's
 /// victims behind its own, and the last line with the number of commits and what the final store holds. It takes no memory. `Failed` is a fault of the

@@ -1,8 +1,8 @@
 // The words of a line, one after another.
 ghost use Rattle.std.specs.Prelude.{◌≡◌, ◌++◌, [], option_to_list, option_copied, IfNone};
 
-use crate::cutting::place_of;
 use std::marker::Model;
+use text_lines::find_byte;
 
 // The words of a line that are still to be read, seen as the list of them.
 #[derive(Drop)]
@@ -35,7 +35,7 @@ impl<'a> Words<'a> {
         ensures none { IfNone result (self.old ≡ []) }
     {
         let text = self.rest?;
-        match place_of(b' ', text) {
+        match find_byte(b' ', text) {
             Some(at) => {
                 self.rest = Some(&text[at + 1..]);
                 Some(&text[..at])

@@ -1,4 +1,5 @@
-use Rattle.script_text.proofs.BufferedText.{adds_same, short_is}
+use Rattle.text_out.proofs.BufferedText.{adds_same}
+use Rattle.script_text.proofs.ReportLines.{short_is}
 use Rattle.script_text.proofs.answer_texts.put_answer.Goals as goal
 
 pub returns-in_default : goal.returns-in_default

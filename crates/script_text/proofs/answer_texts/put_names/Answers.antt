@@ -1,9 +1,9 @@
 use Rattle.std.proofs.Common.{ap}
 use Rattle.std.specs.List.{flat_map}
 use Rattle.std.proofs.lemmas.List.{take_all}
-use Rattle.script_text.specs.OutBuffer.{point}
+use Rattle.text_out.specs.OutBuffer.{point}
 use Rattle.script_text.specs.Report.{name_text}
-use Rattle.script_text.proofs.BufferedText.{adds_none, adds_same, adds_then, next_text}
+use Rattle.text_out.proofs.BufferedText.{adds_none, adds_same, adds_then, next_text}
 use Rattle.script_text.proofs.answer_texts.put_names.Goals as goal
 
 pub loop-k-init : goal.loop-k-init

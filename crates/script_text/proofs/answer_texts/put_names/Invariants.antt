@@ -1,6 +1,6 @@
 use Rattle.std.proofs.Common.{take}
 use Rattle.std.specs.List.{flat_map}
-use Rattle.script_text.specs.OutBuffer.{Adds, point}
+use Rattle.text_out.specs.OutBuffer.{Adds, point}
 use Rattle.script_text.specs.Report.{name_text}
 use Rattle.script_text.proofs.answer_texts.put_names.Given as goal
 

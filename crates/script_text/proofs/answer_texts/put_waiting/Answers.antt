@@ -1,4 +1,4 @@
-use Rattle.script_text.proofs.BufferedText.{adds_then, adds_same}
+use Rattle.text_out.proofs.BufferedText.{adds_then, adds_same}
 use Rattle.script_text.proofs.answer_texts.put_waiting.Goals as goal
 
 pub returns : goal.returns

@@ -1,5 +1,5 @@
 use Rattle.script_text.specs.Report.{answer_text}
-use Rattle.script_text.proofs.BufferedText.{adds_line}
+use Rattle.script_text.proofs.ReportLines.{adds_line}
 use Rattle.script_text.proofs.event_lines.put_call.Goals as goal
 
 pub returns-then-has_text : goal.returns-then-has_text

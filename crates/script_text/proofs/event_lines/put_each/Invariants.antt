@@ -1,6 +1,6 @@
 use Rattle.std.proofs.Common.{take}
 use Rattle.std.specs.List.{flat_map}
-use Rattle.script_text.specs.OutBuffer.{Adds, point}
+use Rattle.text_out.specs.OutBuffer.{Adds, point}
 use Rattle.script_text.specs.Report.{victim_line}
 use Rattle.script_text.proofs.event_lines.put_each.Given as goal
 

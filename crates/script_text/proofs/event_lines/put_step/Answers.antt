@@ -1,6 +1,7 @@
 use Rattle.std.proofs.Common.{ap, decimal}
 use Rattle.script_text.specs.Report.{answer_text}
-use Rattle.script_text.proofs.BufferedText.{adds_then, adds_same, adds_step}
+use Rattle.text_out.proofs.BufferedText.{adds_then, adds_same}
+use Rattle.script_text.proofs.ReportLines.{adds_step}
 use Rattle.script_text.proofs.event_lines.put_step.Goals as goal
 
 pub returns-then-has_text : goal.returns-then-has_text

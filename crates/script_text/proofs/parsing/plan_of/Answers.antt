@@ -1,5 +1,6 @@
 use Rattle.std.proofs.Common.{arith}
-use Rattle.script_text.specs.Grammar.{text_lines, lines_give}
+use Rattle.text_lines.specs.Lines.{text_lines}
+use Rattle.script_text.specs.Grammar.{lines_give}
 use Rattle.script_text.proofs.ScriptLines.{good_line}
 use Rattle.script_text.proofs.parsing.plan_of.Goals as goal
 

@@ -1,5 +1,6 @@
 use Rattle.std.proofs.Common.{length, ◌≡◌, ◌≤◌}
-use Rattle.script_text.specs.Grammar.{text_lines, lines_give}
+use Rattle.text_lines.specs.Lines.{text_lines}
+use Rattle.script_text.specs.Grammar.{lines_give}
 use Rattle.script_text.proofs.ScriptLines.{with_front}
 use Rattle.script_text.proofs.parsing.plan_of.Given as goal
 

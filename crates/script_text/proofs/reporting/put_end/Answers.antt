@@ -1,4 +1,4 @@
-use Rattle.script_text.proofs.BufferedText.{adds_then}
+use Rattle.text_out.proofs.BufferedText.{adds_then}
 use Rattle.script_text.proofs.reporting.put_end.Goals as goal
 
 pub returns : goal.returns

@@ -1,9 +1,9 @@
 use Rattle.std.proofs.Common.{List, [], ◌++◌, take, drop, refl, sym, ap, subst, ◌∙◌, arith}
 use Rattle.std.proofs.lemmas.List.{append-nil, drop_all, take-take}
 use Rattle.store_model.specs.declared.event.Event.{Event}
-use Rattle.script_text.specs.OutBuffer.{point}
+use Rattle.text_out.specs.OutBuffer.{point}
 use Rattle.script_text.specs.Report.{NoneWaits, events_text, none_begun}
-use Rattle.script_text.proofs.BufferedText.{adds_none, adds_same, adds_then}
+use Rattle.text_out.proofs.BufferedText.{adds_none, adds_same, adds_then}
 use Rattle.script_text.proofs.WaitingCalls.{events_step}
 use Rattle.script_text.proofs.reporting.put_events.Goals as goal
 

@@ -1,5 +1,5 @@
 use Rattle.std.proofs.Common.{◌≡◌, ◌≤◌, ◌++◌, ℕ, List, [], take, drop}
-use Rattle.script_text.specs.OutBuffer.{Adds, point}
+use Rattle.text_out.specs.OutBuffer.{Adds, point}
 use Rattle.script_text.specs.Report.{NoneWaits, events_text, none_begun}
 use Rattle.script_text.proofs.reporting.put_events.Given as goal
 

@@ -1,9 +1,9 @@
 use Rattle.std.proofs.Common.{[], ◌++◌, take, sym, ap, ◌∙◌}
 use Rattle.std.specs.List.{flat_map}
 use Rattle.std.proofs.lemmas.List.{append-nil, drop_all}
-use Rattle.script_text.specs.OutBuffer.{point}
+use Rattle.text_out.specs.OutBuffer.{point}
 use Rattle.script_text.specs.Report.{begun_after, none_begun, settled_line, waiting_after}
-use Rattle.script_text.proofs.BufferedText.{adds_none, adds_same, adds_then}
+use Rattle.text_out.proofs.BufferedText.{adds_none, adds_same, adds_then}
 use Rattle.script_text.proofs.WaitingCalls.{nothing_settled, settled_step, waiting_from}
 use Rattle.script_text.proofs.reporting.put_settled.Goals as goal
 

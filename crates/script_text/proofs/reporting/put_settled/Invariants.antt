@@ -1,6 +1,6 @@
 use Rattle.std.proofs.Common.{◌≡◌, ◌++◌, ℕ, List, take, drop}
 use Rattle.std.specs.List.{flat_map}
-use Rattle.script_text.specs.OutBuffer.{Adds, point}
+use Rattle.text_out.specs.OutBuffer.{Adds, point}
 use Rattle.script_text.specs.Report.{begun_after, none_begun, settled_line, waiting_after}
 use Rattle.script_text.proofs.reporting.put_settled.Given as goal
 

@@ -1,6 +1,6 @@
 use Rattle.std.proofs.Common.{sym, ap}
 use Rattle.script_text.specs.Report.{end_line}
-use Rattle.script_text.proofs.BufferedText.{adds_same, all_sent, sent_whole, sent_part}
+use Rattle.text_out.proofs.BufferedText.{adds_same, all_sent, sent_whole, sent_part}
 use Rattle.script_text.proofs.reporting.report.Goals as goal
 
 pub returns-then-has_failed-clause-part : goal.returns-then-has_failed-clause-part

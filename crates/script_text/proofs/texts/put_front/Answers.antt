@@ -1,5 +1,5 @@
 use Rattle.std.proofs.Common.{ap, decimal}
-use Rattle.script_text.proofs.BufferedText.{adds_then, adds_same}
+use Rattle.text_out.proofs.BufferedText.{adds_then, adds_same}
 use Rattle.script_text.proofs.texts.put_front.Goals as goal
 
 pub returns : goal.returns

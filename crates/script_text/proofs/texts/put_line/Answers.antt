@@ -1,5 +1,5 @@
 use Rattle.std.proofs.Common.{Some, refl}
-use Rattle.script_text.proofs.BufferedText.{adds_line}
+use Rattle.script_text.proofs.ReportLines.{adds_line}
 use Rattle.script_text.proofs.texts.put_line.Goals as goal
 
 pub returns : goal.returns

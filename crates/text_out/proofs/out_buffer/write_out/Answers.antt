@@ -1,5 +1,5 @@
-use Rattle.script_text.proofs.BufferedText.{adds_written, adds_broken}
-use Rattle.script_text.proofs.out_buffer.write_out.Goals as goal
+use Rattle.text_out.proofs.BufferedText.{adds_written, adds_broken}
+use Rattle.text_out.proofs.out_buffer.write_out.Goals as goal
 
 pub returns-in-Ok : goal.returns-in-Ok
 returns-in-Ok g c =

@@ -1,13 +1,13 @@
 // A buffer of bytes in front of a sink.
 ghost use Rattle.std.specs.Prelude.{◌≡◌, ◌<◌, ◌∷◌, [], length, false};
-ghost use Rattle.script_text.specs.OutBuffer.{Adds, held_of, point};
+ghost use Rattle.text_out.specs.OutBuffer.{Adds, held_of, point};
 
 use je_io::{Sink, write_all};
 use std::marker::Model;
 
 const BUFFER_LEN: usize = 4_096;
 
-// Bytes on their way to a sink. A write that fails is remembered, and nothing is written after it.
+/// Bytes on their way to a sink, at most 4,096 of them. A write that fails is remembered, and nothing is written after it.
 #[derive(Drop)]
 pub struct OutBuffer {
     bytes: [u8; BUFFER_LEN],
@@ -17,7 +17,7 @@ pub struct OutBuffer {
 
 impl Model for OutBuffer {
     ghost use Rattle.std.specs.Prelude.{◌≤◌, take};
-    ghost use Rattle.script_text.specs.OutBuffer.{Held};
+    ghost use Rattle.text_out.specs.OutBuffer.{Held};
 
     ghost Value = { Held };
 
@@ -27,7 +27,7 @@ impl Model for OutBuffer {
 }
 
 impl OutBuffer {
-    // An empty buffer.
+    /// An empty buffer.
     pub fn new() -> OutBuffer
         ensures bytes { result.bytes ≡ [] }
         ensures failed { result.failed ≡ false }
@@ -39,14 +39,14 @@ impl OutBuffer {
         }
     }
 
-    // Whether a write has failed.
+    /// Whether a write has failed.
     pub fn has_failed(&self) -> bool
         ensures { result ≡ self.now.failed }
     {
         self.failed
     }
 
-    // Sends what the buffer holds to the sink.
+    /// Sends what the buffer holds to the sink.
     pub fn flush<K: Sink>(&mut self, out: &mut K)
         ensures adds { Adds (point (K.written out.old) (K.faults out.old) self.old)
             (point (K.written out.new) (K.faults out.new) self.new)
@@ -57,6 +57,7 @@ impl OutBuffer {
         self.len = 0;
     }
 
+    // Sends what the buffer holds where it is full.
     fn make_room<K: Sink>(&mut self, out: &mut K)
         ensures adds { Adds (point (K.written out.old) (K.faults out.old) self.old)
             (point (K.written out.new) (K.faults out.new) self.new)
@@ -68,7 +69,7 @@ impl OutBuffer {
         }
     }
 
-    // Sends a byte.
+    /// Sends a byte.
     pub fn put_byte<K: Sink>(&mut self, out: &mut K, byte: u8)
         ensures { Adds (point (K.written out.old) (K.faults out.old) self.old)
             (point (K.written out.new) (K.faults out.new) self.new)
@@ -79,7 +80,7 @@ impl OutBuffer {
         self.len += 1;
     }
 
-    // Sends bytes.
+    /// Sends bytes.
     pub fn put<K: Sink>(&mut self, out: &mut K, bytes: &[u8])
         ensures { Adds (point (K.written out.old) (K.faults out.old) self.old)
             (point (K.written out.new) (K.faults out.new) self.new)

@@ -1,10 +1,10 @@
 use Rattle.std.proofs.Common.{sym, ap}
 use Rattle.std.proofs.lemmas.List.{take_all}
 use Rattle.hex.specs.Hex.{encode_lower}
-use Rattle.script_text.specs.OutBuffer.{point}
-use Rattle.script_text.proofs.HexDigits.{encode_lower-nil, encode_lower_more}
-use Rattle.script_text.proofs.BufferedText.{adds_none, adds_same, adds_then}
-use Rattle.script_text.proofs.texts.put_digits.Goals as goal
+use Rattle.text_out.specs.OutBuffer.{point}
+use Rattle.text_out.proofs.HexDigits.{encode_lower-nil, encode_lower_more}
+use Rattle.text_out.proofs.BufferedText.{adds_none, adds_same, adds_then}
+use Rattle.text_out.proofs.digits.put_digits.Goals as goal
 
 pub loop-byte-init : goal.loop-byte-init
 loop-byte-init g c =

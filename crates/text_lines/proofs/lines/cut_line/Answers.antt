@@ -1,7 +1,7 @@
 use Rattle.std.proofs.Common.{◌+◌, length, sym, arith}
 use Rattle.std.proofs.lemmas.List.{take_rest, drop_all}
-use Rattle.script_text.proofs.TextCuts.{lines_cut, lines_whole}
-use Rattle.script_text.proofs.lines.cut_line.Goals as goal
+use Rattle.text_lines.proofs.LineCuts.{lines_cut, lines_whole}
+use Rattle.text_lines.proofs.lines.cut_line.Goals as goal
 
 pub returns-in-Some-clause-lines : goal.returns-in-Some-clause-lines
 returns-in-Some-clause-lines c =

@@ -1,7 +1,7 @@
 use Rattle.std.proofs.Common.{take}
 use Rattle.hex.specs.Hex.{encode_lower}
-use Rattle.script_text.specs.OutBuffer.{Adds, point}
-use Rattle.script_text.proofs.texts.put_digits.Given as goal
+use Rattle.text_out.specs.OutBuffer.{Adds, point}
+use Rattle.text_out.proofs.digits.put_digits.Given as goal
 
 abbrev pub invariant-loop-byte : goal.invariant-loop-byte
 invariant-loop-byte g l =

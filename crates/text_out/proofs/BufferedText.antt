@@ -1,5 +1,5 @@
 -- Texts sent through a buffer.
-use Rattle.std.proofs.Common.{◌≡◌, ◌<◌, ◌≤◌, ◌+◌, ℕ, List, [], ◌∷◌, ◌++◌, get_or, length, take, drop, min, Bool, true, false, Option, Some, None, is_some, unwrap_or, codes, decimal, refl, sym, ap, ◌∙◌, subst, inl, inr, append_assoc, length-append, length-drop, arith}
+use Rattle.std.proofs.Common.{◌≡◌, ◌<◌, ◌≤◌, ◌+◌, ℕ, List, [], ◌∷◌, ◌++◌, get_or, length, take, drop, min, Bool, true, false, Option, Some, None, refl, sym, ap, ◌∙◌, subst, inl, inr, append_assoc, length-append, length-drop, arith}
 use Rattle.std.proofs.Math.Nat.{eq-or-lt_of_le}
 use Rattle.std.specs.List.{flat_map}
 use Rattle.std.proofs.lemmas.List.{append-nil, take-append-drop, take-append-le, drop-append-le, take_all, drop_all, take_min, take_more}
@@ -7,12 +7,7 @@ use Rattle.std.proofs.lemmas.List.Concat.{flat_map-append}
 use Rattle.je_order.specs.Counts.{HasRisen}
 use Rattle.je_io.specs.Sink.{Gains, GainsPart}
 use Rattle.je_io.proofs.SourceSinkSteps.{gains_then, gains_further, gains_none}
-use Rattle.je_order.specs.declared.txn_id.TxnId.{TxnId}
-use Rattle.store_model.specs.declared.lock_target.LockTarget.{LockTarget}
-use Rattle.store_model.specs.declared.answer.Answer.{Answer}
-use Rattle.store_model.specs.declared.answer.Answer.TheVariants.{Rec, IndexRec, Names, Waiting, Deadlock, MustAbort}
-use Rattle.script_text.specs.Report.{answer_text, line_if_any, short_text, step_line}
-use Rattle.script_text.specs.OutBuffer.{Held, Point, point, held_of, Sends, Adds}
+use Rattle.text_out.specs.OutBuffer.{Held, Point, point, held_of, Sends, Adds}
 
 -- a count that rose later rose
 rose_later : {a f g : ℕ} → a ≤ f → f ≤ g → HasRisen f g → HasRisen a g
@@ -124,30 +119,6 @@ sent_whole {w} {f} {now} {text} s empty good =
 -- some of it has
 pub sent_part : {w : Option (List ℕ)} {f : ℕ} {now : Point} {text : List ℕ} → Sends w f now text → GainsPart w now.written text
 sent_part s = (s.count, s.gained)
-
--- a line of a call whose answer has a text
-pub adds_line : {a b c d : Point} (session line : ℕ) (text : Option (List ℕ)) → true ≡ is_some text →
-    Adds a b (decimal line ++ codes " s" ++ decimal session ++ codes " ") → Adds b c (unwrap_or text []) → Adds c d (codes "\n") → Adds a d (line_if_any session line text)
-adds_line session line (Some text) there front middle last = adds_then (adds_then front middle) last
-adds_line session line None there front middle last = cc
-
--- a line of a step whose answer has a text
-pub adds_step : {a b c d : Point} (line : ℕ) (text : Option (List ℕ)) → true ≡ is_some text →
-    Adds a b (decimal line ++ codes " m ") → Adds b c (unwrap_or text []) → Adds c d (codes "\n") → Adds a d (step_line line text)
-adds_step line (Some text) there front middle last = adds_then (adds_then front middle) last
-adds_step line None there front middle last = cc
-
--- the text of an answer that is words and at most a number, or has none
-pub short_is : (a : Answer) → ((key value : List ℕ) → a ≡ Rec key value → ⊥) → ((key primary_key value : List ℕ) → a ≡ IndexRec key primary_key value → ⊥) → ((names : List (List ℕ)) → a ≡ Names names → ⊥) →
-    ((at : LockTarget) (owner : TxnId) → a ≡ Waiting at owner → ⊥) → ((cycle : List TxnId) → a ≡ Deadlock cycle → ⊥) →
-    ((cycle : List TxnId) → a ≡ MustAbort cycle → ⊥) → short_text a ≡ unwrap_or (answer_text a) []
-short_is (Rec key value) rec index_rec names waiting deadlock abort = absurd (rec key value refl)
-short_is (IndexRec key primary_key value) rec index_rec names waiting deadlock abort = absurd (index_rec key primary_key value refl)
-short_is (Names ns) rec index_rec names waiting deadlock abort = absurd (names ns refl)
-short_is (Waiting at owner) rec index_rec names waiting deadlock abort = absurd (waiting at owner refl)
-short_is (Deadlock cycle) rec index_rec names waiting deadlock abort = absurd (deadlock cycle refl)
-short_is (MustAbort cycle) rec index_rec names waiting deadlock abort = absurd (abort cycle refl)
-short_is a rec index_rec names waiting deadlock abort = refl
 
 -- the text of one item more
 pub next_text_or : {X : Type 0} (f : X → List ℕ) (xs : List X) (k : ℕ) (d : X) → k < length xs →

@@ -1,8 +1,8 @@
 use Rattle.std.proofs.Common.{sym}
 use Rattle.std.proofs.lemmas.List.{take_all, take_more}
-use Rattle.script_text.specs.OutBuffer.{point}
-use Rattle.script_text.proofs.BufferedText.{adds_none, adds_same, adds_then}
-use Rattle.script_text.proofs.out_buffer.OutBuffer.put.Goals as goal
+use Rattle.text_out.specs.OutBuffer.{point}
+use Rattle.text_out.proofs.BufferedText.{adds_none, adds_same, adds_then}
+use Rattle.text_out.proofs.out_buffer.OutBuffer.put.Goals as goal
 
 pub loop-byte-init : goal.loop-byte-init
 loop-byte-init g c = adds_none (point (g.K.Sink.written c.args.out.now) (g.K.Sink.faults c.args.out.now) c.args.self.now)

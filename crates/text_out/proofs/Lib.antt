@@ -1,0 +1,4 @@
+-- Texts sent through a buffer.
+pub mod BufferedText
+-- Hexadecimal digits, one byte after another.
+mod HexDigits
