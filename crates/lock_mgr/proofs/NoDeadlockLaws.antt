@@ -1,5 +1,6 @@
 -- What each call of the lock table keeps of the freedom from deadlock.
 use Rattle.std.proofs.Common.{◌≡◌, Bool, true, false, cond, not, ◌&&◌, ◌||◌, List, [], ◌∷◌, ◌++◌, map, Some, None, Option, refl, ap, sym, ◌∙◌, subst, ◌⊎◌, inl, inr, ⊎_elim}
+use Rattle.std.specs.Prelude.{Result, Ok, Err, OnOk, OnErr}
 use Rattle.std.specs.List.{filter, find}
 use Rattle.std.specs.Option.{option_map_or}
 use Rattle.std.proofs.lemmas.Bool.{both_ways, cases_Bool, cond-true, cond-false, or_from, or_parts, or_cases, or_left, or_right, and_from, and_left, and_parts, false_from_ne_true, false≢true}
@@ -201,6 +202,26 @@ put_undone v w at a p r = ⊎_elim
     (λ h. ap (after_cancel a.txn) (p.locks r ∙ cond-true (is_record at r) (after_ask a (locks_at r v)) (locks_at r v) h) ∙ cancel_asked a (locks_at r v) (p.none r) (subst (λ (x : RecordId). is_blocked (locks_at x v).0 a ≡ true) (record_is at r h) p.blocked))
     (λ h. ap (after_cancel a.txn) (p.locks r ∙ cond-false (is_record at r) (after_ask a (locks_at r v)) (locks_at r v) h) ∙ cancel_nothing a.txn (locks_at r v) (p.none r))
     (cases_Bool (is_record at r))
+
+-- and its transaction is told to wait where it was before
+pub put_back : (v w u : Locks) (at : RecordId) (a : Lock) (place : Option RecordId) → IsPut v w at a → place ≡ pending_at a.txn v → ((r : RecordId) → locks_at r u ≡ after_cancel a.txn (locks_at r w))
+    → ((x : TxnId) → pending_at x u ≡ cond (is_same_txn a.txn x) place (pending_at x w)) → IsSameTable v u
+put_back v w u at a place p is l n = record {
+  locks = λ r. l r ∙ put_undone v w at a p r;
+  pending = λ x. n x ∙ ⊎_elim
+      (λ h. cond-true (is_same_txn a.txn x) place (pending_at x w) h ∙ (is ∙ ap (λ (t : TxnId). pending_at t v) (same_is a.txn x h)))
+      (λ h. cond-false (is_same_txn a.txn x) place (pending_at x w) h ∙ (p.pending x ∙ cond-false (is_same_txn a.txn x) (Some at) (pending_at x v) h))
+      (cases_Bool (is_same_txn a.txn x));
+}
+
+-- what holds of a request that was answered, and of one that changed nothing
+pub if_either : {T E P Q : Type 0} (r : Result T E) → (Q → P) → OnOk r P → OnErr r Q → P
+if_either (Ok x) f p q = p
+if_either (Err e) f p q = f q
+
+pub if_both : {T E P Q S : Type 0} (r : Result T E) → (P → Q → S) → OnErr r P → OnErr r Q → OnErr r S
+if_both (Ok x) f p q = tt
+if_both (Err e) f p q = f p q
 
 -- ---- a victim has no wait left, nor one that was granted
 abbrev pub IsGoing : TxnId → List TxnId → Locks → Type 0

@@ -9,7 +9,7 @@ ghost use Rattle.lock_table.specs.declared.record_id.RecordId.{RecordId};
 ghost use Rattle.lock_table.specs.Locks.{lock_of, held_by, blocker, is_blocked, is_range, writer_in, after_ask, after_cancel, after_read, after_release, after_give_back, WasHeld};
 ghost use Rattle.je_order.specs.Transactions.{is_same_txn};
 ghost use Rattle.lock_table.specs.Records.{is_record};
-ghost use Rattle.lock_table.specs.Table.{locks_at, pending_at, is_waiting, was_granted, wait_pairs, holder_of, IsToldIn, OwnsIn, IsLockTable};
+ghost use Rattle.lock_table.specs.Table.{locks_at, pending_at, is_waiting, was_granted, wait_pairs, holder_of, IsToldIn, OwnsIn, IsLockTable, IsSameTable};
 ghost use Rattle.lock_mgr.specs.Deadlock.{waits, waits_with, NoDeadlock, AreVictims, owner_of, victims_of as victims_in, taken_back, without_waits, HasSomeVictims};
 
 use crate::Requested;
@@ -60,8 +60,8 @@ impl LockMgr {
 
     /// Asks for a lock. Where it conflicts with another owner it waits, or, without `wait`, is not
     /// available. A wait that closes cycles costs the greatest transaction of each its wait, one after
-    /// another; these are the victims. The only error is out of memory: then no lock and no wait is
-    /// changed, and where the transaction was told to wait may be forgotten, if that wait was granted.
+    /// another; these are the victims. The only error is out of memory: then the owners, the waits and
+    /// where each transaction was told to wait are what they were.
     pub fn request(
         &mut self,
         alloc: Global,
@@ -78,9 +78,7 @@ impl LockMgr {
         ensures pending { IfOk result (λ answer. (t : TxnId) → is_in t (taken_back txn answer) ≡ false → pending_at t self.new ≡ (if is_same_txn txn t then option_map_or (λ _. Some at.now) (owner_of answer) None else pending_at t self.old)) }
         ensures gone { IfOk result (λ answer. (t : TxnId) → is_in t (taken_back txn answer) ≡ true → pending_at t self.new ≡ None) }
         ensures told { IfOk result HasSomeVictims }
-        ensures err { OnErr result ((r : RecordId) → locks_at r self.new ≡ locks_at r self.old) }
-        ensures err_pending { OnErr result ((t : TxnId) → is_same_txn txn t ≡ false → pending_at t self.new ≡ pending_at t self.old) }
-        ensures err_own { OnErr result (pending_at txn self.old ≡ None → pending_at txn self.new ≡ None) }
+        ensures err { OnErr result (IsSameTable self.old self.new) }
         ensures free { NoDeadlock self.new }
     {
         request_in(&mut self.table, alloc, txn, at, asked, wait)
@@ -230,24 +228,25 @@ fn request_in(
     ensures pending { IfOk result (λ answer. (t : TxnId) → is_in t (taken_back txn answer) ≡ false → pending_at t table.new ≡ (if is_same_txn txn t then option_map_or (λ _. Some at.now) (owner_of answer) None else pending_at t table.old)) }
     ensures gone { IfOk result (λ answer. (t : TxnId) → is_in t (taken_back txn answer) ≡ true → pending_at t table.new ≡ None) }
     ensures told { IfOk result HasSomeVictims }
-    ensures err { OnErr result ((r : RecordId) → locks_at r table.new ≡ locks_at r table.old) }
-    ensures err_pending { OnErr result ((t : TxnId) → is_same_txn txn t ≡ false → pending_at t table.new ≡ pending_at t table.old) }
-    ensures err_own { OnErr result (pending_at txn table.old ≡ None → pending_at txn table.new ≡ None) }
+    ensures err { OnErr result (IsSameTable table.old table.new) }
     ensures free { NoDeadlock table.new }
 {
+    let place = table.pending_place(txn)?;
     match table.ask(alloc, txn, at, asked)? {
         Asked::Granted => Ok(Requested::Granted),
-        Asked::Blocked { owner } => blocked_in(table, alloc, txn, owner, wait),
+        Asked::Blocked { owner } => blocked_in(table, alloc, txn, owner, wait, place),
     }
 }
 
-// A request that was just made to wait: it stays so and no cycle is left, or it is not to wait.
+// A request that was just made to wait: it stays so and no cycle is left, or it is not to wait. Where memory
+// runs out, its wait is taken back, and the transaction was last told to wait at `place` again.
 fn blocked_in(
     table: &mut LockTable,
     alloc: Global,
     txn: TxnId,
     owner: TxnId,
     wait: bool,
+    place: Option<RecordId>,
 ) -> Result<Requested, AllocError>
     requires sound { IsLockTable table.old }
     requires waiting { is_waiting txn table.old ≡ true }
@@ -260,9 +259,9 @@ fn blocked_in(
     ensures gone { IfOk result (λ answer. (t : TxnId) → is_in t (taken_back txn answer) ≡ true → pending_at t table.new ≡ None) }
     ensures told { IfOk result HasSomeVictims }
     ensures err { OnErr result ((r : RecordId) → locks_at r table.new ≡ after_cancel txn (locks_at r table.old)) }
-    ensures err_pending { OnErr result ((t : TxnId) → is_same_txn txn t ≡ false → pending_at t table.new ≡ pending_at t table.old) }
-    ensures err_own { OnErr result (pending_at txn table.new ≡ None) }
-    ensures free { NoDeadlock table.new }
+    ensures err_pending { OnErr result ((t : TxnId) → pending_at t table.new ≡ (if is_same_txn txn t then place else pending_at t table.old)) }
+    ensures free { OnOk result (NoDeadlock table.new) }
+    ensures sound { IsLockTable table.new }
 {
     if !wait {
         table.cancel(txn);
@@ -274,7 +273,7 @@ fn blocked_in(
             Ok(answer_of(owner, victims))
         }
         Err(failed) => {
-            table.cancel(txn);
+            table.undo_wait(txn, place);
             Err(failed)
         }
     }

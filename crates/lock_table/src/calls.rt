@@ -2,7 +2,7 @@
 ghost use Rattle.std.specs.Prelude.{◌≡◌, ◌&&◌, not, true, false, None, Some, ◌⊎◌, if◌then◌else◌, IfOk, OnOk, OnErr};
 ghost use Rattle.std.specs.List.{list_any};
 ghost use Rattle.std.specs.Map.{lookup};
-ghost use Rattle.std.specs.Option.{option_map_or};
+ghost use Rattle.std.specs.Option.{is_some, option_map_or};
 ghost use Rattle.je_order.specs.declared.txn_id.TxnId.{TxnId};
 ghost use Rattle.lock_mode.specs.declared.lock_type.LockType.{LockType};
 ghost use Rattle.lock_table.specs.declared.record_id.RecordId.{RecordId};
@@ -183,6 +183,41 @@ pub(crate) fn cancel_in(
     }
     cancel_at(queues, at, txn);
     let _ = pending.remove(&txn);
+}
+
+// Notes again where a transaction was told to wait before it was told to wait elsewhere. It takes no memory.
+fn note_again(pending: &mut BTreeMap<TxnId, RecordId>, txn: TxnId, place: Option<RecordId>)
+    requires { is_some (at_txn txn pending.old.entries) ≡ true }
+    ensures { (t : TxnId) → at_txn t pending.new.entries ≡ (if is_same_txn txn t then place else at_txn t pending.old.entries) }
+{
+    let Some(before) = place else {
+        let _ = pending.remove(&txn);
+        return;
+    };
+    match pending.get_mut(&txn) {
+        Some(at) => *at = before,
+        None => unreachable!(),
+    }
+}
+
+// The transaction's wait is taken back, and where it was told to wait before it is noted again. It takes no
+// memory.
+pub(crate) fn undo_wait_in(
+    queues: &mut BTreeMap<RecordId, Queue>,
+    pending: &mut BTreeMap<TxnId, RecordId>,
+    txn: TxnId,
+    place: Option<RecordId>,
+)
+    requires told { (r : RecordId) → has_lock txn (queue_at r queues.old.entries).1 ≡ true → at_txn txn pending.old.entries ≡ Some r }
+    requires there { is_some (at_txn txn pending.old.entries) ≡ true }
+    ensures queues { (r : RecordId) → queue_at r queues.new.entries ≡ after_cancel txn (queue_at r queues.old.entries) }
+    ensures pending { (t : TxnId) → at_txn t pending.new.entries ≡ (if is_same_txn txn t then place else at_txn t pending.old.entries) }
+{
+    match pending.get(&txn) {
+        Some(at) => cancel_at(queues, at, txn),
+        None => unreachable!(),
+    }
+    note_again(pending, txn, place);
 }
 
 // Forgets where the transaction was told to wait, if it waits no more. It takes no memory.

@@ -13,14 +13,16 @@ ghost use Rattle.je_order.specs.Transactions.{is_same_txn};
 ghost use Rattle.lock_table.specs.Records.{is_record, queue_at};
 ghost use Rattle.lock_table.specs.Table.{locks_at, pending_at, is_waiting, was_granted, owner_in, waits_for, wait_pairs, holder_of, IsSameTable, IsToldIn, OwnsIn, IsLockTable};
 
-use crate::calls::{ask_in, cancel_in, forget_in, give_back_in, read_back_in, release_in};
+use crate::calls::{
+    ask_in, cancel_in, forget_in, give_back_in, read_back_in, release_in, undo_wait_in,
+};
 use crate::holders::{least_in, told_in};
 use crate::queue::Queue;
 use crate::queues::{owners_at, waits_at};
 use crate::ranges::note_range;
 use crate::reads::{may_read, note_back, note_none, note_read};
 use crate::{Asked, Lock, RecordId, lists};
-use je_order::{List, TxnId};
+use je_order::{List, TxnId, copy_of};
 use lock_mode::LockType;
 use std::alloc::{AllocError, Global};
 use std::collections::{BTreeMap, BTreeSet};
@@ -110,6 +112,17 @@ impl LockTable {
         cancel_in(&mut self.queues, &mut self.pending, txn);
     }
 
+    /// Takes back the wait that the transaction asked for last, and notes again where it was told to wait before
+    /// it. It takes no memory.
+    pub fn undo_wait(&mut self, txn: TxnId, place: Option<RecordId>)
+        requires { is_waiting txn self.old ≡ true }
+        ensures locks { (r : RecordId) → locks_at r self.new ≡ after_cancel txn (locks_at r self.old) }
+        ensures pending { (t : TxnId) → pending_at t self.new ≡ (if is_same_txn txn t then place else pending_at t self.old) }
+        ensures settled { IsLockTable self.new }
+    {
+        undo_wait_in(&mut self.queues, &mut self.pending, txn, place);
+    }
+
     /// Forgets where the transaction was told to wait, if that wait was granted. It takes no memory.
     pub fn forget(&mut self, txn: TxnId)
         ensures locks { (r : RecordId) → locks_at r self.new ≡ locks_at r self.old }
@@ -183,6 +196,16 @@ impl LockTable {
         };
         let waits = waits_at(&self.queues, at);
         lists::is_in(waits, txn)
+    }
+
+    /// The record on which the transaction was last told to wait. The only error is out of memory.
+    pub fn pending_place(&self, txn: TxnId) -> Result<Option<RecordId>, AllocError>
+        ensures { IfOk result (λ place. place ≡ pending_at txn self.now) }
+    {
+        match self.pending.get(&txn) {
+            Some(at) => Ok(Some(copy_of(at)?)),
+            None => Ok(None),
+        }
     }
 
     /// The type that the transaction holds on a record.

@@ -12,7 +12,7 @@ use Rattle.lock_table.specs.declared.lock.Lock.{Lock}
 use Rattle.lock_table.specs.declared.record_id.RecordId.{RecordId}
 use Rattle.lock_table.specs.Locks.{lock_of, held_by, is_blocked, blocker, after_ask, after_cancel}
 use Rattle.lock_table.specs.Records.{is_record}
-use Rattle.lock_table.specs.Table.{Locks, locks_at, pending_at}
+use Rattle.lock_table.specs.Table.{Locks, locks_at, pending_at, IsSameTable}
 use Rattle.lock_table.proofs.QueueMaps.{record_is}
 use Rattle.lock_table.proofs.RecordCalls.{cancel_nothing}
 use Rattle.lock_table.proofs.WholeTable.{cancel_asked}
@@ -97,11 +97,8 @@ got_if_granted t n wait place v w (Waiting owner) was old new s none q is put = 
 got_if_granted t n wait place v w (Victims owner vs) was old new s none q is put = tt
 
 -- out of memory
-pub err_state : (t : TxnId) (v w : Locks) → pending_at t v ≡ None → ((r : RecordId) → locks_at r w ≡ locks_at r v) → ((u : TxnId) → is_same_txn t u ≡ false → pending_at u w ≡ pending_at u v) → (pending_at t v ≡ None → pending_at t w ≡ None) → state_of w ≡ state_of v
-err_state t v w none l p own = same_state (state_of w) (state_of v) l (λ u. ⊎_elim
-    (λ e. subst (λ (x : TxnId). pending_at x w ≡ pending_at x v) (same_is t u e) (own none ∙ sym none))
-    (λ e. p u e)
-    (cases_Bool (is_same_txn t u)))
+pub err_state : (v w : Locks) → IsSameTable v w → state_of w ≡ state_of v
+err_state v w same = same_state (state_of w) (state_of v) same.locks same.pending
 
 -- the same by the names that the code has
 pub got_noted : (t : TxnId) (n : Need) (wait : Bool) (place : ℕ) (v w : Locks) (q : Requested) (stop : Option Locked) (was : Option LockType) (at : RecordId) (old mid new : List Got) → stop ≡ stop_of place q → NoDeadlock v → pending_at t v ≡ None

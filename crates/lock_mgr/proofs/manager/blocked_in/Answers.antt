@@ -33,9 +33,6 @@ returns-in-Ok-clause-pending c = λ t m.
 pub returns-in-Ok-clause-free : goal.returns-in-Ok-clause-free
 returns-in-Ok-clause-free c = free_victims c.args.table.now c.cancel_each.new.table c.in-Ok.victims c.cancel_each.ensures.sound (λ r. rw (← c.as_slice.ensures) (c.cancel_each.ensures.locks r)) c.cancel_each.ensures.kept c.in-Ok.ensures
 
-pub returns-in-Err-clause-free : goal.returns-in-Err-clause-free
-returns-in-Err-clause-free c = free_taken c.args.table.now c.cancel-in-Err.new.self c.args.txn c.cancel-in-Err.ensures.settled c.requires.through c.cancel-in-Err.ensures.locks c.cancel-in-Err.ensures.pending
-
 pub returns-in-Ok-clause-gone : goal.returns-in-Ok-clause-gone
 returns-in-Ok-clause-gone c = λ t m.
     let k : is_in t (map (λ v. v.0) c.in-Ok.victims) ≡ true = rw (c.answer_of.ensures.taken c.args.txn) at m in

@@ -4,11 +4,10 @@ use Rattle.lock_table.specs.Locks.{is_blocked, lock_of}
 use Rattle.lock_table.specs.Table.{locks_at}
 use Rattle.lock_table.proofs.CallSteps.{blocked_some}
 use Rattle.std.proofs.lemmas.Option.{IfSome_then}
-use Rattle.std.proofs.lemmas.Result.{on_err_weaker}
 use Rattle.lock_mgr.specs.Deadlock.{waits, waits_with, victims_of}
 use Rattle.je_order.proofs.Results.{if_ok}
 use Rattle.lock_mgr.proofs.CycleLaws.{same_victims}
-use Rattle.lock_mgr.proofs.NoDeadlockLaws.{free_same, free_granted, IsPut, no_wait, put_waits, put_through, put_undone, put_stands}
+use Rattle.lock_mgr.proofs.NoDeadlockLaws.{free_same, free_granted, IsPut, no_wait, put_waits, put_through, put_back, put_stands, if_both, if_either}
 use Rattle.lock_mgr.proofs.manager.request_in.Goals as goal
 
 pub returns-in_err-ask-clause-free : goal.returns-in_err-ask-clause-free
@@ -41,4 +40,11 @@ pub returns-in-Blocked-clause-err : goal.returns-in-Blocked-clause-err
 returns-in-Blocked-clause-err c =
     let b : is_blocked (locks_at c.args.at.now c.args.table.now).0 (lock_of c.args.txn c.args.asked) ≡ true = blocked_some (lock_of c.args.txn c.args.asked) (locks_at c.args.at.now c.args.table.now).0 ∙ sym (ap is_some (rw c.in-Blocked.is at c.in_ok-ask.ensures.answer)) in
     let p : IsPut c.args.table.now c.ask.new.self c.args.at.now (lock_of c.args.txn c.args.asked) = record { blocked = b; none = no_wait c.args.table.now c.args.txn c.requires.free.sound c.requires.none; locks = c.in_ok-ask.ensures.locks; pending = rw c.in-Blocked.is at c.in_ok-ask.ensures.pending } in
-    on_err_weaker c.blocked_in.result (λ h r. h r ∙ put_undone c.args.table.now c.ask.new.self c.args.at.now (lock_of c.args.txn c.args.asked) p r) c.blocked_in.ensures.err
+    if_both c.blocked_in.result (put_back c.args.table.now c.ask.new.self c.blocked_in.new.table c.args.at.now (lock_of c.args.txn c.args.asked) c.in_ok-place.place p c.in_ok-place.ensures) c.blocked_in.ensures.err c.blocked_in.ensures.err_pending
+
+pub returns-in-Blocked-clause-free : goal.returns-in-Blocked-clause-free
+returns-in-Blocked-clause-free c =
+    let b : is_blocked (locks_at c.args.at.now c.args.table.now).0 (lock_of c.args.txn c.args.asked) ≡ true = blocked_some (lock_of c.args.txn c.args.asked) (locks_at c.args.at.now c.args.table.now).0 ∙ sym (ap is_some (rw c.in-Blocked.is at c.in_ok-ask.ensures.answer)) in
+    let p : IsPut c.args.table.now c.ask.new.self c.args.at.now (lock_of c.args.txn c.args.asked) = record { blocked = b; none = no_wait c.args.table.now c.args.txn c.requires.free.sound c.requires.none; locks = c.in_ok-ask.ensures.locks; pending = rw c.in-Blocked.is at c.in_ok-ask.ensures.pending } in
+    if_either c.blocked_in.result (free_same c.args.table.now c.blocked_in.new.table c.requires.free c.blocked_in.ensures.sound) c.blocked_in.ensures.free
+    (if_both c.blocked_in.result (put_back c.args.table.now c.ask.new.self c.blocked_in.new.table c.args.at.now (lock_of c.args.txn c.args.asked) c.in_ok-place.place p c.in_ok-place.ensures) c.blocked_in.ensures.err c.blocked_in.ensures.err_pending)
