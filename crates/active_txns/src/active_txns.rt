@@ -1,21 +1,16 @@
 // The transactions under way.
-ghost use Rattle.std.specs.Prelude.{List as Items, filter, length, ◌==◌, ℕ, ◌≡◌, ◌≤◌, Some, ◌++◌, ◌∷◌, [], None, take, if◌then◌else◌, OnOk, OnErr};
-ghost use Rattle.std.specs.Option.{option_copied, IfSome, IfNone};
+ghost use Rattle.std.specs.Prelude.{List as Items, filter, length, ◌==◌, ℕ, ◌≡◌, ◌++◌, ◌∷◌, [], None, take, if◌then◌else◌, OnOk, OnErr};
+ghost use Rattle.std.specs.Option.{option_copied};
 ghost use Rattle.je_answers.specs.Standing.{active_of, with_at};
 ghost use Rattle.je_answers.specs.After.{marked, without_session};
 ghost use Rattle.active_txns.specs.Marks.{marked_for, HaveOwnSessions};
-ghost use Rattle.active_txns.specs.Own.{own_of, first_at, first_of, has_changes};
+ghost use Rattle.active_txns.specs.Own.{own_of, has_changes};
 ghost use Rattle.je_answers.specs.declared.active.Active.{Active as Begun};
 ghost use Rattle.je_order.specs.declared.txn_id.TxnId.{TxnId};
-ghost use Rattle.je_order.specs.Transactions.{is_same_txn};
 
-use crate::OwnChanges;
 use crate::marking::mark_in;
-use crate::owned::{
-    least_first_in, note_first_at, push_all_at, push_at, read_at, remove_at, truncate_at,
-};
+use crate::owned::{push_all_at, read_at, remove_at, truncate_at};
 use je_answers::Active;
-use je_lsn::Lsn;
 use je_order::{List, TxnId};
 use std::alloc::{AllocError, Global};
 use std::collections::BTreeMap;
@@ -26,7 +21,8 @@ use store_model::{Durability, Isolation, RecordChange};
 #[derive(Drop)]
 pub struct ActiveTxns {
     actives: Vec<Active>,
-    own: BTreeMap<TxnId, OwnChanges>,
+    // What each has changed, each change with its database's number.
+    own: BTreeMap<TxnId, Vec<(u32, RecordChange)>>,
 }
 
 impl ActiveTxns {
@@ -34,7 +30,6 @@ impl ActiveTxns {
     pub fn new(alloc: Global) -> ActiveTxns
         ensures actives { result.actives.items ≡ [] }
         ensures own { own_of result.own.entries ≡ (λ n. []) }
-        ensures first { (t : TxnId) → first_at t result.own.entries ≡ None }
     {
         ActiveTxns {
             actives: Vec::new(alloc),
@@ -123,23 +118,6 @@ impl ActiveTxns {
         read_at(&self.own, txn)
     }
 
-    /// Puts a change at the end of a transaction's. The only error is out of memory, and nothing is changed
-    /// by it.
-    pub fn push_own(
-        &mut self,
-        alloc: Global,
-        txn: TxnId,
-        db: u32,
-        change: RecordChange,
-    ) -> Result<(), AllocError>
-        ensures own { OnOk result (own_of self.new.own.entries ≡ with_at txn.0 (own_of self.old.own.entries txn.0 ++ (db, change) ∷ []) (own_of self.old.own.entries)) }
-        ensures actives { self.new.actives.items ≡ self.old.actives.items }
-        ensures first { (t : TxnId) → first_at t self.new.own.entries ≡ first_at t self.old.own.entries }
-        ensures err { OnErr result (own_of self.new.own.entries ≡ own_of self.old.own.entries) }
-    {
-        push_at(&mut self.own, alloc, txn, (db, change))
-    }
-
     /// Puts changes, each with its database's number, at the end of a transaction's, all of them or none. The
     /// only error is out of memory, and nothing is changed by it.
     pub fn push_all(
@@ -151,7 +129,6 @@ impl ActiveTxns {
         ensures own { OnOk result (own_of self.new.own.entries ≡ with_at txn.0 (own_of self.old.own.entries txn.0 ++ changes.items) (own_of self.old.own.entries)) }
         ensures actives { self.new.actives.items ≡ self.old.actives.items }
         ensures err { OnErr result (own_of self.new.own.entries ≡ own_of self.old.own.entries) }
-        ensures first { (t : TxnId) → first_at t self.new.own.entries ≡ first_at t self.old.own.entries }
     {
         push_all_at(&mut self.own, alloc, txn, changes)
     }
@@ -161,33 +138,8 @@ impl ActiveTxns {
     pub fn truncate_own(&mut self, txn: TxnId, len: usize)
         ensures own { own_of self.new.own.entries ≡ with_at txn.0 (take len (own_of self.old.own.entries txn.0)) (own_of self.old.own.entries) }
         ensures actives { self.new.actives.items ≡ self.old.actives.items }
-        ensures first { (t : TxnId) → first_at t self.new.own.entries ≡ first_at t self.old.own.entries }
     {
         truncate_at(&mut self.own, txn, len);
-    }
-
-    /// Notes where the log has the first entry of a transaction that has changed something, if that is not
-    /// noted yet. It takes no memory.
-    pub fn note_first(&mut self, txn: TxnId, lsn: Lsn)
-        requires { own_of self.old.own.entries txn.0 ≡ [] → ⊥ }
-        ensures first { (t : TxnId) → first_at t self.new.own.entries ≡ (if is_same_txn txn t then first_of (first_at txn self.old.own.entries) lsn else first_at t self.old.own.entries) }
-        ensures own { own_of self.new.own.entries ≡ own_of self.old.own.entries }
-        ensures actives { self.new.actives.items ≡ self.old.actives.items }
-    {
-        note_first_at(&mut self.own, txn, lsn);
-    }
-
-    /// The least place that is noted: before it the log has nothing of a transaction under way. It looks at
-    /// each transaction.
-    pub fn least_first(&self) -> Option<Lsn>
-        ensures some { IfSome result (λ least. (t : TxnId) × (first_at t self.now.own.entries ≡ Some least)) }
-        ensures least { (t : TxnId) (lsn : ℕ) → first_at t self.now.own.entries ≡ Some lsn → IfSome result (λ least. least ≤ lsn) }
-        ensures none { IfNone result ((t : TxnId) (lsn : ℕ) → first_at t self.now.own.entries ≡ Some lsn → ⊥) }
-    {
-        match least_first_in(&self.own) {
-            None => None,
-            Some(number) => Some(Lsn::from_u64(number)),
-        }
     }
 
     /// Marks a session's transaction as the victim of this cycle; it can then only be aborted. It takes no
@@ -204,7 +156,6 @@ impl ActiveTxns {
     pub fn end(&mut self, session: u8, txn: TxnId)
         ensures actives { self.new.actives.items ≡ without_session session self.old.actives.items }
         ensures own { own_of self.new.own.entries ≡ with_at txn.0 [] (own_of self.old.own.entries) }
-        ensures first { (t : TxnId) → first_at t self.new.own.entries ≡ (if is_same_txn txn t then None else first_at t self.old.own.entries) }
     {
         self.actives.retain(|active| active.session != session);
         remove_at(&mut self.own, txn);

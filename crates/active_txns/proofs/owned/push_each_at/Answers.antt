@@ -9,7 +9,7 @@ loop-change-init c = pushing_begins c.args.txn c.args.changes.items _ c.args.own
 pub loop-change-preserved : goal.loop-change-preserved
 loop-change-preserved c =
     pushing_goes_on c.args.txn c.args.changes.items (into_iter_items c.loop-change.change-iterator) (into_iter_items c.next.new.self) c.in-Some.change
-    c.args.own.now.entries c.loop-change.own.entries c.push_at.new.own.entries c.in-Some.ensures.steps.0 c.in_ok-push_at.ensures.changes c.push_at.ensures.first c.loop-change.invariant
+    c.args.own.now.entries c.loop-change.own.entries c.push_at.new.own.entries c.in-Some.ensures.steps.0 c.in_ok-push_at.ensures.changes c.loop-change.invariant
 
 pub returns-in_err-push_at-clause-err : goal.returns-in_err-push_at-clause-err
 returns-in_err-push_at-clause-err c =
