@@ -150,4 +150,4 @@ returns-clause-synced g c = λ p under.
     let y : Recorded g.row.D.Denot = record { environment = c.sync_end-answer.new.self; journal = c.record-3.new.journal } in
     synced_by p x m y c.sync_end-answer.result c.record-2.ensures.items c.record-3.ensures.items
     (c.sync_end-answer.ensures.ends p.most (after_event st (SyncBegin Done)) (c.in-Some.ensures.begins p.most st under.running.here valid).1 valid
-        (ap (λ (n : ℕ). Some n) (sym (c.commits-begun.ensures p.most st under.running.here)))).0
+    (ap (λ (n : ℕ). Some n) (sym (c.commits-begun.ensures p.most st under.running.here)))).0
