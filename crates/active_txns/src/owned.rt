@@ -87,7 +87,11 @@ pub(crate) fn push_all_at(
 }
 
 // Leaves the first of a transaction's changes. It takes no memory.
-pub(crate) fn truncate_at(own: &mut BTreeMap<TxnId, Vec<(u32, RecordChange)>>, txn: TxnId, len: usize)
+pub(crate) fn truncate_at(
+    own: &mut BTreeMap<TxnId, Vec<(u32, RecordChange)>>,
+    txn: TxnId,
+    len: usize,
+)
     ensures changes { (t : TxnId) → changes_at t own.new.entries ≡ (if is_same_txn txn t then take len (changes_at txn own.old.entries) else changes_at t own.old.entries) }
 {
     if let Some(found) = own.get_mut(&txn) {
@@ -103,7 +107,10 @@ pub(crate) fn remove_at(own: &mut BTreeMap<TxnId, Vec<(u32, RecordChange)>>, txn
 }
 
 // The changes of a transaction, in order.
-pub(crate) fn read_at(own: &BTreeMap<TxnId, Vec<(u32, RecordChange)>>, txn: TxnId) -> &[(u32, RecordChange)]
+pub(crate) fn read_at(
+    own: &BTreeMap<TxnId, Vec<(u32, RecordChange)>>,
+    txn: TxnId,
+) -> &[(u32, RecordChange)]
     ensures { result.now ≡ changes_at txn own.now.entries }
 {
     match own.get(&txn) {

@@ -27,10 +27,12 @@ abbrev pub written_taken : Option Need → Standing → Active → Call → Targ
 written_taken None st a call g = with_names (changes_with st a g (outcome_of st a call g).changes)
 written_taken (Some n) st a call g = []
 
+-- what a call on records writes, by the database that it is on
 abbrev pub written_on : Option Target → Standing → Active → Call → List Change
 written_on None st a call = []
 written_on (Some g) st a call = written_taken (first_blocked a.txn (needs_in st a call g) st.locks.at) st a call g
 
+-- what a call on records writes, in its session's transaction or in one of its own
 abbrev pub written_run : Option Active → Standing → ℕ → Call → List Change
 written_run (Some a) st session call = written_on (target_of st session call) st a call
 written_run None st session call = written_on (target_of st session call) (begun st session) (auto_active st session) call
@@ -53,17 +55,21 @@ written_performed (CDel cursor) st session = written_run (active_of session st.a
 written_performed (CPut cursor key value mode) st session = written_run (active_of session st.actives) st session (CPut cursor key value mode)
 written_performed call st session = []
 
+-- what a call writes that has a transaction number; one that was refused writes nothing
 abbrev pub written_evaluated : Option Answer → Standing → ℕ → Call → List Change
 written_evaluated (Some refusal) st session call = []
 written_evaluated None st session call = written_performed call st session
 
+-- what a call writes; one that was refused early writes nothing
 abbrev pub written_unless : Option Answer → Standing → ℕ → Call → List Change
 written_unless (Some refusal) st session call = []
 written_unless None st session call = written_evaluated (late_refusal st session call) st session call
 
+-- what a session's call writes, where the environment stands
 abbrev pub written_call : Standing → ℕ → Call → List Change
 written_call st session call = written_unless (early_refusal st session call) st session call
 
+-- what a call writes that waited and goes on
 abbrev pub written_resumed : Option Wait → Standing → ℕ → List Change
 written_resumed None st session = []
 written_resumed (Some w) st session = written_call (resumed st w) session w.call

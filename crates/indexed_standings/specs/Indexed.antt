@@ -42,10 +42,12 @@ pub record KeepsIndexes (st : Standing) : Type 0 where
 
 -- ---- what a transaction sees
 
+-- a transaction sees an index as it is made of what the transaction sees of its primary
 abbrev pub IsSeenFor : Standing → Active → Database → Index → Option Database → Type 0
 IsSeenFor st a d index None = ⊥
 IsSeenFor st a d index (Some primary) = view_in st a (st.numbers d.name, d) ≡ index_pairs index.extract (view_in st a (st.numbers primary.name, primary))
 
+-- the same, if the database is an index
 abbrev pub IsSeen : Standing → Active → Database → Option Index → Type 0
 IsSeen st a d None = Unit {0}
 IsSeen st a d (Some index) = IsSeenFor st a d index (database_of index.primary st.store)

@@ -34,9 +34,11 @@ pub record Alone : Type 0 where
   pub fault : Option Fault
   pub in_checkpoint : Bool
 
+-- no owners and no waits
 abbrev pub no_locks : LockState
 no_locks = record { at = λ r. ([], []); pending = λ t. None }
 
+-- where an environment without a transaction stands, as a standing
 abbrev pub alone : Alone → Standing
 alone p = record {
   store = p.store;
@@ -60,11 +62,13 @@ alone p = record {
 abbrev pub records_of : Numbered → List Pair
 records_of d = d.1.pairs
 
+-- what a call comes to on the committed records; an index answers with the primary's record
 abbrev pub evaluated_on : Call → Target → Evaluated
 evaluated_on call g =
     let evaluated = evaluation g.database.kind call g.at g.database.pairs in
     answered_with (answer_through g.over records_of evaluated.answer) evaluated
 
+-- the changes of a call, with those in the indexes, as changes of the store
 abbrev pub changes_of_call : Target → List RecordChange → List Change
 changes_of_call g changes = with_names (all_changes g.over (g.db, g.database) g.indexes records_of changes)
 

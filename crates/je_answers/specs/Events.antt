@@ -41,10 +41,12 @@ abbrev pub no_room : Option Answer → Option Answer
 no_room (Some LogFull) = Some LogFull
 no_room limit = None
 
+-- the limit, if it is that numbers have ended
 abbrev pub no_numbers : Option Answer → Option Answer
 no_numbers (Some IdsEnded) = Some IdsEnded
 no_numbers limit = None
 
+-- the limit of the log, if there is one: it is full, or numbers have ended
 abbrev pub log_limit : Option Answer → Option Answer
 log_limit limit = or_refusal (no_room limit) (no_numbers limit)
 
@@ -97,6 +99,7 @@ abbrev pub told_by : Option Wait → List TxnId → Victim
 told_by None cycle = record { session = 0; line = 0; cycle = cycle }
 told_by (Some w) cycle = record { session = w.session; line = w.line; cycle = cycle }
 
+-- a victim of these numbers as it is told, by its call that waits
 abbrev pub told_in : List Wait → TxnId × List TxnId → Victim
 told_in waiting v = told_by (find (λ w. is_same_txn v.0 w.txn) waiting) v.1
 
@@ -117,6 +120,7 @@ waiting_answer (Some cycle) at owner = Deadlock cycle
 abbrev pub queues_before : Standing → Active → Call → Target → Queues
 queues_before st a call g = all_got a.txn (granted_part a.txn (needs_in st a call g) st.locks.at) st.locks.at
 
+-- the locks as a call leaves them that did not get one
 abbrev pub locks_before : Standing → Active → Call → Target → LockState
 locks_before st a call g = record { at = queues_before st a call g; pending = st.locks.pending }
 
@@ -129,16 +133,19 @@ IsWaiting true st a line call g n owner answer victims =
     × (victims ≡ map (told_in (st.waiting ++ asking a line call ∷ [])) found)
     × (answer ≡ waiting_answer (cycle_of a.txn found) (lock_target g n) owner)
 
+-- the answer of a call that did not get a lock, by who is in its way
 abbrev pub IsStopped : Option TxnId → Standing → Active → ℕ → Call → Target → Need → Answer → List Victim → Type 0
 IsStopped None st a line call g n answer victims = ⊥
 IsStopped (Some owner) st a line call g n answer victims = IsWaiting a.waits st a line call g n owner answer victims
 
+-- the answer of a call on records, by the first lock that it did not get, if there is one
 abbrev pub IsTaken : Option Need → Option Answer → Standing → Active → ℕ → Call → Target → Answer → List Victim → Type 0
 IsTaken None limit st a line call g answer victims =
     let evaluated = outcome_of st a call g in
     IsDone evaluated.changes limit st a evaluated answer × (victims ≡ [])
 IsTaken (Some n) limit st a line call g answer victims = IsStopped (owner_before a.txn n (queues_before st a call g)) st a line call g n answer victims
 
+-- the answer of a call on records, by the database that it is on
 abbrev pub IsOn : Option Target → Option Answer → Standing → Active → ℕ → Call → Answer → List Victim → Type 0
 IsOn None limit st a line call answer victims = ⊥
 IsOn (Some g) limit st a line call answer victims = IsTaken (first_blocked a.txn (needs_in st a call g) st.locks.at) limit st a line call g answer victims
@@ -156,10 +163,12 @@ commit_answer Sync commits = Logged (commits + 1)
 commit_answer WriteNoSync commits = Logged (commits + 1)
 commit_answer NoSync commits = Done
 
+-- the answer of a commit: done at once without changes, else as its durability asks, or a disk fault
 abbrev pub IsCommitted : List Change → Standing → Active → Answer → Type 0
 IsCommitted [] st a answer = answer ≡ Done
 IsCommitted (change ∷ changes) st a answer = (answer ≡ commit_answer a.durability st.commits) ⊎ (answer ≡ DiskFault)
 
+-- the answer of a commit of the session's transaction
 abbrev pub IsEnded : Option Active → Standing → Answer → Type 0
 IsEnded None st answer = ⊥
 IsEnded (Some a) st answer = IsCommitted (changes_named st (st.own a.txn.0)) st a answer
@@ -169,6 +178,7 @@ abbrev pub AreChanged : List Change → Outcome → Option Answer → Standing �
 AreChanged [] outcome limit st answer = answer ≡ outcome.answer
 AreChanged (change ∷ changes) outcome limit st answer = IsLogged (catalog_limit limit st (change ∷ changes)) (Logged (st.commits + 1)) answer
 
+-- the answer of a change of the catalog, which is a transaction of its own
 abbrev pub IsChanged : Outcome → Option Answer → Standing → Answer → Type 0
 IsChanged outcome limit st answer = AreChanged outcome.changes outcome limit st answer
 
@@ -181,6 +191,7 @@ IsExclusive db outcome limit st answer =
 
 -- ---- a call
 
+-- the answer of a call that was not refused, by what call it is
 abbrev pub IsPerformed : Call → Option Answer → Standing → ℕ → ℕ → Answer → List Victim → Type 0
 IsPerformed (Begin level durability wait) limit st session line answer victims = (answer ≡ Txn (record { 0 = next_txn st.last_txn })) × (victims ≡ [])
 IsPerformed Commit limit st session line answer victims = IsEnded (active_of session st.actives) st answer × (victims ≡ [])
@@ -197,10 +208,12 @@ IsPerformed (Close cursor) limit st session line answer victims = (answer ≡ Do
 IsPerformed (Dup cursor to) limit st session line answer victims = (answer ≡ Done) × (victims ≡ [])
 IsPerformed call limit st session line answer victims = IsRun (active_of session st.actives) limit st session line call answer victims
 
+-- the answer of a call with a transaction number: the late refusal, if there is one
 abbrev pub IsEvaluated : Option Answer → Option Answer → Standing → ℕ → ℕ → Call → Answer → List Victim → Type 0
 IsEvaluated (Some refusal) limit st session line call answer victims = (answer ≡ refusal) × (victims ≡ [])
 IsEvaluated None limit st session line call answer victims = IsPerformed call limit st session line answer victims
 
+-- the answer of a call: the early refusal, if there is one
 abbrev pub IsCallAnswered : Option Answer → Option Answer → Standing → ℕ → ℕ → Call → Answer → List Victim → Type 0
 IsCallAnswered (Some refusal) limit st session line call answer victims = (answer ≡ refusal) × (victims ≡ [])
 IsCallAnswered None limit st session line call answer victims = IsEvaluated (late_refusal st session call) limit st session line call answer victims
@@ -216,6 +229,7 @@ abbrev pub IsReady : Option Fault → Standing → TxnId → Type 0
 IsReady None st t = was_granted_in t st.locks ≡ true
 IsReady (Some first) st t = Unit {0}
 
+-- the answer of a call that waited and goes on, which only one may that is ready
 abbrev pub IsResumed : Option Wait → Option Answer → Standing → ℕ → ℕ → Answer → List Victim → Type 0
 IsResumed None limit st session line answer victims = ⊥
 IsResumed (Some w) limit st session line answer victims =
@@ -237,6 +251,7 @@ abbrev pub Covers : Option ℕ → Answer → Type 0
 Covers None answer = ⊥
 Covers (Some commits) answer = (answer ≡ Durable commits) ⊎ (answer ≡ DiskFault)
 
+-- the answer of a sync's end: it covers the commits before its beginning, or the disk failed; behind a fault it is invalid
 abbrev pub IsSyncEnded : Option Fault → Option ℕ → Answer → Type 0
 IsSyncEnded None begun answer = Covers begun answer
 IsSyncEnded (Some first) begun answer = answer ≡ Invalid first
@@ -245,9 +260,11 @@ IsSyncEnded (Some first) begun answer = answer ≡ Invalid first
 abbrev pub IsFlushed : Answer → Type 0
 IsFlushed answer = ((node : ℕ) × (answer ≡ Flushed node)) ⊎ (answer ≡ Nothing) ⊎ (answer ≡ DiskFault)
 
+-- the answer of `finish` where a checkpoint is under way
 abbrev pub IsFinished : Answer → Type 0
 IsFinished answer = ((count : ℕ) × (answer ≡ NodesLeft count)) ⊎ (answer ≡ Done) ⊎ (answer ≡ DiskFault)
 
+-- the answer of a step that meets no limit
 abbrev pub IsStepped : Step → Bool → Answer → Type 0
 IsStepped BeginStep true answer = answer ≡ InCheckpoint
 IsStepped BeginStep false answer = (answer ≡ Done) ⊎ (answer ≡ DiskFault)
@@ -257,10 +274,12 @@ IsStepped Finish false answer = answer ≡ NoCheckpoint
 IsStepped Finish true answer = IsFinished answer
 IsStepped SyncStep in_checkpoint answer = answer ≡ Done
 
+-- the answer of a step: the limit that it meets, if it meets one
 abbrev pub IsLimited : Option Answer → Step → Bool → Answer → Type 0
 IsLimited (Some limit) step in_checkpoint answer = answer ≡ limit
 IsLimited None step in_checkpoint answer = IsStepped step in_checkpoint answer
 
+-- the answer of a step; behind a fault it is invalid
 abbrev pub IsTurned : Option Fault → Option Answer → Step → Bool → Answer → Type 0
 IsTurned None limit step in_checkpoint answer = IsLimited (log_limit limit) step in_checkpoint answer
 IsTurned (Some first) limit step in_checkpoint answer = answer ≡ Invalid first

@@ -55,14 +55,17 @@ abbrev pub changes_closed : Bool → List Change → List Change
 changes_closed true changes = changes
 changes_closed false changes = []
 
+-- what a call on records commits, by the first lock that it did not get, if there is one
 abbrev pub changes_taken : Option Need → Standing → Active → Call → Target → List Change
 changes_taken None st a call g = changes_closed a.is_auto (with_names (changes_with st a g (outcome_of st a call g).changes))
 changes_taken (Some n) st a call g = []
 
+-- what a call on records commits, by the database that it is on
 abbrev pub changes_in : Option Target → Standing → Active → Call → List Change
 changes_in None st a call = []
 changes_in (Some g) st a call = changes_taken (first_blocked a.txn (needs_in st a call g) st.locks.at) st a call g
 
+-- what a call on records commits, in its session's transaction or in one of its own
 abbrev pub changes_run : Option Active → Standing → ℕ → Call → List Change
 changes_run (Some a) st session call = changes_in (target_of st session call) st a call
 changes_run None st session call = changes_in (target_of st session call) (begun st session) (auto_active st session) call
@@ -72,6 +75,7 @@ abbrev pub changes_ended : Option Active → Standing → List Change
 changes_ended None st = []
 changes_ended (Some a) st = changes_named st (st.own a.txn.0)
 
+-- what a call commits that was not refused
 abbrev pub changes_performed : Call → Standing → ℕ → List Change
 changes_performed Commit st session = changes_ended (active_of session st.actives) st
 changes_performed (Create db kind) st session = (evaluation (Create db kind) st.store).changes
@@ -95,6 +99,7 @@ abbrev pub changes_evaluated : Option Answer → Standing → ℕ → Call → L
 changes_evaluated (Some refusal) st session call = []
 changes_evaluated None st session call = changes_performed call st session
 
+-- what a call commits; one that was refused early commits nothing
 abbrev pub changes_of : Option Answer → Standing → ℕ → Call → List Change
 changes_of (Some refusal) st session call = []
 changes_of None st session call = changes_evaluated (late_refusal st session call) st session call
@@ -108,6 +113,7 @@ logged (change ∷ changes) Succeeds = (change ∷ changes) ∷ []
 logged (change ∷ changes) IsRefused = []
 logged (change ∷ changes) Faults = []
 
+-- the changes that were committed, or may have been as the disk failed: none, or the list of them
 abbrev pub tried : List Change → Fate → List (List Change)
 tried [] fate = []
 tried (change ∷ changes) Succeeds = (change ∷ changes) ∷ []
@@ -119,11 +125,13 @@ abbrev pub changes_resumed : Option Wait → Standing → ℕ → List Change
 changes_resumed None st session = []
 changes_resumed (Some w) st session = changes_of (early_refusal (resumed st w) session w.call) (resumed st w) session w.call
 
+-- the changes that an event is to commit
 abbrev pub changes_by : Standing → Event → List Change
 changes_by st (Called session line call answer victims) = changes_of (early_refusal st session call) st session call
 changes_by st (Resume session line answer victims) = changes_resumed (wait_of session st.waiting) st session
 changes_by st event = []
 
+-- what became of the changes of an event
 abbrev pub answer_by : Event → Fate
 answer_by (Called session line call answer victims) = fate_of answer
 answer_by (Resume session line answer victims) = fate_of answer
@@ -133,6 +141,7 @@ answer_by event = Succeeds
 abbrev pub commit_of : Standing → Event → List (List Change)
 commit_of st event = logged (changes_by st event) (answer_by event)
 
+-- the commit that an event made, or tried as the disk failed
 abbrev pub attempt_of : Standing → Event → List (List Change)
 attempt_of st event = tried (changes_by st event) (answer_by event)
 

@@ -21,6 +21,7 @@ use Rattle.je_answers.specs.Standing.{LockState, Standing}
 abbrev pub Queues : Type 0
 Queues = RecordId → List Lock × List Lock
 
+-- the record that a need is about
 abbrev pub record_of : Need → RecordId
 record_of n = record { db = n.db; at = n.at }
 
@@ -30,6 +31,7 @@ record_of n = record { db = n.db; at = n.at }
 abbrev pub got : TxnId → Need → Queues → Queues
 got t n at r = if is_record (record_of n) r then after_ask (lock_of t n.asked) (at r) else at r
 
+-- the locks once a transaction was granted all these needs
 abbrev pub all_got : TxnId → List Need → Queues → Queues
 all_got t [] at = at
 all_got t (n ∷ ns) at = all_got t ns (got t n at)
@@ -43,6 +45,7 @@ abbrev pub granted_part : TxnId → List Need → Queues → List Need
 granted_part t [] at = []
 granted_part t (n ∷ ns) at = if is_stopped t n at then [] else n ∷ granted_part t ns (got t n at)
 
+-- the first need that has another owner in its way, where those before it are granted
 abbrev pub first_blocked : TxnId → List Need → Queues → Option Need
 first_blocked t [] at = None
 first_blocked t (n ∷ ns) at = if is_stopped t n at then Some n else first_blocked t ns (got t n at)
@@ -103,14 +106,17 @@ with_wait t n gone locks = record {
 abbrev pub HasLockIn : LockState → ℕ → TxnId → Type 0
 HasLockIn locks db t = (b : Bound) × (has_lock t (locks.at (record { db = db; at = b })).0 ≡ true)
 
+-- whether a cursor is open on a database
 abbrev pub has_cursor_on : ℕ → List Place → Bool
 has_cursor_on db places = list_any (λ p. p.db == db) places
 
+-- a transaction's session has a cursor open on a database
 pub record HasCursorIn (st : Standing) (db : ℕ) (t : TxnId) : Type 0 where
   pub session : ℕ
   pub its : list_any (λ a. (a.session == session) && is_same_txn a.txn t) st.actives ≡ true
   pub cursor : has_cursor_on db (st.places session) ≡ true
 
+-- a transaction uses a database: it has a lock there, or a cursor on it
 abbrev pub Uses : Standing → ℕ → TxnId → Type 0
 Uses st db t = HasLockIn st.locks db t ⊎ HasCursorIn st db t
 

@@ -35,6 +35,7 @@ victim_refusal call None = None
 victim_refusal Abort (Some cycle) = None
 victim_refusal call (Some cycle) = Some (MustAbort cycle)
 
+-- every call but an abort of a victim's transaction is answered mustabort
 abbrev pub abort_refusal : Call → Option Active → Option Answer
 abort_refusal call None = None
 abort_refusal call (Some a) = victim_refusal call a.deadlock
@@ -52,6 +53,7 @@ txn_refusal Abort None = Some NoTxn
 txn_refusal (Open cursor db) None = Some NoTxn
 txn_refusal call active = None
 
+-- the refusals that come before a call has a transaction number, in their order
 abbrev pub early_refusal : Standing → ℕ → Call → Option Answer
 early_refusal st session call =
     let active = active_of session st.actives in
@@ -68,9 +70,11 @@ number_refusal last (Some a) = None
 abbrev pub database_refusal : Standing → List ℕ → Option Answer
 database_refusal st db = access_refusal (is_some (database_of db st.store))
 
+-- a cursor that is not open is answered nocursor
 abbrev pub cursor_refusal : ℕ → List Place → Option Answer
 cursor_refusal cursor places = if is_some (place_at cursor places) then None else Some NoCursor
 
+-- what a call names is not there: its database, an index's primary, or its cursor
 abbrev pub there_refusal : Standing → ℕ → Call → Option Answer
 there_refusal st session (CreateIndex db index) = access_refusal (is_primary (database_of index.primary st.store))
 there_refusal st session (Remove db) = database_refusal st db

@@ -42,12 +42,15 @@ pub record Standing : Type 0 where
 abbrev pub active_of : ℕ → List Active → Option Active
 active_of session actives = find (λ a. a.session == session) actives
 
+-- a session's call that waits
 abbrev pub wait_of : ℕ → List Wait → Option Wait
 wait_of session waiting = find (λ w. w.session == session) waiting
 
+-- the calls that wait but for a session's
 abbrev pub without_wait : ℕ → List Wait → List Wait
 without_wait session waiting = filter (λ w. not (w.session == session)) waiting
 
+-- a session's cursor, by its number
 abbrev pub place_at : ℕ → List Place → Option Place
 place_at cursor places = find (λ p. p.cursor == cursor) places
 

@@ -33,6 +33,7 @@ pub record Target : Type 0 where
   pub over : Option Numbered
   pub indexes : List Numbered
 
+-- what a call on records is on: the database and its number, where the cursor stands, its primary if it is an index, and the indexes of its records
 abbrev pub target : (List ℕ → ℕ) → Store → ℕ → Option Name → Database → Target
 target numbers store number at d = record {
   db = number;
@@ -52,10 +53,12 @@ pub record IsPlain (g : Target) : Type 0 where
 abbrev pub named_target : Standing → List ℕ → Option Target
 named_target st db = option_map (target st.numbers st.store (st.numbers db) None) (database_of db st.store)
 
+-- the same of the database that a cursor is on
 abbrev pub target_at : Standing → Option Place → Option Target
 target_at st None = None
 target_at st (Some place) = option_map (target st.numbers st.store place.db place.at) (database_at place.db st)
 
+-- the same of a session's cursor, by its number
 abbrev pub cursor_target : Standing → ℕ → ℕ → Option Target
 cursor_target st session cursor = target_at st (place_at cursor (st.places session))
 
@@ -92,6 +95,7 @@ seen_changes level st txn = st.own txn
 abbrev pub view_in : Standing → Active → Numbered → List Pair
 view_in st a d = all_pairs_changed d.1.kind (of_db d.0 (seen_changes a.level st a.txn.0)) d.1.pairs
 
+-- the records of a call's database as its transaction sees them
 abbrev pub view_of : Standing → Active → Target → List Pair
 view_of st a g = view_in st a (g.db, g.database)
 
@@ -100,6 +104,7 @@ abbrev pub changes_in : Option Database → RecordChange → List Change
 changes_in None change = []
 changes_in (Some d) change = change_in d.name change ∷ []
 
+-- a transaction's own changes, as changes of the store
 abbrev pub changes_named : Standing → List (ℕ × RecordChange) → List Change
 changes_named st own = flat_map (λ c. changes_in (database_at c.0 st) c.1) own
 
@@ -107,9 +112,11 @@ changes_named st own = flat_map (λ c. changes_in (database_at c.0 st) c.1) own
 abbrev pub changes_with : Standing → Active → Target → List RecordChange → List (Numbered × RecordChange)
 changes_with st a g changes = all_changes g.over (g.db, g.database) g.indexes (view_in st a) changes
 
+-- changes with their databases' numbers
 abbrev pub with_numbers : List (Numbered × RecordChange) → List (ℕ × RecordChange)
 with_numbers changes = map (λ c. (c.0.0, c.1)) changes
 
+-- changes as those of the store, which name their databases
 abbrev pub with_names : List (Numbered × RecordChange) → List Change
 with_names changes = map (λ c. change_in c.0.1.name c.1) changes
 
@@ -122,9 +129,11 @@ changes_at number changes = map (λ c. (number, c)) changes
 
 -- ---- occupied names
 
+-- rising names, with one more among them
 abbrev pub names_with : Name → List Name → List Name
 names_with n names = filter (λ m. is_lt (name_cmp m n)) names ++ n ∷ filter (λ m. is_gt (name_cmp m n)) names
 
+-- rising names, with those that changes write among them
 abbrev pub names_with_all : List RecordChange → List Name → List Name
 names_with_all [] names = names
 names_with_all (change ∷ changes) names = names_with_all changes (names_with (changed_name change) names)
@@ -138,6 +147,7 @@ occupied st g = occupied_in st (g.db, g.database)
 
 -- ---- what a call comes to
 
+-- the same outcome with another answer
 abbrev pub answered_with : Answer → Evaluated → Evaluated
 answered_with answer evaluated = record evaluated { answer = answer }
 
@@ -147,6 +157,7 @@ outcome_of st a call g =
     let evaluated = evaluation g.database.kind call g.at (view_of st a g) in
     answered_with (answer_through g.over (view_in st a) evaluated.answer) evaluated
 
+-- the locks that a call needs, in order, on what its transaction sees and on the occupied names
 abbrev pub needs_in : Standing → Active → Call → Target → List Need
 needs_in st a call g = needs_through a.level g.over (g.db, g.database) g.indexes (view_in st a) (occupied_in st) call g.at
 

@@ -14,6 +14,7 @@ cause_of_answer (Some LogFull) later = NoRoom
 cause_of_answer (Some IdsEnded) later = NoNumbers
 cause_of_answer answer later = later
 
+-- the cause that the first answer of LogFull or IdsEnded gives; done where there is none
 abbrev pub cause_of_room : List Event → Cause
 cause_of_room [] = Done
 cause_of_room (event ∷ events) = cause_of_answer (answer_of event) (cause_of_room events)

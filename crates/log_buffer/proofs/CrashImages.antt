@@ -153,9 +153,9 @@ module _ (log gone : Log) (least : ℕ) (state : State) (image : Files) (is : Is
   none_read g gt =
       by_there (not_there gone k.at g (state.crash_states g) (state.reads g)
       (subst (λ (x : Option (List Entry)). KeepsFile gone k.at g (option_map (file_bytes g) x) (state.crash_states g)) (over g gt) (k.others g (λ same. absurd (omega (arith, same, gt))))) (read g)) where
-    by_there : (state.reads g ≡ None) ⊎ IsBack gone k.at g (state.reads g) → state.reads g ≡ None
-    by_there (inl away) = away
-    by_there (inr back) = let lt = back.below in absurd (omega (arith, lt, gt))
+        by_there : (state.reads g ≡ None) ⊎ IsBack gone k.at g (state.reads g) → state.reads g ≡ None
+        by_there (inl away) = away
+        by_there (inr back) = let lt = back.below in absurd (omega (arith, lt, gt))
 
   -- what the image has of a file that is not the one being written
   other : (f : ℕ) → f ≢ k.at → (o : Option (List Entry)) → lookup (λ n. n == f) k.before ≡ o → (image f ≡ option_map (file_bytes f) o) ⊎ ((o ≡ None) × IsBack gone k.at f (image f))

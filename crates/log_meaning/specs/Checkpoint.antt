@@ -34,6 +34,7 @@ last_end (p ∷ es) = or_else (last_end es) (checkpoint_in p.0 p.1)
 abbrev pub no_checkpoint : Checkpoint
 no_checkpoint = record { at = 0; number = 0; redo = 0; last_txn = 0; last_node = 0; last_db = 0; roots = [] }
 
+-- the last checkpoint that has ended; where there is none the whole log is redone
 abbrev pub last_checkpoint : List Placed → Checkpoint
 last_checkpoint es = unwrap_or (last_end es) no_checkpoint
 
@@ -45,5 +46,6 @@ behind rows redo = record { done = rows ++ redo.done; pending = redo.pending }
 abbrev pub restarted_from : List Placed → Checkpoint → Redo
 restarted_from es c = behind (rows_of_roots es c.at c.roots) (redone c.redo es)
 
+-- the store's records from the last checkpoint: those of its trees, and then what is redone
 abbrev pub restarted : List Placed → Redo
 restarted es = restarted_from es (last_checkpoint es)

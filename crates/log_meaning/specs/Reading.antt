@@ -18,9 +18,11 @@ abbrev pub gap_at : ℕ → List ℕ → Option ℕ
 gap_at f [] = None
 gap_at f (n ∷ ns) = if n == f then gap_behind f ns else Some f
 
+-- the first missing number from one on
 abbrev pub gap_from : ℕ → List ℕ → Option ℕ
 gap_from f numbers = gap_at f (filter (λ n. nat_le f n) numbers)
 
+-- the file of this number is missing, if there is one
 abbrev pub missing : Option ℕ → Option Corruption
 missing gap = option_map (λ n. Missing (lsn_at n 0)) gap
 
@@ -37,6 +39,7 @@ abbrev pub unless : {A : Type 0} → Option Corruption → Result A Corruption �
 unless None result = result
 unless (Some corruption) result = Err corruption
 
+-- what the log means, or the first record that breaks a rule
 abbrev pub validated_by : List Placed → Checkpoint → Walk → Option ℕ → Result Meaning Corruption
 validated_by es c walk None = Ok (meaning_of es c walk)
 validated_by es c walk (Some lsn) = Err (Tree lsn)

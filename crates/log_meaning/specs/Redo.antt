@@ -27,6 +27,7 @@ emptied txn pending t = if txn == t then [] else pending t
 abbrev pub set_at : ℕ → ℕ → Name → List ℕ → LoggedChange
 set_at at db name value = record { db = db; name = name; written = record { at = at; value = Some value } }
 
+-- a delete at an LSN, as a change
 abbrev pub unset_at : ℕ → ℕ → Name → LoggedChange
 unset_at at db name = record { db = db; name = name; written = record { at = at; value = None } }
 

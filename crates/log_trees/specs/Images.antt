@@ -20,6 +20,7 @@ abbrev pub named : Name → Option ℕ → List NamedLsn
 named name (Some lsn) = (name, lsn) ∷ []
 named name None = []
 
+-- what a slot shows: its name with the LSN, nothing where its record was deleted
 abbrev pub slot_shown : Marked → List NamedLsn
 slot_shown m = named m.slot.name (lsn_in m.slot.version)
 
@@ -51,5 +52,6 @@ abbrev pub level_of : Option Node → ℕ
 level_of None = 0
 level_of (Some n) = n.level
 
+-- the level of the node that the image at an LSN shows
 abbrev pub level_at : List Placed → ℕ → ℕ
 level_at es at = level_of (node_at es at)

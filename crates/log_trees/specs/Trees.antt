@@ -68,6 +68,7 @@ abbrev pub slots_by_level : List Placed → ℕ → ℕ → List NamedLsn
 slots_by_level es zero at = []
 slots_by_level es (suc above) at = slots_at es above at
 
+-- the names and LSNs of the records below the root's image at an LSN
 abbrev pub slots_of_tree : List Placed → ℕ → List NamedLsn
 slots_of_tree es at = slots_by_level es (level_at es at) at
 
@@ -83,6 +84,7 @@ tree_shows es at x = shows_by_level es (level_at es at) at x
 abbrev pub rows_of_root : List Placed → ℕ → Root → List LoggedChange
 rows_of_root es end root = if nat_lt root.image end then map (loaded es root.db) (slots_of_tree es root.image) else []
 
+-- the records below each of a checkpoint's roots, in order
 abbrev pub rows_of_roots : List Placed → ℕ → List Root → List LoggedChange
 rows_of_roots es end roots = flat_map (rows_of_root es end) roots
 

@@ -53,9 +53,11 @@ abbrev pub delta_by : Option Node → Corruption → Result Node Corruption
 delta_by None corruption = Err corruption
 delta_by (Some n) corruption = Ok n
 
+-- a delta put together with its full image, or the corruption at whichever of the two is wrong
 abbrev pub delta_with : ℕ → ℕ → ℕ → ℕ → Entry → Entry → Result Node Corruption
 delta_with at db number full delta base = delta_by (node_with base delta) (Tree (if is_bin_of db number base then at else full))
 
+-- the same, where there may be no full image
 abbrev pub delta_on : List ℕ → ℕ → ℕ → ℕ → ℕ → Entry → Option Entry → Result Node Corruption
 delta_on files at db number full delta None = Err (nowhere files full)
 delta_on files at db number full delta (Some base) = delta_with at db number full delta base
@@ -66,6 +68,7 @@ image_in files es d at (BinDelta db number full slots) =
     if db == d then (if nat_lt full at then delta_on files at db number full (BinDelta db number full slots) (entry_at es full) else Err (nowhere files full)) else Err (Tree at)
 image_in files es d at entry = node_read d at (node_of entry)
 
+-- the node that the entry at an LSN shows, or that there is no entry
 abbrev pub image_by : List ℕ → List Placed → ℕ → ℕ → Option Entry → Result Node Corruption
 image_by files es d at None = Err (nowhere files at)
 image_by files es d at (Some entry) = image_in files es d at entry
@@ -80,9 +83,11 @@ read_image files es d at = image_by files es d at (entry_at es at)
 abbrev pub may_stand : ℕ → Name → Option Name → List ℕ → Node → Bool
 may_stand level low high seen n = (n.level == level) && (not (list_any (λ m. m == n.number) seen) && are_within low high n)
 
+-- a node that may stand here, or the corruption at its image
 abbrev pub node_standing : ℕ → Name → Option Name → ℕ → List ℕ → Node → Result Node Corruption
 node_standing level low high at seen n = if may_stand level low high seen n then Ok n else Err (Tree at)
 
+-- reads the image at an LSN as a node that may stand here
 abbrev pub read_here : List ℕ → List Placed → ℕ → ℕ → Name → Option Name → ℕ → List ℕ → Result Node Corruption
 read_here files es d level low high at seen = and_then (read_image files es d at) (node_standing level low high at seen)
 
@@ -90,6 +95,7 @@ read_here files es d level low high at seen = and_then (read_image files es d at
 abbrev pub met : Node → Walk → Walk
 met n walk = record { seen = n.number ∷ walk.seen; rows = walk.rows }
 
+-- a walk with one record more
 abbrev pub with_record : ℕ → NamedLsn → List ℕ → Walk → Walk
 with_record d s value walk = record { seen = walk.seen; rows = walk.rows ++ record { db = d; name = s.0; written = record { at = s.1; value = Some value } } ∷ [] }
 
@@ -98,10 +104,12 @@ abbrev pub record_in : ℕ → NamedLsn → Walk → Option (List ℕ) → Resul
 record_in d s walk None = Err (Tree s.1)
 record_in d s walk (Some value) = Ok (with_record d s value walk)
 
+-- the record of a slot from the entry that its LSN names, or that there is no entry
 abbrev pub record_by : List ℕ → ℕ → NamedLsn → Walk → Option Entry → Result Walk Corruption
 record_by files d s walk None = Err (nowhere files s.1)
 record_by files d s walk (Some entry) = record_in d s walk (data_in d s.0 entry)
 
+-- reads the record of a slot, whose entry stands below the slot's image
 abbrev pub read_record : List ℕ → List Placed → ℕ → ℕ → NamedLsn → Walk → Result Walk Corruption
 read_record files es d at s walk = if nat_lt s.1 at then record_by files d s walk (entry_at es s.1) else Err (nowhere files s.1)
 
@@ -119,6 +127,7 @@ read_node files es d (suc above) low high at walk =
 
 -- ---- roots
 
+-- reads the tree below the image at an LSN, whose node is of a level
 abbrev pub read_level : List ℕ → List Placed → ℕ → ℕ → ℕ → Walk → Result Walk Corruption
 read_level files es d zero at walk = Err (Tree at)
 read_level files es d (suc above) at walk = read_node files es d above least_name None at walk

@@ -10,6 +10,7 @@ abbrev pub is_of_session : ℕ → ScriptLine → Bool
 is_of_session session (Session s line call) = s == session
 is_of_session session (Maintenance line step) = false
 
+-- the lines of one session
 abbrev pub of_session : ℕ → List ScriptLine → List ScriptLine
 of_session session lines = filter (is_of_session session) lines
 
@@ -18,6 +19,7 @@ abbrev pub is_of_maintenance : ScriptLine → Bool
 is_of_maintenance (Session session line call) = false
 is_of_maintenance (Maintenance line step) = true
 
+-- the lines that are steps of maintenance
 abbrev pub of_maintenance : List ScriptLine → List ScriptLine
 of_maintenance lines = filter is_of_maintenance lines
 

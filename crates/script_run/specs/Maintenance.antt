@@ -26,6 +26,7 @@ pub record IsTurnInPlace (last : Option Event) (st : Standing) (line : ℕ) (ste
   pub calm : (first_ready st ≡ None) ⊎ ((step ≡ SyncStep) × HasSyncFailed last)
   pub synced : step ≡ SyncStep → answer ≡ Done → last ≡ Some (SyncEnd (Durable st.commits))
 
+-- an event that is a step of maintenance stands where it may; of other events this says nothing
 abbrev pub IsStepInPlace : Option Event → Standing → Event → Type 0
 IsStepInPlace last st (Turn line step answer) = IsTurnInPlace last st line step answer
 IsStepInPlace last st event = Unit {0}

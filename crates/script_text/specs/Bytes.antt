@@ -9,6 +9,7 @@ abbrev pub decoded_bytes : Result (List ℕ) FromHexError → Option (List ℕ)
 decoded_bytes (Ok bytes) = Some bytes
 decoded_bytes (Err e) = None
 
+-- the bytes that a token spells: `-` is none of them, else they are pairs of hexadecimal digits
 abbrev pub bytes_of : List ℕ → Option (List ℕ)
 bytes_of word =
     if bytes_eq word (codes "-") then Some []

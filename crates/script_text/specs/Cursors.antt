@@ -26,6 +26,7 @@ abbrev pub open_call : List ℕ → Option ℕ → Option Call
 open_call db (Some cursor) = Some (Open cursor db)
 open_call db None = None
 
+-- the call of `open cM DB`
 abbrev pub open_of : List (List ℕ) → Option Call
 open_of (cursor ∷ db ∷ []) = if is_word db then open_call db (cursor_of cursor) else None
 open_of words = None
@@ -35,12 +36,15 @@ abbrev pub only_cursor : List (List ℕ) → Option ℕ
 only_cursor (cursor ∷ []) = cursor_of cursor
 only_cursor words = None
 
+-- the call of `close cM`
 abbrev pub close_of : List (List ℕ) → Option Call
 close_of words = option_map (λ c. Close c) (only_cursor words)
 
+-- the call of `count cM`
 abbrev pub count_of : List (List ℕ) → Option Call
 count_of words = option_map (λ c. Count c) (only_cursor words)
 
+-- the call of `cdel cM`
 abbrev pub cdel_of : List (List ℕ) → Option Call
 cdel_of words = option_map (λ c. CDel c) (only_cursor words)
 
@@ -49,6 +53,7 @@ abbrev pub dup_call : Option ℕ → Option ℕ → Option Call
 dup_call (Some cursor) (Some to) = Some (Dup cursor to)
 dup_call cursor to = None
 
+-- the call of `dup cM cN`
 abbrev pub dup_of : List (List ℕ) → Option Call
 dup_of (cursor ∷ to ∷ []) = dup_call (cursor_of cursor) (cursor_of to)
 dup_of words = None
@@ -72,24 +77,29 @@ abbrev pub cur_call : Option ℕ → Option Motion → Option Bool → Option Ca
 cur_call (Some cursor) (Some motion) (Some rmw) = Some (Cur cursor motion rmw)
 cur_call cursor motion rmw = None
 
+-- the motion that is given a key: to that key, or to the least one from there on
 abbrev pub keyed : Bool → Option (List ℕ) → Option Motion
 keyed false (Some key) = Some (Key key)
 keyed true (Some key) = Some (Range key)
 keyed range None = None
 
+-- the motion that is given a key and data: to that record, or to the least data from there on
 abbrev pub paired : Bool → Option (List ℕ) → Option (List ℕ) → Option Motion
 paired false (Some key) (Some value) = Some (Both key value)
 paired true (Some key) (Some value) = Some (BothRange key value)
 paired range key value = None
 
+-- the call of `cur cM key K` or `cur cM range K`, with `rmw` or without
 abbrev pub key_of : Option ℕ → Bool → List (List ℕ) → Option Call
 key_of cursor range (key ∷ words) = cur_call cursor (keyed range (bytes_of key)) (rmw_of words)
 key_of cursor range words = None
 
+-- the call of `cur cM both K D` or `cur cM bothrange K D`, with `rmw` or without
 abbrev pub pair_of : Option ℕ → Bool → List (List ℕ) → Option Call
 pair_of cursor range (key ∷ value ∷ words) = cur_call cursor (paired range (bytes_of key) (bytes_of value)) (rmw_of words)
 pair_of cursor range words = None
 
+-- the call of `cur cM` with the words behind it, by the motion's word
 abbrev pub move_of : Option ℕ → List ℕ → List (List ℕ) → Option Call
 move_of cursor motion words =
     if bytes_eq motion (codes "key") then key_of cursor false words
@@ -98,6 +108,7 @@ move_of cursor motion words =
     else if bytes_eq motion (codes "bothrange") then pair_of cursor true words
     else cur_call cursor (motion_of motion) (rmw_of words)
 
+-- the call of a line that begins with `cur`
 abbrev pub cur_of : List (List ℕ) → Option Call
 cur_of (cursor ∷ motion ∷ words) = move_of (cursor_of cursor) motion words
 cur_of words = None
@@ -107,6 +118,7 @@ abbrev pub cput_call : PutMode → Option ℕ → Option (List ℕ) → Option (
 cput_call mode (Some cursor) (Some key) (Some value) = Some (CPut cursor key value mode)
 cput_call mode cursor key value = None
 
+-- the call of `cput cM K D`, `cputno cM K D` or `cputnodup cM K D`
 abbrev pub cput_of : PutMode → List (List ℕ) → Option Call
 cput_of mode (cursor ∷ key ∷ value ∷ []) = cput_call mode (cursor_of cursor) (bytes_of key) (bytes_of value)
 cput_of mode words = None
@@ -116,6 +128,7 @@ abbrev pub cputcur_call : Option ℕ → Option (List ℕ) → Option Call
 cputcur_call (Some cursor) (Some value) = Some (CPutCur cursor value)
 cputcur_call cursor value = None
 
+-- the call of `cputcur cM D`
 abbrev pub cputcur_of : List (List ℕ) → Option Call
 cputcur_of (cursor ∷ value ∷ []) = cputcur_call (cursor_of cursor) (bytes_of value)
 cputcur_of words = None

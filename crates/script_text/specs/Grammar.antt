@@ -31,11 +31,13 @@ use Rattle.script_text.specs.declared.parsing.ParseErr.TheVariants.{BadScript, M
 abbrev pub one_digit : ℕ → ℕ → Option ℕ
 one_digit s a = if (s == 115) && is_digit a && not (a == 48) then Some (a - 48) else None
 
+-- the number of a session that has two digits, 10 to 64
 abbrev pub two_digits : ℕ → ℕ → ℕ → Option ℕ
 two_digits s a b =
     let number = 10 * (a - 48) + (b - 48) in
     if (s == 115) && is_digit a && is_digit b && not (a == 48) && nat_le number 64 then Some number else None
 
+-- the number of the session that a token names, 1 to 64
 abbrev pub session_of : List ℕ → Option ℕ
 session_of (s ∷ a ∷ []) = one_digit s a
 session_of (s ∷ a ∷ b ∷ []) = two_digits s a b
@@ -50,6 +52,7 @@ level_of word =
     else if bytes_eq word (codes "ser") then Some Serializable
     else None
 
+-- what a commit waits for, by its word
 abbrev pub durability_of : List ℕ → Option Durability
 durability_of word =
     if bytes_eq word (codes "sync") then Some Sync
@@ -57,16 +60,19 @@ durability_of word =
     else if bytes_eq word (codes "nosync") then Some NoSync
     else None
 
+-- whether calls wait for locks, by its word
 abbrev pub wait_of : List ℕ → Option Bool
 wait_of word =
     if bytes_eq word (codes "wait") then Some true
     else if bytes_eq word (codes "nowait") then Some false
     else None
 
+-- a `begin`, if each of its words is one
 abbrev pub begin_call : Option Isolation → Option Durability → Option Bool → Option Call
 begin_call (Some level) (Some durability) (Some wait) = Some (Begin level durability wait)
 begin_call level durability wait = None
 
+-- the call of a line that begins with `begin`
 abbrev pub begin_of : List (List ℕ) → Option Call
 begin_of (level ∷ durability ∷ wait ∷ []) = begin_call (level_of level) (durability_of durability) (wait_of wait)
 begin_of words = None
@@ -93,10 +99,12 @@ kind_of word =
     else if bytes_eq word (codes "dup") then Some Dup
     else None
 
+-- a `create`, if its kind is one
 abbrev pub create_call : List ℕ → Option Kind → Option Call
 create_call db (Some kind) = Some (Create db kind)
 create_call db None = None
 
+-- the call of a line that begins with `create`
 abbrev pub create_of : List (List ℕ) → Option Call
 create_of (db ∷ kind ∷ []) = if is_word db then create_call db (kind_of kind) else None
 create_of (db ∷ kind ∷ primary ∷ words) = index_of db kind primary words
@@ -122,6 +130,7 @@ abbrev pub put_call : PutMode → List ℕ → Option (List ℕ) → Option (Lis
 put_call mode db (Some key) (Some value) = Some (Put db key value mode)
 put_call mode db key value = None
 
+-- the call of `put DB K D`, `putno DB K D` or `putnodup DB K D`
 abbrev pub put_of : PutMode → List (List ℕ) → Option Call
 put_of mode (db ∷ key ∷ value ∷ []) = if is_word db then put_call mode db (bytes_of key) (bytes_of value) else None
 put_of mode words = None
@@ -131,6 +140,7 @@ abbrev pub get_call : List ℕ → Bool → Option (List ℕ) → Option Call
 get_call db rmw (Some key) = Some (Get db key rmw)
 get_call db rmw None = None
 
+-- the call of `get DB K`, with `rmw` or without
 abbrev pub get_of : List (List ℕ) → Option Call
 get_of (db ∷ key ∷ []) = if is_word db then get_call db false (bytes_of key) else None
 get_of (db ∷ key ∷ rmw ∷ []) = if is_word db && bytes_eq rmw (codes "rmw") then get_call db true (bytes_of key) else None
@@ -141,6 +151,7 @@ abbrev pub get_both_call : List ℕ → Option (List ℕ) → Option (List ℕ) 
 get_both_call db (Some key) (Some value) (Some rmw) = Some (GetBoth db key value rmw)
 get_both_call db key value rmw = None
 
+-- the call of `getboth DB K D`, with `rmw` or without
 abbrev pub get_both_of : List (List ℕ) → Option Call
 get_both_of (db ∷ key ∷ value ∷ words) = if is_word db then get_both_call db (bytes_of key) (bytes_of value) (rmw_of words) else None
 get_both_of words = None
@@ -150,6 +161,7 @@ abbrev pub delete_call : List ℕ → Option (List ℕ) → Option Call
 delete_call db (Some key) = Some (Delete db key)
 delete_call db None = None
 
+-- the call of `delete DB K`
 abbrev pub delete_of : List (List ℕ) → Option Call
 delete_of (db ∷ key ∷ []) = if is_word db then delete_call db (bytes_of key) else None
 delete_of words = None
@@ -187,6 +199,7 @@ abbrev pub maintained_by : ℕ → Option Step → Option ScriptLine
 maintained_by line (Some step) = Some (Maintenance line step)
 maintained_by line None = None
 
+-- what a line gives that begins with `m`: a step, with the line's number
 abbrev pub maintenance_of : ℕ → List (List ℕ) → Option ScriptLine
 maintenance_of line (step ∷ []) = maintained_by line (step_of step)
 maintenance_of line words = None
@@ -196,10 +209,12 @@ abbrev pub given_by : ℕ → Option ℕ → Option Call → Option ScriptLine
 given_by line (Some session) (Some call) = Some (Session session line call)
 given_by line session call = None
 
+-- what a line gives that begins with a session: its call, with the line's number
 abbrev pub session_line : ℕ → List ℕ → List (List ℕ) → Option ScriptLine
 session_line line session (verb ∷ words) = given_by line (session_of session) (call_of verb words)
 session_line line session [] = None
 
+-- what a line's words give: a step or a session's call
 abbrev pub given_of : ℕ → List (List ℕ) → Option ScriptLine
 given_of line (giver ∷ words) = if bytes_eq giver (codes "m") then maintenance_of line words else session_line line giver words
 given_of line [] = None
@@ -214,6 +229,7 @@ abbrev pub good_or_bad : ℕ → Option ScriptLine → Result (Option ScriptLine
 good_or_bad line (Some given) = Ok (Some given)
 good_or_bad line None = Err line
 
+-- what a line gives: nothing if it is skipped, else a call or a step; a line that is neither is bad, as is one past the last or with a byte past 127
 abbrev pub line_gives : ℕ → List ℕ → Result (Option ScriptLine) ℕ
 line_gives line text =
     if nat_lt MOST_LINES line || not (list_all (λ c. nat_lt c 128) text) then Err line
@@ -230,6 +246,7 @@ abbrev pub before_others : Option ScriptLine → Result (List ScriptLine) ℕ �
 before_others given (Ok others) = Ok (option_to_list given ++ others)
 before_others given (Err line) = Err line
 
+-- what a line gives, and behind it what the others give; the first bad line counts
 abbrev pub and_then : Result (Option ScriptLine) ℕ → Result (List ScriptLine) ℕ → Result (List ScriptLine) ℕ
 and_then (Ok given) others = before_others given others
 and_then (Err line) others = Err line
@@ -239,6 +256,7 @@ abbrev pub lines_give : ℕ → List (List ℕ) → Result (List ScriptLine) ℕ
 lines_give line [] = Ok []
 lines_give line (text ∷ texts) = and_then (line_gives line text) (lines_give (line + 1) texts)
 
+-- lines as a script's plan, unless one is bad
 abbrev pub as_plan : Result (List ScriptLine) ℕ → Result RunPlan ℕ
 as_plan (Ok lines) = Ok (record { lines = lines })
 as_plan (Err line) = Err line

@@ -8,6 +8,7 @@ use Rattle.store_model.specs.declared.call.Call.{Call}
 use Rattle.store_model.specs.declared.call.Call.TheVariants.{CreateIndex}
 use Rattle.script_text.specs.Bytes.{bytes_of}
 
+-- whether a character is a decimal digit
 abbrev pub is_digit : ℕ → Bool
 is_digit c = nat_le 48 c && nat_le c 57
 
@@ -15,6 +16,7 @@ is_digit c = nat_le 48 c && nat_le c 57
 abbrev pub with_digit : ℕ → ℕ → Option ℕ
 with_digit front c = if is_digit c && nat_le (10 * front + (c - 48)) 4294967295 then Some (10 * front + (c - 48)) else None
 
+-- a number with more decimal digits behind it, if it does not get too great
 abbrev pub with_digits : Option ℕ → List ℕ → Option ℕ
 with_digits None word = None
 with_digits (Some front) [] = Some front
@@ -26,6 +28,7 @@ number_of [] = None
 number_of (c ∷ []) = with_digits (Some 0) (c ∷ [])
 number_of (c ∷ d ∷ word) = if c == 48 then None else with_digits (Some 0) (c ∷ d ∷ word)
 
+-- a number, if it lies between two others
 abbrev pub number_within : ℕ → ℕ → Option ℕ → Option ℕ
 number_within least most None = None
 number_within least most (Some number) = if nat_le least number && nat_le number most then Some number else None
@@ -40,10 +43,12 @@ abbrev pub slice_by : Option ℕ → Option ℕ → Option Extract
 slice_by (Some offset) (Some length) = Some (ByteSlice offset length)
 slice_by offset length = None
 
+-- an index by a field, if its number and its separator are right
 abbrev pub field_by : Option ℕ → Option ℕ → Option Extract
 field_by (Some number) (Some separator) = Some (Field number separator)
 field_by number separator = None
 
+-- how an index gets its keys, by the last three words of its line
 abbrev pub extract_of : List ℕ → List ℕ → List ℕ → Option Extract
 extract_of way first second =
     if bytes_eq way (codes "slice") then slice_by (number_within 0 65535 (number_of first)) (number_within 1 4096 (number_of second))
@@ -55,6 +60,7 @@ abbrev pub index_call : List ℕ → List ℕ → Option Extract → Option Call
 index_call db primary (Some extract) = Some (CreateIndex db (record { primary = primary; extract = extract }))
 index_call db primary None = None
 
+-- the call of a line that makes an index
 abbrev pub index_of : List ℕ → List ℕ → List ℕ → List (List ℕ) → Option Call
 index_of db kind primary (way ∷ first ∷ second ∷ []) =
     if bytes_eq kind (codes "index") && is_word db && is_word primary then index_call db primary (extract_of way first second) else None

@@ -38,6 +38,7 @@ abbrev pub dup_text : Kind → List ℕ → List ℕ
 dup_text Plain dup = []
 dup_text Dup dup = codes " " ++ bytes_text dup
 
+-- the place of a lock: a record's name, or `end` for the end of the database
 abbrev pub place_text : Kind → Bound → List ℕ
 place_text kind AtEnd = codes "end"
 place_text kind (On name) = bytes_text name.key ++ dup_text kind name.dup
@@ -50,10 +51,12 @@ waiting_text at owner = codes "waiting " ++ at.db ++ codes " " ++ place_text at.
 abbrev pub is_least_in : List TxnId → TxnId → Bool
 is_least_in cycle txn = list_all (λ other. nat_le txn.0 other.0) cycle
 
+-- a list turned so that what stands at a place comes first
 abbrev pub turned_at : Option ℕ → List TxnId → List TxnId
 turned_at None cycle = cycle
 turned_at (Some at) cycle = drop at cycle ++ take at cycle
 
+-- a cycle turned so that its least transaction comes first
 abbrev pub turned : List TxnId → List TxnId
 turned cycle = turned_at (position (is_least_in cycle) cycle) cycle
 
@@ -61,6 +64,7 @@ turned cycle = turned_at (position (is_least_in cycle) cycle) cycle
 abbrev pub txn_text : TxnId → List ℕ
 txn_text txn = codes " " ++ decimal txn.0
 
+-- a word, and behind it a cycle from its least transaction on
 abbrev pub cycle_text : List ℕ → List TxnId → List ℕ
 cycle_text word cycle = word ++ flat_map txn_text (turned cycle)
 
@@ -165,6 +169,7 @@ short_text answer = word_text answer ++ number_text (number_in answer)
 abbrev pub line_text : ℕ → ℕ → List ℕ → List ℕ
 line_text session line text = decimal line ++ codes " s" ++ decimal session ++ codes " " ++ text ++ codes "\n"
 
+-- a line of the report, where there is a text for one
 abbrev pub line_if_any : ℕ → ℕ → Option (List ℕ) → List ℕ
 line_if_any session line (Some text) = line_text session line text
 line_if_any session line None = []
@@ -205,9 +210,11 @@ begins session event = None
 abbrev pub none_begun : ℕ → Durability
 none_begun session = Sync
 
+-- with which durability each session's last transaction was begun, once an event came
 abbrev pub begun_then : Event → (ℕ → Durability) → ℕ → Durability
 begun_then event begun session = unwrap_or (begins session event) (begun session)
 
+-- with which durability each session's last transaction was begun, once several events came
 abbrev pub begun_after : (ℕ → Durability) → List Event → ℕ → Durability
 begun_after begun [] = begun
 begun_after begun (event ∷ events) = begun_after (begun_then event begun) events
@@ -222,6 +229,7 @@ abbrev pub logged_by : ℕ → ℕ → Durability → Answer → Option LoggedCa
 logged_by session line durability (Logged commit) = Some (record { session = session; line = line; commit = commit; durability = durability })
 logged_by session line durability answer = None
 
+-- the call that an event answers Logged, with the durability that it waits for
 abbrev pub logged_call : (ℕ → Durability) → Event → Option LoggedCall
 logged_call begun (Called session line call answer victims) = logged_by session line (durability_awaited begun session call) answer
 logged_call begun (Resume session line answer victims) = logged_by session line Sync answer
@@ -236,6 +244,7 @@ abbrev pub waiting_if : Option LoggedCall → List Event → List LoggedCall
 waiting_if None later = []
 waiting_if (Some call) later = if list_any (settles call) later then [] else call ∷ []
 
+-- that call, if no later event settles it
 abbrev pub if_waiting : (ℕ → Durability) → Event → List Event → List LoggedCall
 if_waiting begun event later = waiting_if (logged_call begun event) later
 
@@ -289,9 +298,11 @@ has_changed session event = false
 abbrev pub none_changed : ℕ → Bool
 none_changed session = false
 
+-- whether each session's transaction has changed something, once an event came
 abbrev pub changed_then : Event → (ℕ → Bool) → ℕ → Bool
 changed_then event changed session = if is_some (begins session event) then false else has_changed session event || changed session
 
+-- whether each session's transaction has changed something, once several events came
 abbrev pub changed_after : (ℕ → Bool) → List Event → ℕ → Bool
 changed_after changed [] = changed
 changed_after changed (event ∷ events) = changed_after (changed_then event changed) events

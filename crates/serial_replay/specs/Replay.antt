@@ -70,6 +70,7 @@ is_evaluated KeyExist = true
 is_evaluated KeyEmpty = true
 is_evaluated answer = false
 
+-- the name of the database that a call is on
 abbrev pub name_on : Option Target → List ℕ
 name_on None = []
 name_on (Some g) = g.database.name
@@ -79,14 +80,17 @@ abbrev pub told_if : Bool → Active → Standing → Call → Answer → Option
 told_if true a st call answer = Some (record { txn = a.txn; call = call; db = name_on (target_of st a.session call); answer = answer; own = changes_named st (st.own a.txn.0) })
 told_if false a st call answer = None
 
+-- a call that was evaluated, of a transaction that has more than this call
 abbrev pub told_within : Bool → Active → Standing → Call → Answer → Option AnsweredCall
 told_within true a st call answer = None
 told_within false a st call answer = told_if ((is_of_cursors call || is_on_records call) && is_evaluated answer) a st call answer
 
+-- the same of the session's transaction, if it has one
 abbrev pub told_of : Option Active → Standing → Call → Answer → Option AnsweredCall
 told_of None st call answer = None
 told_of (Some a) st call answer = told_within a.is_auto a st call answer
 
+-- the same of a call that waited and went on
 abbrev pub told_resumed : Option Wait → Standing → ℕ → Answer → Option AnsweredCall
 told_resumed None st session answer = None
 told_resumed (Some w) st session answer = told_of (active_of session st.actives) st w.call answer
@@ -97,6 +101,7 @@ told_by st (Called session line call answer victims) = told_of (active_of sessio
 told_by st (Resume session line answer victims) = told_resumed (wait_of session st.waiting) st session answer
 told_by st event = None
 
+-- the calls that were evaluated so far, with one more if there is one
 abbrev pub with_told : Option AnsweredCall → List AnsweredCall → List AnsweredCall
 with_told None told = told
 with_told (Some c) told = told ++ c ∷ []
@@ -111,6 +116,7 @@ calls_of t told = filter (λ c. is_same_txn t c.txn) told
 abbrev pub Positions : Type 0
 Positions = ℕ → Option Name
 
+-- no cursor stands at a record
 abbrev pub nowhere : Positions
 nowhere cursor = None
 
@@ -123,10 +129,12 @@ cursor_of (CDel cursor) = Some cursor
 cursor_of (CPut cursor key value mode) = Some cursor
 cursor_of call = None
 
+-- where the cursor stands that a call is at
 abbrev pub position_of : Option ℕ → Positions → Option Name
 position_of None at = None
 position_of (Some cursor) at = at cursor
 
+-- the cursor of a call stands elsewhere
 abbrev pub with_position : Option ℕ → Option Name → Positions → Positions
 with_position None place at = at
 with_position (Some cursor) place at = with_at cursor place at
@@ -178,6 +186,7 @@ abbrev pub primary_in : Store → Option Index → Option Database
 primary_in store None = None
 primary_in store (Some index) = database_of index.primary store
 
+-- the primary of a database, if it is an index
 abbrev pub over_in : Store → Option Database → Option Database
 over_in store None = None
 over_in store (Some d) = primary_in store d.index
@@ -209,6 +218,7 @@ is_committed Done = true
 is_committed (Logged commit) = true
 is_committed answer = false
 
+-- what is owed to a transaction as it commits, if it does
 abbrev pub IsOwedBy : Bool → Option Active → Standing → List AnsweredCall → List Change → Type 0
 IsOwedBy true (Some a) st told committed = IsOwedTo a.level (calls_of a.txn told) st.numbers st.store committed
 IsOwedBy is_done active st told committed = Unit {0}
@@ -221,6 +231,7 @@ IsOwedAt st told event = Unit {0}
 
 -- ---- a journal
 
+-- each commit of a journal gives its transaction what its level promises, with the calls that were evaluated so far
 abbrev pub ReplaysFrom : Standing → List AnsweredCall → List Event → Type 0
 ReplaysFrom st told [] = Unit {0}
 ReplaysFrom st told (event ∷ events) = IsOwedAt st told event × ReplaysFrom (after_event st event) (with_told (told_by st event) told) events

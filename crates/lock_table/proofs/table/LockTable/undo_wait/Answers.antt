@@ -19,5 +19,5 @@ invariant_of-self c = (
 pub returns-clause-settled : goal.returns-clause-settled
 returns-clause-settled c =
     let s = sound_cancel (λ r. queue_at r c.self.inside.queues.entries) (λ r. queue_at r c.undo_wait_in.new.queues.entries) (is_listed c.self.inside.lists.entries) (λ t. at_txn t c.self.inside.pending.entries) (λ t. at_txn t c.undo_wait_in.new.pending.entries) c.args.txn c.self.invariant.0 c.undo_wait_in.ensures.queues
-        (λ t h. c.undo_wait_in.ensures.pending t ∙ cond-false (is_same_txn c.args.txn t) c.args.place (at_txn t c.self.inside.pending.entries) h) in
+    (λ t h. c.undo_wait_in.ensures.pending t ∙ cond-false (is_same_txn c.args.txn t) c.args.place (at_txn t c.self.inside.pending.entries) h) in
     record { settled = s.settled; alone = s.waits }
