@@ -28,7 +28,7 @@ use Rattle.je_answers.specs.declared.wait.Wait.{Wait}
 use Rattle.je_answers.specs.Standing.{Standing, active_of, wait_of, without_wait, place_at, with_at, all_numbered}
 use Rattle.je_answers.specs.Views.{Target, target_of, changes_with, with_numbers, with_names, changes_named, outcome_of, needs_in}
 use Rattle.je_answers.specs.Refusals.{early_refusal, late_refusal}
-use Rattle.je_answers.specs.Locking.{Queues, all_got, first_blocked, given_back, released, with_wait}
+use Rattle.je_answers.specs.Locking.{Queues, all_got, first_blocked, given_back, all_given_back, released, with_wait}
 use Rattle.je_answers.specs.Events.{auto_active, begun, asking, queues_before, locks_before, resumed, IsAnswered}
 
 -- ---- what an answer says of the changes of its call
@@ -164,11 +164,12 @@ all_ended (a ∷ as_) st = all_ended as_ (ended a st)
 abbrev pub autos_in : List Victim → List Active → List Active
 autos_in victims actives = filter (λ a. a.is_auto && is_victim a.session victims) actives
 
--- the victims wait no more, and have their cycles
+-- the victims' calls are answered: each of them waits no more, and of its locks only those stay that its level keeps
 abbrev pub without_waits_of : List Victim → Standing → Standing
 without_waits_of victims st = record st {
   actives = marked victims st.actives;
   waiting = filter (λ w. not (is_victim w.session victims)) st.waiting;
+  locks = record { at = all_given_back (filter (λ a. is_victim a.session victims) st.actives) st.locks.at; pending = st.locks.pending };
 }
 
 -- the victims wait no more, and those that are transactions of one call have ended

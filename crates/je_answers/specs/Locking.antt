@@ -15,6 +15,7 @@ use Rattle.store_model.specs.declared.isolation.Isolation.{Isolation}
 use Rattle.store_model.specs.declared.isolation.Isolation.TheVariants.{ReadCommitted}
 use Rattle.store_model.specs.declared.need.Need.{Need}
 use Rattle.store_model.specs.declared.place.Place.{Place}
+use Rattle.je_answers.specs.declared.active.Active.{Active}
 use Rattle.je_answers.specs.Standing.{LockState, Standing}
 
 -- the owners and the waits of each record
@@ -60,6 +61,11 @@ owner_before t n at = blocker (lock_of t n.asked) (at (record_of n)).0
 abbrev pub given_back : Isolation → TxnId → Queues → Queues
 given_back ReadCommitted t at r = after_read t (at r)
 given_back level t at r = at r
+
+-- the same where the calls of several transactions are answered
+abbrev pub all_given_back : List Active → Queues → Queues
+all_given_back [] at = at
+all_given_back (a ∷ as_) at = all_given_back as_ (given_back a.level a.txn at)
 
 -- at a transaction's end all that it has goes
 abbrev pub released : TxnId → LockState → LockState

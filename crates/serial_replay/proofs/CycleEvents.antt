@@ -1,6 +1,6 @@
 -- No cycle stands after an event: by cases of the event, cut as after_event is.
 use Rattle.std.proofs.Common.{◌≡◌, ◌⊎◌, inl, inr, ℕ, ◌==◌, Bool, true, false, List, [], ◌∷◌, ◌++◌, map, Option, None, Some, refl, ap, sym, ◌∙◌, subst}
-use Rattle.std.specs.List.{AllByRecursion}
+use Rattle.std.specs.List.{filter, AllByRecursion}
 use Rattle.std.proofs.lemmas.Bool.{eqb-true}
 use Rattle.je_order.specs.declared.txn_id.TxnId.{TxnId}
 use Rattle.je_order.specs.Transactions.{is_same_txn}
@@ -29,9 +29,9 @@ use Rattle.store_model.specs.declared.place.Place.{Place}
 use Rattle.je_answers.specs.Standing.{LockState, Standing, place_at, active_of, wait_of, without_wait}
 use Rattle.je_answers.specs.Views.{Target, target_of, changes_with, with_names, changes_named, needs_in, outcome_of}
 use Rattle.je_answers.specs.Refusals.{waits_refusal, early_refusal, late_refusal, number_refusal}
-use Rattle.je_answers.specs.Locking.{record_of, all_got, granted_part, first_blocked, owner_before, released, waits_in}
+use Rattle.je_answers.specs.Locking.{record_of, all_got, granted_part, first_blocked, owner_before, released, with_wait, waits_in}
 use Rattle.je_answers.specs.Events.{auto_active, begun, asking, told_in, queues_before, locks_before, resumed, IsWaiting, IsStopped, IsTaken, IsOn, IsRun, IsPerformed, IsEvaluated, IsCallAnswered, IsReady, IsResumed, IsAnswered}
-use Rattle.je_answers.specs.After.{Fate, fate_of, drawn_by, committed_if_any, ended, ended_if_any, closed, with_outcome, answered, with_locks, after_fate, after_changes, txns_of, after_stop, after_taking, after_on, after_run, opened_at, after_commit, after_ending, after_catalog, after_performed, after_evaluated, after_call, after_resumed, faulted_if, after_begin, after_turn, after_event, AnswersAsModel}
+use Rattle.je_answers.specs.After.{Fate, fate_of, drawn_by, committed_if_any, ended, ended_if_any, closed, with_outcome, answered, with_locks, after_fate, after_changes, is_victim, txns_of, after_stop, after_taking, after_on, after_run, opened_at, after_commit, after_ending, after_catalog, after_performed, after_evaluated, after_call, after_resumed, faulted_if, after_begin, after_turn, after_event, AnswersAsModel}
 use Rattle.je_answers.specs.After.Fate.{Succeeds, IsRefused, Faults}
 use Rattle.je_answers.specs.Alone.{alone}
 use Rattle.standing_laws.specs.Right.{AreRight, IsSoundAt, IsWaitIn, MayWait, is_active}
@@ -44,8 +44,8 @@ use Rattle.standing_laws.proofs.StandingsStay.{MayRun, there_is, may_run, early_
 use Rattle.standing_laws.proofs.AloneRight.{alone-is_right}
 use Rattle.serial_replay.specs.Cycles.{waits_at, NeverWaitInCycle}
 use Rattle.serial_replay.specs.Laws.{CyclesNeverStand}
-use Rattle.serial_replay.proofs.WaitCycles.{waits_of, AreQueues, queues_of, released_free, released_queues, forgotten_free, forgotten_queues, all_got_free, back_free, wait_free}
-use Rattle.serial_replay.proofs.Victims.{waiting_now, sound_before, victims_keep}
+use Rattle.serial_replay.proofs.WaitCycles.{waits_of, AreQueues, queues_of, released_free, released_queues, forgotten_free, forgotten_queues, all_got_free, back_free, all_back_free, wait_free}
+use Rattle.serial_replay.proofs.Victims.{waiting_now, sound_before, right_asked, victims_keep}
 use Rattle.serial_replay.proofs.Replaying.{AnyStore, HasFault, faulted_refusal, fault_stays}
 
 -- a fault has come, whatever the store holds
@@ -115,9 +115,12 @@ module _ (st : Standing) (a : Active) (line : ℕ) (call : Call) (g : Target) (a
 
     waiting_free : (found : List (TxnId × List TxnId)) → AreVictims (waits_in (lock_of a.txn n.asked) (record_of n) (locks_before st a call g)) found → vs ≡ map (told_in (st.waiting ++ asking a line call ∷ [])) found
         → IsFree (waiting_now st a line call g n vs may m stopped)
-    waiting_free found victims told = wait_free a.txn n (txns_of vs st.actives) (locks_before st a call g) (stopped_behind a.txn (needs_in st a call g) st.locks.at n stopped)
+    waiting_free found victims told =
+        let now : Standing = waiting_now st a line call g n vs may m stopped in
+        all_back_free (filter (λ b. is_victim b.session vs) st.actives) st.last_txn now.actives st.own st.places now.waiting (with_wait a.txn n (txns_of vs st.actives) (locks_before st a call g)) (right_asked st a line call g n vs may m stopped).sound
+        (wait_free a.txn n (txns_of vs st.actives) (locks_before st a call g) (stopped_behind a.txn (needs_in st a call g) st.locks.at n stopped)
         (λ r. waits_nowhere (locks_before st a call g) a.txn (sound_before st a line call g n vs may m stopped).tables m.told r)
-        found same victims
+        found same victims)
       where
         same : (u : TxnId) → is_in u (map (λ v. v.0) found) ≡ is_in u (txns_of vs st.actives)
         same u =

@@ -1,6 +1,6 @@
 -- Each step of an event keeps what holds of the calls: a call on records.
 use Rattle.std.proofs.Common.{◌≡◌, ◌⊎◌, inl, inr, ℕ, ◌==◌, Bool, true, false, List, [], ◌∷◌, ◌++◌, find, Option, None, Some, refl, ap, sym, ◌∙◌, subst, ⊎_elim, arith, append-nil}
-use Rattle.std.specs.List.{AllByRecursion}
+use Rattle.std.specs.List.{filter, AllByRecursion}
 use Rattle.std.specs.Option.{option_map}
 use Rattle.std.proofs.lemmas.Bool.{eqb-true, cases_Bool, cond-true, cond-false}
 use Rattle.je_order.specs.Transactions.{is_same_txn}
@@ -24,11 +24,11 @@ use Rattle.store_model.specs.declared.isolation.Isolation.TheVariants.{ReadUncom
 use Rattle.je_answers.specs.declared.active.Active.{Active}
 use Rattle.je_answers.specs.Standing.{active_of, Standing, place_at, database_at, with_at}
 use Rattle.je_answers.specs.Views.{Target, seen_changes, with_numbers, target, named_target, target_at, cursor_target, target_of, view_of, changes_with, with_names, changes_in, changes_named, needs_in, outcome_of}
-use Rattle.je_answers.specs.Locking.{Queues, all_got, granted_part, first_blocked, given_back}
+use Rattle.je_answers.specs.Locking.{Queues, all_got, granted_part, first_blocked, given_back, with_wait}
 use Rattle.je_answers.specs.Events.{locks_before}
-use Rattle.je_answers.specs.After.{faulted, ended, committed_if_any, moved, with_locks, answered, with_outcome, closed, marked_by, without_waits_of, with_waiting, txns_of, after_stop}
+use Rattle.je_answers.specs.After.{faulted, ended, committed_if_any, moved, with_locks, answered, with_outcome, closed, marked_by, is_victim, without_waits_of, with_waiting, txns_of, after_stop}
 use Rattle.standing_laws.specs.Right.{AreSound, MayWait, HoldsWrite, is_active, txn_id}
-use Rattle.standing_laws.proofs.Among.{IsAmong, any_from, mapped_among}
+use Rattle.standing_laws.proofs.Among.{IsAmong, any_from, mapped_among, filter_among}
 use Rattle.standing_laws.proofs.Steps.{state, sound_all_got, sound_back}
 use Rattle.standing_laws.proofs.Moves.{sound_own}
 use Rattle.standing_laws.proofs.Stays.{same_active}
@@ -43,7 +43,7 @@ use Rattle.serial_replay.proofs.Here.{HasRecords}
 use Rattle.serial_replay.proofs.Ending.{end_is, end_named, known_end}
 use Rattle.serial_replay.proofs.Calling.{made, made_there, IsCallOf, own_its, writes_held}
 use Rattle.serial_replay.proofs.Told.{ground_call, others_call, known_call}
-use Rattle.serial_replay.proofs.Quiet.{IsQuiet, KeepsLocks, IsSameOne, as_before, known_quiet, same_locks, same_places, locks_with}
+use Rattle.serial_replay.proofs.Quiet.{IsQuiet, KeepsLocks, IsSameOne, as_before, known_quiet, same_locks, same_places, locks_with, all_back_keeps}
 use Rattle.serial_replay.proofs.Victims.{victims_keep}
 
 -- ---- nothing more is told
@@ -145,14 +145,21 @@ module _ (st : Standing) (a : Active) (call : Call) (g : Target) (told : List An
   marked_one None new b k locks places = as_before st new b k locks (λ own. places)
   marked_one (Some v) new b k locks places = record { old = b; there = k; txn = refl; level = refl; session = refl; auto = refl; locks = locks; places = λ own. places }
 
+  -- a victim of that number is that one, and a mark leaves its level
+  marked_keeps : (o : Option Victim) (b c : Active) → IsAmong b st.actives → IsAmong c st.actives → keeps (marked_by o c).level ≡ true → b.txn ≡ (marked_by o c).txn → keeps b.level ≡ true
+  marked_keeps None b c k l keep e = ap (λ (x : Active). keeps x.level) (same_active st.last_txn st.actives b c sound.numbers k l e) ∙ keep
+  marked_keeps (Some v) b c k l keep e = ap (λ (x : Active). keeps x.level) (same_active st.last_txn st.actives b c sound.numbers k l e) ∙ keep
+
   known_waiting : (line : ℕ) (n : Need) (vs : List Victim) → IsKnown (stopped_at line n vs) told
   known_waiting line n vs =
       known_quiet st (stopped_at line n vs) told sound (record { store = refl; numbers = refl; last_db = refl; last_txn = (omega arith); own = λ t. refl }) known
       (λ b k keep. let c = mapped_among (λ (x : Active). marked_by (find (λ (v : Victim). v.session == x.session) vs) x) st.actives b k in
       inl (subst (IsSameOne st (stopped_at line n vs)) c.2
       (marked_one (find (λ (v : Victim). v.session == c.0.session) vs) (stopped_at line n vs) c.0 c.1
-      (λ sort s r h. wait_keeps sort s a.txn (marked_by (find (λ (v : Victim). v.session == c.0.session) vs) c.0).txn n (txns_of vs st.actives) (locks_before st a call g) r
-      (all_got_keeps sort s a.txn (marked_by (find (λ (v : Victim). v.session == c.0.session) vs) c.0).txn (granted_part a.txn (needs_in st a call g) st.locks.at) st.locks.at r h))
+      (λ sort s r h. let u = (marked_by (find (λ (v : Victim). v.session == c.0.session) vs) c.0).txn in
+      all_back_keeps sort s u (filter (λ x. is_victim x.session vs) st.actives) (with_wait a.txn n (txns_of vs st.actives) (locks_before st a call g)).at r
+      (λ x k. marked_keeps (find (λ (v : Victim). v.session == c.0.session) vs) x c.0 (filter_among (λ (y : Active). is_victim y.session vs) st.actives x k).0 c.1 (ap (λ (y : Active). keeps y.level) c.2 ∙ keep))
+      (wait_keeps sort s a.txn u n (txns_of vs st.actives) (locks_before st a call g) r (all_got_keeps sort s a.txn u (granted_part a.txn (needs_in st a call g) st.locks.at) st.locks.at r h)))
       (same_places c.0.session st (stopped_at line n vs) refl))))
 
   pub known_stop : (b : Bool) (line : ℕ) (n : Need) (vs : List Victim) → first_blocked a.txn (needs_in st a call g) st.locks.at ≡ Some n → IsKnown (after_stop b st a line call g n vs) told

@@ -14,7 +14,7 @@ use Rattle.store_model.specs.declared.store.Store.{Store}
 use Rattle.store_model.specs.Reads.{at_name}
 use Rattle.je_answers.specs.declared.active.Active.{Active}
 use Rattle.je_answers.specs.Standing.{Standing, place_at}
-use Rattle.je_answers.specs.Locking.{all_got, given_back}
+use Rattle.je_answers.specs.Locking.{Queues, all_got, given_back, all_given_back}
 use Rattle.standing_laws.specs.Right.{AreSound}
 use Rattle.standing_laws.proofs.Among.{IsAmong}
 use Rattle.serial_replay.specs.Replay.{AnsweredCall}
@@ -125,3 +125,12 @@ locks_with level t u ns st new same its sort s r h =
     (λ e. subst (λ (q : _). Holds sort u q.0) (sym (back_none level t (all_got t ns st.locks.at) r (its (same_is t u e)))) (all_got_keeps sort s t u ns st.locks.at r h))
     (λ e. back_keeps sort s level t u (all_got t ns st.locks.at) r e (all_got_keeps sort s t u ns st.locks.at r h))
     (cases_Bool (is_same_txn t u)))
+
+-- locks that are given back of transactions which keep none
+pub all_back_keeps : (sort : Sort) → IsSort sort → (u : TxnId) (l : List Active) (at : Queues) (r : RecordId) → ((a : Active) → IsAmong a l → a.txn ≡ u → keeps a.level ≡ true) → Holds sort u (at r).0 → Holds sort u (all_given_back l at r).0
+all_back_keeps sort s u [] at r its h = h
+all_back_keeps sort s u (a ∷ l) at r its h =
+    all_back_keeps sort s u l (given_back a.level a.txn at) r (λ b k e. its b (inr k) e) (⊎_elim
+    (λ e. subst (λ (q : _). Holds sort u q.0) (sym (back_none a.level a.txn at r (its a (inl refl) (same_is a.txn u e)))) h)
+    (λ e. back_keeps sort s a.level a.txn u at r e h)
+    (cases_Bool (is_same_txn a.txn u)))

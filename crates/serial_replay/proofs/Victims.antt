@@ -1,6 +1,6 @@
 -- A call that waits, and its victims that are transactions of one call and end.
 use Rattle.std.proofs.Common.{◌≡◌, ℕ, ◌==◌, Bool, true, false, not, List, [], ◌∷◌, ◌++◌, Some, refl, ap, ◌∙◌, subst, ⊎_elim}
-use Rattle.std.specs.List.{AllByRecursion}
+use Rattle.std.specs.List.{filter, AllByRecursion}
 use Rattle.std.proofs.lemmas.Bool.{cases_Bool, both_ways, eqb-true, and_parts}
 use Rattle.je_order.proofs.TxnIds.{same_itself}
 use Rattle.je_order.specs.Transactions.{is_same_txn}
@@ -11,16 +11,16 @@ use Rattle.je_answers.specs.declared.active.Active.{Active}
 use Rattle.je_answers.specs.declared.wait.Wait.{Wait}
 use Rattle.je_answers.specs.Standing.{Standing}
 use Rattle.je_answers.specs.Views.{Target, needs_in}
-use Rattle.je_answers.specs.Locking.{granted_part, first_blocked}
+use Rattle.je_answers.specs.Locking.{granted_part, first_blocked, with_wait}
 use Rattle.je_answers.specs.Events.{asking, locks_before}
-use Rattle.je_answers.specs.After.{ended, all_ended, marked, is_victim, autos_in, without_session, without_waits_of, with_victims, with_waiting}
+use Rattle.je_answers.specs.After.{ended, all_ended, marked, is_victim, txns_of, autos_in, without_session, without_waits_of, with_victims, with_waiting}
 use Rattle.active_txns.specs.Marks.{HaveOwnSessions}
-use Rattle.standing_laws.specs.Right.{AreRight, IsSoundAt, MayWait}
+use Rattle.standing_laws.specs.Right.{AreRight, IsRightAt, IsSoundAt, MayWait}
 use Rattle.standing_laws.proofs.Among.{IsAmong, any_from, all_at, all_of, among_filter, filter_among}
 use Rattle.standing_laws.proofs.Steps.{sound_all_got, granted_free, stopped_behind}
 use Rattle.standing_laws.proofs.Moves.{own_filter}
 use Rattle.standing_laws.proofs.Marks.{is_auto_victim, marked_own, ends_marked}
-use Rattle.standing_laws.proofs.Stays.{right_ended, kept_by, right_stays}
+use Rattle.standing_laws.proofs.Stays.{right_ended, right_all_back, kept_by, right_stays}
 use Rattle.standing_laws.proofs.StandingsStay.{MayRun, there_is, untold_has-no_wait}
 
 -- what an end keeps, several ends keep, none of them of a session whose call waits
@@ -52,8 +52,9 @@ module _ (st : Standing) (a : Active) (line : ℕ) (call : Call) (g : Target) (n
   sound_before = sound_all_got st.last_txn st.actives st.own st.places st.waiting st.locks a.txn (granted_part a.txn (needs_in st a call g) st.locks.at) m.right.sound
       (any_from (λ (b : Active). is_same_txn a.txn b.txn) st.actives a (there_is st a m) (same_itself a.txn)) m.told (granted_free a.txn (needs_in st a call g) st.locks.at)
 
-  right_waiting : AreRight waiting_now
-  right_waiting = right_stays st.last_txn st.actives st.own st.places st.waiting (locks_before st a call g) a (asking a line call) n vs
+  -- where the victims' locks all stand yet
+  pub right_asked : IsRightAt st.last_txn waiting_now.actives st.own st.places waiting_now.waiting (with_wait a.txn n (txns_of vs st.actives) (locks_before st a call g))
+  right_asked = right_stays st.last_txn st.actives st.own st.places st.waiting (locks_before st a call g) a (asking a line call) n vs
       (record {
         sound = sound_before;
         its = m.its;
@@ -63,6 +64,9 @@ module _ (st : Standing) (a : Active) (line : ℕ) (call : Call) (g : Target) (n
         others = untold_has-no_wait st a m.right m.its m.told;
         stopped = stopped_behind a.txn (needs_in st a call g) st.locks.at n stopped;
       }) m.right.waiting m.right.calls may
+
+  right_waiting : AreRight waiting_now
+  right_waiting = right_all_back (filter (λ b. is_victim b.session vs) st.actives) st.last_txn waiting_now.actives st.own st.places waiting_now.waiting (with_wait a.txn n (txns_of vs st.actives) (locks_before st a call g)) right_asked
 
   pub victims_keep : (P : Standing → Type 0) → ((x : Standing) (b : Active) → AreRight x → IsAmong b x.actives → P x → P (ended b x)) → P waiting_now → P (with_victims vs (with_waiting st a line call g n vs))
   victims_keep P step p =

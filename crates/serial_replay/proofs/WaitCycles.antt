@@ -23,9 +23,9 @@ use Rattle.store_model.specs.declared.need.Need.{Need}
 use Rattle.je_answers.specs.declared.active.Active.{Active}
 use Rattle.je_answers.specs.declared.wait.Wait.{Wait}
 use Rattle.je_answers.specs.Standing.{LockState}
-use Rattle.je_answers.specs.Locking.{record_of, got, all_got, is_stopped, first_blocked, given_back, released, forgotten, with_wait, waits_for_in, waits_in}
+use Rattle.je_answers.specs.Locking.{record_of, got, all_got, is_stopped, first_blocked, given_back, all_given_back, released, forgotten, with_wait, waits_for_in, waits_in}
 use Rattle.standing_laws.specs.Right.{AreTables, IsSoundAt, is_active}
-use Rattle.standing_laws.proofs.Steps.{Changes, Cursors, state, IsGotAt, got_is, sound_got}
+use Rattle.standing_laws.proofs.Steps.{Changes, Cursors, state, IsGotAt, got_is, sound_got, sound_back}
 
 -- ---- who waits for whom
 
@@ -171,6 +171,12 @@ back_free ReadUncommitted t locks q free = free
 back_free ReadCommitted t locks q free = read_free t locks q free
 back_free RepeatableRead t locks q free = free
 back_free Serializable t locks q free = free
+
+pub all_back_free : (l : List Active) (last : ℕ) (as_ : List Active) (ch : Changes) (cu : Cursors) (ws : List Wait) (locks : LockState) → IsSoundAt last as_ ch cu ws locks → HasNoCycle (waits_of locks)
+    → HasNoCycle (waits_of (state (all_given_back l locks.at) locks.pending))
+all_back_free [] last as_ ch cu ws locks sound free = free
+all_back_free (a ∷ l) last as_ ch cu ws locks sound free =
+    all_back_free l last as_ ch cu ws (state (given_back a.level a.txn locks.at) locks.pending) (sound_back last as_ ch cu ws locks a.level a.txn sound) (back_free a.level a.txn locks (queues_of locks sound.tables) free)
 
 -- ---- a wait and its victims
 

@@ -8,6 +8,8 @@ pub mod Forgetting
 pub mod Ends
 -- Victims that are told and marked, with copies of their cycles.
 pub mod Tells
+-- What victims give back.
+pub mod Backs
 -- A call that begins to wait: where it leaves the sessions.
 pub mod Stops
 -- How many victims there are, and how long their cycles.

@@ -8,7 +8,8 @@ use Rattle.store_model.specs.declared.victim.Victim.{Victim}
 use Rattle.je_answers.specs.declared.active.Active.{Active}
 use Rattle.store_model.specs.declared.kind.Kind.{Kind}
 use Rattle.store_model.specs.declared.answer.Answer.{Answer}
-use Rattle.je_answers.specs.Standing.{Standing}
+use Rattle.je_answers.specs.Standing.{LockState, Standing}
+use Rattle.je_answers.specs.Locking.{all_given_back}
 use Rattle.je_answers.specs.Views.{Target}
 use Rattle.je_answers.specs.Events.{waiting_answer, cycle_of, told_in}
 use Rattle.je_answers.specs.After.{is_victim, with_victims}
@@ -59,7 +60,11 @@ is_auto_victim victims a = a.is_auto && is_victim a.session victims
 abbrev pub first_auto_in : List Victim → List Active → Option (ℕ × TxnId)
 first_auto_in victims actives = option_map (λ a. (a.session, a.txn)) (find (is_auto_victim victims) actives)
 
--- the call of this room was stopped, where the locks have its wait: the victims were told and marked, their waits are taken out, and those of one call ended
+-- the locks once the calls of these transactions are answered
+abbrev pub all_back : List Active → LockState → LockState
+all_back actives locks = record { at = all_given_back actives locks.at; pending = locks.pending }
+
+-- the call of this room was stopped, where the locks have its wait: the victims were told and marked, their waits are taken out, of their locks those stay that their levels keep, and those of one call ended
 pub record HasToldSo (answer : Answer) (victims : List Victim) (room : StopRoom) (kind : Kind) (needs : List Need) (b : Blocked) (old new : Sessions) : Type 0 where
   pub answers : (need : Need) → slice_get needs b.at ≡ Some need → answer ≡ waiting_answer (cycle_of room.wait.txn b.victims.items) (target_by room.others (room.db, kind) need) b.owner
   pub tells : victims ≡ map (told_in (old.waiting.items ++ room.wait ∷ [])) b.victims.items

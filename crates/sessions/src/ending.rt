@@ -1,17 +1,19 @@
 // Ending the victims that are transactions of one call.
-ghost use Rattle.std.specs.Prelude.{◌≡◌, ◌&&◌, not, find, filter};
+ghost use Rattle.std.specs.Prelude.{◌≡◌, ◌&&◌, not, find, filter, if◌then◌else◌};
 ghost use Rattle.std.specs.Option.{option_copied};
 ghost use Rattle.je_answers.specs.Standing.{Standing};
 ghost use Rattle.je_answers.specs.After.{is_victim as is_told, without_session, ended, all_ended, autos_in};
 ghost use Rattle.je_answers.specs.declared.active.Active.{Active as Begun};
 ghost use Rattle.active_txns.specs.Marks.{HaveOwnSessions};
 ghost use Rattle.sessions.specs.AtStanding.{AreSessionsAt};
-ghost use Rattle.sessions.specs.Waiting.{is_auto_victim, first_auto_in};
+ghost use Rattle.sessions.specs.Waiting.{is_auto_victim, first_auto_in, all_back};
+ghost use Rattle.txn_locks.specs.Taking.{state_of, when_answered};
 
 use crate::Sessions;
 use je_answers::{Active, Wait};
 use je_order::TxnId;
 use store_model::Victim;
+use txn_locks::CallLocks;
 
 // Whether a session's call is a victim.
 fn is_victim(victims: &[Victim], session: u8) -> bool
@@ -48,6 +50,24 @@ pub(crate) fn leave_victims_out(waiting: &mut Vec<Wait>, victims: &[Victim])
     ensures { waiting.new.items ≡ filter (λ w. not (is_told w.session victims.now)) waiting.old.items }
 {
     waiting.retain(|wait| !is_victim(victims, wait.session));
+}
+
+// Gives back what a victim's level does not keep. It takes no memory.
+fn give_back_of(locks: &mut CallLocks, active: &Active, victims: &[Victim])
+    ensures { state_of locks.new.locks ≡ (if is_told active.now.session victims.now then when_answered active.now.level active.now.txn (state_of locks.old.locks) else state_of locks.old.locks) }
+{
+    if is_victim(victims, active.session) {
+        locks.answered_waiting(active.txn, active.level);
+    }
+}
+
+// Gives back what the levels of the victims do not keep. It takes no memory.
+pub(crate) fn give_back_each(locks: &mut CallLocks, actives: &[Active], victims: &[Victim])
+    ensures { state_of locks.new.locks ≡ all_back (filter (λ a. is_told a.session victims.now) actives.now) (state_of locks.old.locks) }
+{
+    for active in actives {
+        give_back_of(locks, active, victims);
+    }
 }
 
 // Ends a session's transaction, and closes its cursors. It takes no memory.

@@ -27,7 +27,7 @@ use crate::asker::Asker;
 use crate::asking::{ask, ask_waiting, asker_of};
 use crate::blocked::Blocked;
 use crate::copying::copy_call;
-use crate::ending::{end_autos, leave_victims_out};
+use crate::ending::{end_autos, give_back_each, leave_victims_out};
 use crate::spare::buffers_of;
 use crate::stop_room::StopRoom;
 use crate::telling::{answer_of, target_of, tell_each};
@@ -119,7 +119,8 @@ fn tell(
     (answer, victims)
 }
 
-// A call is stopped that now waits: the victims are told, and those of one call end. It takes no memory.
+// A call is stopped that now waits: the victims are told and give back what their levels do not keep, and
+// those of one call end. It takes no memory.
 fn stop(
     sessions: &mut Sessions,
     room: StopRoom,
@@ -136,6 +137,11 @@ fn stop(
     ensures told { HasTold result room kind needs.items blocked sessions.old sessions.new }
 {
     let (answer, victims) = tell(sessions, room, kind, needs, blocked);
+    give_back_each(
+        &mut sessions.locks,
+        sessions.txns.actives(),
+        victims.as_slice(),
+    );
     end_autos(sessions, victims.as_slice());
     Taken::Stopped {
         answer,

@@ -30,11 +30,11 @@ use Rattle.store_model.specs.Journal.{is_logged}
 use Rattle.store_model.specs.Records.{Evaluated}
 use Rattle.je_answers.specs.declared.active.Active.{Active}
 use Rattle.je_answers.specs.declared.wait.Wait.{Wait}
-use Rattle.je_answers.specs.Standing.{Standing, active_of, wait_of, without_wait}
+use Rattle.je_answers.specs.Standing.{LockState, Standing, active_of, wait_of, without_wait}
 use Rattle.je_answers.specs.Views.{Target, target_of, needs_in, outcome_of, changes_with, with_names}
 use Rattle.store_model.specs.Refusals.{or_refusal}
 use Rattle.je_answers.specs.Refusals.{early_refusal, late_refusal, fault_refusal, waits_refusal, abort_refusal, txn_refusal}
-use Rattle.je_answers.specs.Locking.{Queues, record_of, got, all_got, is_stopped, granted_part, first_blocked, owner_before, with_wait, was_granted_in}
+use Rattle.je_answers.specs.Locking.{Queues, record_of, got, all_got, all_given_back, is_stopped, granted_part, first_blocked, owner_before, with_wait, was_granted_in}
 use Rattle.je_answers.specs.Events.{IsResumed, IsReady, IsCallAnswered, IsEvaluated, IsPerformed, IsRun, IsOn, IsTaken, IsStopped, IsWaiting, waiting_answer, cycle_of, lock_target, asking, queues_before, locks_before, resumed, told_by, told_in}
 use Rattle.je_answers.specs.After.{Fate, fate_of, drawn_by, ended, ended_if_any, closed, with_outcome, with_locks, answered, after_fate, after_changes, is_victim, txns_of, all_ended, autos_in, without_waits_of, with_victims, with_waiting, after_stop, after_taking, after_on, after_run, after_performed, after_evaluated, after_call, after_resumed, after_session}
 use Rattle.je_answers.specs.After.Fate.{Succeeds, IsRefused, Faults}
@@ -340,6 +340,9 @@ victims_wait found ws victims is there s h =
 
 -- ---- together
 
+abbrev back_at : List Active → LockState → LockState
+back_at l locks = record { at = all_given_back l locks.at; pending = locks.pending }
+
 -- the call waits again
 module _ (st : Standing) (w : Wait) (a : Active) (line : ℕ) (g : Target) (n : Need) (victims : List Victim) where
   abbrev old : Standing
@@ -405,20 +408,26 @@ module _ (st : Standing) (w : Wait) (a : Active) (line : ℕ) (g : Target) (n : 
           is : with_victims victims mid ≡ without_waits_of victims mid
           is = ap (λ (actives : List Active). all_ended actives (without_waits_of victims mid)) no_autos
 
+          none_back : filter (λ b. is_victim b.session victims) st.actives ≡ []
+          none_back = none_pass (λ (b : Active). is_victim b.session victims) st.actives (all_of (λ b. is_victim b.session victims ≡ false) st.actives (λ b k. no_victim b.session))
+
+          same_locks : (without_waits_of victims mid).locks ≡ mid.locks
+          same_locks = ap (λ (l : List Active). back_at l mid.locks) none_back
+
           test : Wait → Bool
           test = is_ready (without_waits_of victims mid)
 
           before : (v : Wait) → test v ≡ true → is_ready st v ≡ true
           before v h =
-              or_either (is_some st.fault) (was_granted_in v.txn mid.locks) (was_granted_in v.txn st.locks)
-              (λ k. (granted_before st w a w.call g n (txns_of victims old.actives) v.txn blocked k).0) h
+              or_either (is_some st.fault) (was_granted_in v.txn (without_waits_of victims mid).locks) (was_granted_in v.txn st.locks)
+              (λ k. (granted_before st w a w.call g n (txns_of victims old.actives) v.txn blocked (ap (was_granted_in v.txn) (sym same_locks) ∙ k)).0) h
 
           not_ready : test (asking a line w.call) ≡ false
           not_ready = by_test (was_granted_in a.txn mid.locks) refl
             where
               by_test : (b : Bool) → was_granted_in a.txn mid.locks ≡ b → test (asking a line w.call) ≡ false
               by_test true k = absurd (both_ways (is_same_txn a.txn a.txn) (granted_before st w a w.call g n (txns_of victims old.actives) a.txn blocked k).1 (same_itself a.txn))
-              by_test false k = ap₂ (λ (f : Option Fault) (b : Bool). is_some f || b) calm k
+              by_test false k = ap₂ (λ (f : Option Fault) (b : Bool). is_some f || b) calm (ap (was_granted_in a.txn) same_locks ∙ k)
 
           all_so : (xs : List Wait) → AllByRecursion (λ v. test v ≡ true → is_ready st v ≡ true) xs
           all_so [] = tt

@@ -37,9 +37,9 @@ use Rattle.je_answers.specs.declared.wait.Wait.{Wait}
 use Rattle.je_answers.specs.Standing.{Standing, active_of, wait_of, without_wait, place_at, with_at}
 use Rattle.je_answers.specs.Views.{Target, target_of, changes_with, with_numbers, with_names, changes_named, outcome_of, needs_in}
 use Rattle.je_answers.specs.Refusals.{fault_refusal, waits_refusal, abort_refusal, txn_refusal, early_refusal, late_refusal, number_refusal}
-use Rattle.je_answers.specs.Locking.{Queues, record_of, all_got, granted_part, first_blocked, given_back, released, forgotten}
+use Rattle.je_answers.specs.Locking.{Queues, record_of, all_got, granted_part, first_blocked, given_back, released, forgotten, with_wait}
 use Rattle.je_answers.specs.Events.{auto_active, begun, asking, locks_before, resumed, IsReady, IsResumed}
-use Rattle.je_answers.specs.After.{Fate, fate_of, drawn_by, ended, ended_if_any, committed_if_any, moved, with_locks, answered, with_outcome, opened, opened_at, closed_cursor, closed, after_fate, after_changes, marked, is_victim, autos_in, without_waits_of, with_victims, with_waiting, after_stop, after_taking, after_on, after_run, begun_by, after_commit, after_ending, after_catalog, after_performed, after_evaluated, after_call, after_resumed, faulted_if, after_begin, after_turn}
+use Rattle.je_answers.specs.After.{Fate, fate_of, drawn_by, ended, ended_if_any, committed_if_any, moved, with_locks, answered, with_outcome, opened, opened_at, closed_cursor, closed, after_fate, after_changes, marked, is_victim, txns_of, autos_in, without_waits_of, with_victims, with_waiting, after_stop, after_taking, after_on, after_run, begun_by, after_commit, after_ending, after_catalog, after_performed, after_evaluated, after_call, after_resumed, faulted_if, after_begin, after_turn}
 use Rattle.je_answers.specs.After.Fate.{Succeeds, IsRefused, Faults}
 use Rattle.je_answers.proofs.SameViews.{answered_changes}
 use Rattle.standing_laws.specs.Right.{HasWrite, HoldsWrite, IsWaitIn, MayWait, is_active, AreRight, IsSoundAt, IsRightAt}
@@ -51,7 +51,7 @@ use Rattle.standing_laws.proofs.Writers.{of_changes, write_is}
 use Rattle.standing_laws.proofs.Steps.{state, sound_all_got, granted_free, stopped_behind, IsWritten, all_written, sound_back}
 use Rattle.standing_laws.proofs.Moves.{numbered_more, own_filter, all_filter, waits_filter, some_active, AreLeft, sound_left, sound_begun, begun_found, drawn_untold, sound_own, sound_resumed}
 use Rattle.standing_laws.proofs.Marks.{is_auto_victim, marked_own, ends_marked}
-use Rattle.standing_laws.proofs.Stays.{same_active, right_ended, right_all_ended, kept_by, IsAsking, right_stays}
+use Rattle.standing_laws.proofs.Stays.{same_active, right_ended, right_all_ended, right_all_back, kept_by, IsAsking, right_stays}
 
 same_number : (m : ℕ) → (m == m) ≡ true
 same_number m = grind (arith, nat_tests)
@@ -304,7 +304,8 @@ right_victims st a line call g n vs may m stopped =
     asks = record { sound = before; its = m.its; session = refl; txn = refl; told = m.told; others = untold_has-no_wait st a m.right m.its m.told; stopped = stopped_behind a.txn (needs_in st a call g) st.locks.at n stopped }
 
     right : AreRight after
-    right = right_stays st.last_txn st.actives st.own st.places st.waiting (locks_before st a call g) a (asking a line call) n vs asks m.right.waiting m.right.calls may
+    right = right_all_back (filter (λ b. is_victim b.session vs) st.actives) st.last_txn after.actives st.own st.places after.waiting (with_wait a.txn n (txns_of vs st.actives) (locks_before st a call g))
+        (right_stays st.last_txn st.actives st.own st.places st.waiting (locks_before st a call g) a (asking a line call) n vs asks m.right.waiting m.right.calls may)
 
 right_stop : (b : Bool) (st : Standing) (a : Active) (line : ℕ) (call : Call) (g : Target) (n : Need) (vs : List Victim) → MayWait call → MayRun st a → first_blocked a.txn (needs_in st a call g) st.locks.at ≡ Some n
     → AreRight (after_stop b st a line call g n vs)

@@ -19,13 +19,13 @@ use Rattle.store_model.specs.declared.victim.Victim.{Victim}
 use Rattle.je_answers.specs.declared.active.Active.{Active}
 use Rattle.je_answers.specs.declared.wait.Wait.{Wait}
 use Rattle.je_answers.specs.Standing.{LockState, Standing, active_of}
-use Rattle.je_answers.specs.Locking.{Queues, record_of, got, is_stopped, released, with_wait}
+use Rattle.je_answers.specs.Locking.{Queues, record_of, got, is_stopped, all_given_back, given_back, released, with_wait}
 use Rattle.je_answers.specs.After.{marked, marked_by, is_victim, txns_of, without_session, ended, all_ended}
 use Rattle.active_txns.specs.Marks.{HaveOwnSessions}
 use Rattle.standing_laws.specs.Right.{AreNumbered, HasWrite, HoldsWrite, place_of, txn_id, has_wait, IsWaitIn, HaveOwnWaits, HaveWaits, MayWait, IsSoundAt, IsRightAt, AreRight}
 use Rattle.standing_laws.proofs.Among.{IsAmong, any_some, any_from, all_at, all_of, among_map, mapped_among, among_filter, filter_among, among_append, among_first, among_second, its_session}
 use Rattle.standing_laws.proofs.Waiters.{wait_of_told}
-use Rattle.standing_laws.proofs.Steps.{Queue, Changes, Cursors, all_each, waits_nowhere}
+use Rattle.standing_laws.proofs.Steps.{Queue, Changes, Cursors, state, all_each, waits_nowhere, sound_back}
 use Rattle.standing_laws.proofs.Moves.{sound_ended, waits_filter}
 use Rattle.standing_laws.proofs.Marks.{marked_own, marked_numbered, marked_active, marked_found, same_txn, marked_none}
 
@@ -73,6 +73,14 @@ right_all_ended (a ∷ as_) st own there others r =
     (all_of (λ b. IsAmong b (without_session a.session st.actives)) as_ (λ b k. among_filter (λ (c : Active). not (c.session == a.session)) st.actives b (all_at (λ c. IsAmong c st.actives) as_ b there.1 k)
     (ap not (all_at (λ (c : Active). (c.session == a.session) ≡ false) as_ b own.0 k))))
     others.1 (right_ended st a r there.0 others.0)
+
+-- ---- several calls are answered
+
+pub right_all_back : (l : List Active) (last : ℕ) (as_ : List Active) (ch : Changes) (cu : Cursors) (ws : List Wait) (locks : LockState) → IsRightAt last as_ ch cu ws locks → IsRightAt last as_ ch cu ws (state (all_given_back l locks.at) locks.pending)
+right_all_back [] last as_ ch cu ws locks r = r
+right_all_back (a ∷ l) last as_ ch cu ws locks r =
+    right_all_back l last as_ ch cu ws (state (given_back a.level a.txn locks.at) locks.pending)
+    (record { sound = sound_back last as_ ch cu ws locks a.level a.txn r.sound; waiting = r.waiting; calls = r.calls })
 
 -- ---- a wait
 

@@ -9,7 +9,7 @@ ghost use Rattle.je_answers.specs.Standing.{LockState};
 ghost use Rattle.txn_locks.specs.Taking.{state_of, are_reads, when_answered, IsLocked, IfAnswered};
 ghost use Rattle.txn_locks.specs.Undoing.{AreGot, HasNoRead, AreReadsAmong};
 
-use crate::reading::{give_back_at, tested};
+use crate::reading::{give_back_all_reads, give_back_at, tested};
 use crate::taking::take_each;
 use crate::undoing::give_back_all;
 use crate::{Got, Locked};
@@ -88,5 +88,13 @@ impl CallLocks {
     {
         self.locks.have_no_cycle();
         give_back_at(&mut self.locks, self.got.as_slice(), txn, level, resumed);
+    }
+
+    /// Gives back what the level does not keep of a call that waited and is answered all the same, as a
+    /// victim's is: at read committed each READ lock of its transaction. It takes no memory.
+    pub fn answered_waiting(&mut self, txn: TxnId, level: Isolation)
+        ensures { state_of self.new.locks ≡ when_answered level txn (state_of self.old.locks) }
+    {
+        give_back_all_reads(&mut self.locks, txn, level);
     }
 }

@@ -144,6 +144,16 @@ pub(crate) fn give_back_each(locks: &mut LockMgr, got: &[Got], txn: TxnId)
     }
 }
 
+// Gives back what the level does not keep of all that the transaction has. It takes no memory.
+pub(crate) fn give_back_all_reads(locks: &mut LockMgr, txn: TxnId, level: Isolation)
+    ensures { state_of locks.new ≡ when_answered level txn (state_of locks.old) }
+{
+    if keeps_reads(level) {
+        return;
+    }
+    locks.give_back_reads(txn);
+}
+
 // Gives back what the level does not keep. It takes no memory.
 pub(crate) fn give_back_at(
     locks: &mut LockMgr,

@@ -103,6 +103,46 @@ end commits 3 databases 1 records 3\n",
     ),
 ];
 
+// A victim at read committed has its READ locks no more once it is told: who waits for one of them goes on before it aborts.
+const READ_GIVEN_BACK: &[u8] = b"s1 create d dup\n\
+s1 put d 6b 31\n\
+s1 put d 6b 32\n\
+s1 begin rr sync wait\n\
+s1 open c1 d\n\
+s1 cur c1 both 6b 32 rmw\n\
+s2 begin rc sync wait\n\
+s2 open c1 d\n\
+s2 cur c1 key 6b\n\
+s2 count c1\n\
+s1 cur c1 both 6b 31 rmw\n\
+s2 count c1\n\
+s2 abort\n\
+s1 commit\n";
+
+const READ_GIVEN_BACK_TEXT: &str = "1 s1 ok\n\
+2 s1 ok\n\
+3 s1 ok\n\
+4 s1 ok txn 4\n\
+5 s1 ok\n\
+6 s1 ok 6b 32\n\
+7 s2 ok txn 5\n\
+8 s2 ok\n\
+9 s2 ok 6b 31\n\
+10 s2 waiting d 6b 32 by 4\n\
+11 s1 waiting d 6b 31 by 5\n\
+10 s2 deadlock 4 5\n\
+11 s1 ok 6b 31\n\
+12 s2 mustabort 4 5\n\
+13 s2 ok\n\
+14 s1 ok\n\
+end commits 3 databases 1 records 2\n";
+
+#[test]
+fn victim_gives_reads_back(rt: HostRuntime) -> Result<(), Fail> {
+    assert_writes(&rt, rt.alloc(), READ_GIVEN_BACK, READ_GIVEN_BACK_TEXT)?;
+    Ok(())
+}
+
 // In each cycle the youngest transaction is the victim.
 #[test]
 fn deadlocks(rt: HostRuntime) -> Result<(), Fail> {
