@@ -7,9 +7,11 @@ use Rattle.je_disk.proofs.MomentLaws.{passes_weaken}
 use Rattle.store_model.specs.declared.change.Change.{Change}
 use Rattle.store_model.specs.declared.store.Store.{Store}
 use Rattle.store_model.specs.Store.{store_after}
-use Rattle.log_buffer.specs.Crash.{IsKeptSince}
+use Rattle.log_file.specs.Log.{Log}
+use Rattle.log_buffer.specs.Chance.{NoChanceMatch}
+use Rattle.log_buffer.specs.Crash.{HoldLogged, HoldPrefixes, IsKeptSince}
 use Rattle.log_buffer.proofs.CrashImages.{kept_is_left}
-use Rattle.log_buffer.proofs.ChanceMatches.{reads_have_no_chance}
+use Rattle.log_buffer.proofs.ChanceMatches.{own_chance, prefixes_logged}
 use Rattle.log_trees.specs.Placed.{placed}
 use Rattle.log_meaning.specs.Recovery.{IsRecovered, commits_in}
 use Rattle.log_meaning.proofs.NeededFiles.{needed_files_recover}
@@ -27,23 +29,27 @@ images_recover first opening base least transactions log image is from left =
     }
 
 pub kept_images_recover : KeptImagesRecover
-kept_images_recover first opening base least transactions log state is from keeps prefixes read image files chance =
-    images_recover first opening base least transactions log image is from (kept_is_left log [] least state image is.named.is_log keeps prefixes read files chance)
+kept_images_recover first opening base least transactions log state is from keeps read image files chance =
+    images_recover first opening base least transactions log image is from (kept_is_left log [] least state image is.named.is_log keeps read files chance)
+
+-- what the disk reads is an image in which no checksum matches by chance
+read_chance : (log : Log) (reads : Files) → HoldPrefixes log reads → NoChanceMatch (HoldLogged log) reads reads
+read_chance log reads prefixes = own_chance (HoldLogged log) reads (λ f. prefixes_logged log reads f prefixes)
 
 pub states_recover : StatesRecover
 states_recover first opening base least transactions log state is from kept =
-    let images = kept_images_recover first opening base least transactions log state is from kept.keeps kept.prefixes kept.read in
-    record { read = images state.reads kept.read (reads_have_no_chance state.reads); images = images }
+    let images = kept_images_recover first opening base least transactions log state is from kept.keeps kept.read in
+    record { read = images state.reads kept.read (read_chance log state.reads kept.prefixes); images = images }
 
 pub written_recover : WrittenRecover
 written_recover first opening base least written transactions log state is from kept h =
     images_recover first opening base written transactions log state.reads is from
     (written_left log least written state.reads
-    (kept_is_left log [] least state state.reads is.named.is_log kept.keeps kept.prefixes kept.read kept.read (reads_have_no_chance state.reads)) h)
+    (kept_is_left log [] least state state.reads is.named.is_log kept.keeps kept.read kept.read (read_chance log state.reads kept.prefixes)) h)
 
 pub through_recovers : ThroughRecovers
 through_recovers first opening base least transactions log old new is from through =
-    passes_weaken old new (IsKeptSince log [] least (now old).reads) (IsStateRecovered opening (commits_in base least (placed log)) transactions)
+    passes_weaken old new (IsKeptSince log [] least (now old).reads) (IsStateRecovered log opening (commits_in base least (placed log)) transactions)
     (λ s k. states_recover first opening base least transactions log s is from k.kept) through
 
 -- ---- fewer transactions that are sure, and more that may be there
@@ -65,7 +71,7 @@ wider_image opening least fewer transactions more image is le =
     record { held = is.held; are = is.are; recovered = wider_files opening least fewer transactions more is.held is.recovered le }
 
 pub wider_is_recovered : WiderIsRecovered
-wider_is_recovered opening least fewer transactions more state is le = record {
+wider_is_recovered log opening least fewer transactions more state is le = record {
   read = wider_image opening least fewer transactions more state.reads is.read le;
   images = λ image files chance. wider_image opening least fewer transactions more image (is.images image files chance) le;
 }

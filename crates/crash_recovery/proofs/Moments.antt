@@ -26,10 +26,10 @@ module _ {D : Type 0} (observable : Bool) (history : D → History) where
 
   longer_recovers : (first : ℕ) (opening : Store) (base least : ℕ) (begun : Option ℕ) (transactions : List (List Change)) (x y : LogBuffer D) (entries : List Entry) (log : Log) →
       IsHeld observable history x log least begun → KeepsLonger observable history x y entries → RecoversLog first opening base transactions (longer x entries log) → base ≤ least →
-      Passes (history (disk_of x)) (history (disk_of y)) (IsStateRecovered opening (commits_in base least (placed log)) transactions)
+      Passes (history (disk_of x)) (history (disk_of y)) (IsStateRecovered (longer x entries log) opening (commits_in base least (placed log)) transactions)
   longer_recovers first opening base least begun transactions x y entries log held keeps is from =
       let has = held.has in
-      subst (λ (n : ℕ). Passes (history (disk_of x)) (history (disk_of y)) (IsStateRecovered opening n transactions))
+      subst (λ (n : ℕ). Passes (history (disk_of x)) (history (disk_of y)) (IsStateRecovered (longer x entries log) opening n transactions))
       (commits_stay log (end_of x) (last_of x) (file_max_of x) entries base least has.is_log has.ends
       (kept_are_within log [] least (now (history (disk_of x))).crash_states held.holds.kept.keeps))
       (through_recovers first opening base least transactions (longer x entries log) (history (disk_of x)) (history (disk_of y)) is from

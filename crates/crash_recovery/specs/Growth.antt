@@ -25,18 +25,18 @@ module _ {D : Type 0} where
   abbrev pub StandingRecovers : Bool → (D → History) → Type 0
   StandingRecovers observable history = (first : ℕ) (opening : Store) (base least : ℕ) (begun : Option ℕ) (transactions : List (List Change)) (x : LogBuffer D) (log : Log)
       → IsHeld observable history x log least begun → RecoversLog first opening base transactions log → base ≤ least
-      → IsStateRecovered opening (commits_in base least (placed log)) transactions (now (history (disk_of x)))
+      → IsStateRecovered log opening (commits_in base least (placed log)) transactions (now (history (disk_of x)))
 
   -- at each moment since, where the log got entries: the transactions that the longer log recovers, at least those that the entries kept of the log before commit
   abbrev pub GrowthRecovers : Bool → (D → History) → (D → Option ℕ) → (D → Option ℕ) → (D → ℕ) → Type 0
   GrowthRecovers observable history sync_out read_out read_of = (first : ℕ) (opening : Store) (base least : ℕ) (begun : Option ℕ) (transactions : List (List Change)) (x y : LogBuffer D)
       (entries : List Entry) (log : Log) → IsHeld observable history x log least begun → Grew observable history sync_out read_out read_of x y entries
       → RecoversLog first opening base transactions (longer x entries log) → base ≤ least
-      → Passes (history (disk_of x)) (history (disk_of y)) (IsStateRecovered opening (commits_in base least (placed log)) transactions)
+      → Passes (history (disk_of x)) (history (disk_of y)) (IsStateRecovered (longer x entries log) opening (commits_in base least (placed log)) transactions)
 
   -- the same where the disk failed while the first of these entries were appended
   abbrev pub TriedRecovers : Bool → (D → History) → (D → Option ℕ) → (D → Option ℕ) → (D → ℕ) → Type 0
   TriedRecovers observable history sync_out read_out read_of = (first : ℕ) (opening : Store) (base least : ℕ) (begun : Option ℕ) (transactions : List (List Change)) (x y : LogBuffer D)
       (front rest entries : List Entry) (log : Log) → IsHeld observable history x log least begun → Tried observable history sync_out read_out read_of x y front → front ++ rest ≡ entries
       → RecoversLog first opening base transactions (longer x entries log) → base ≤ least
-      → Passes (history (disk_of x)) (history (disk_of y)) (IsStateRecovered opening (commits_in base least (placed log)) transactions)
+      → Passes (history (disk_of x)) (history (disk_of y)) (IsStateRecovered (longer x entries log) opening (commits_in base least (placed log)) transactions)

@@ -11,7 +11,7 @@ use Rattle.log_buffer.specs.declared.log_pos.LogPos.{LogPos}
 use Rattle.log_buffer.specs.Growth.{log_with_all}
 use Rattle.log_buffer.specs.Log.{EndsAt}
 use Rattle.log_buffer.specs.Chance.{LeavesLog}
-use Rattle.log_buffer.specs.Crash.{KeepsLog, KeepsRead, KeptThrough, HoldPrefixes}
+use Rattle.log_buffer.specs.Crash.{KeepsLog, KeepsRead, KeptThrough}
 use Rattle.log_buffer.specs.Written.{HoldsWritten}
 use Rattle.log_trees.specs.Placed.{placed}
 use Rattle.log_meaning.specs.Recovery.{commits_in}
@@ -31,14 +31,14 @@ ImagesRecover = (first : ℕ) (opening : Store) (base least : ℕ) (transactions
 -- so does each image of a disk of which a crash keeps so many of the log's entries
 abbrev pub KeptImagesRecover : Type 0
 KeptImagesRecover = (first : ℕ) (opening : Store) (base least : ℕ) (transactions : List (List Change)) (log : Log) (state : State)
-    → RecoversLog first opening base transactions log → base ≤ least → KeepsLog log [] least state.crash_states → HoldPrefixes log state.reads → AreFileImages state.crash_states state.reads
-    → AreImagesRecovered opening (commits_in base least (placed log)) transactions state
+    → RecoversLog first opening base transactions log → base ≤ least → KeepsLog log [] least state.crash_states → AreFileImages state.crash_states state.reads
+    → AreImagesRecovered log opening (commits_in base least (placed log)) transactions state
 
 -- and what the disk reads
 abbrev pub StatesRecover : Type 0
 StatesRecover = (first : ℕ) (opening : Store) (base least : ℕ) (transactions : List (List Change)) (log : Log) (state : State)
     → RecoversLog first opening base transactions log → base ≤ least → KeepsRead log [] least state
-    → IsStateRecovered opening (commits_in base least (placed log)) transactions state
+    → IsStateRecovered log opening (commits_in base least (placed log)) transactions state
 
 -- of what was written, what the disk reads means at least the transactions that it commits
 abbrev pub WrittenRecover : Type 0
@@ -50,12 +50,12 @@ WrittenRecover = (first : ℕ) (opening : Store) (base least written : ℕ) (tra
 abbrev pub ThroughRecovers : Type 0
 ThroughRecovers = (first : ℕ) (opening : Store) (base least : ℕ) (transactions : List (List Change)) (log : Log) (old new : History)
     → RecoversLog first opening base transactions log → base ≤ least → KeptThrough old new log [] least
-    → Passes old new (IsStateRecovered opening (commits_in base least (placed log)) transactions)
+    → Passes old new (IsStateRecovered log opening (commits_in base least (placed log)) transactions)
 
 -- fewer transactions are sure, and more may follow
 abbrev pub WiderIsRecovered : Type 0
-WiderIsRecovered = (opening : Store) (least fewer : ℕ) (transactions more : List (List Change)) (state : State) → IsStateRecovered opening least transactions state → fewer ≤ least
-    → IsStateRecovered opening fewer (transactions ++ more) state
+WiderIsRecovered = (log : Log) (opening : Store) (least fewer : ℕ) (transactions more : List (List Change)) (state : State) → IsStateRecovered log opening least transactions state → fewer ≤ least
+    → IsStateRecovered log opening fewer (transactions ++ more) state
 
 -- ---- how many transactions are sure
 

@@ -6,6 +6,7 @@ use Rattle.store_model.specs.declared.change.Change.{Change}
 use Rattle.store_model.specs.declared.store.Store.{Store}
 use Rattle.log_file.specs.Log.{Log, AreFiles}
 use Rattle.log_buffer.specs.Chance.{NoChanceMatch}
+use Rattle.log_buffer.specs.Crash.{HoldLogged}
 use Rattle.log_trees.specs.Placed.{placed}
 use Rattle.log_meaning.specs.Checkpoint.{last_end}
 use Rattle.log_meaning.specs.Recovery.{Recovers, IsRecovered}
@@ -24,11 +25,11 @@ pub record IsImageRecovered (opening : Store) (least : ℕ) (transactions : List
   pub are : AreFiles image held
   pub recovered : IsRecovered opening least transactions held
 
--- so does each image in which no checksum matches by chance
-abbrev pub AreImagesRecovered : Store → ℕ → List (List Change) → State → Type 0
-AreImagesRecovered opening least transactions state = (image : Files) → AreFileImages state.crash_states image → NoChanceMatch state.reads image → IsImageRecovered opening least transactions image
+-- so does each image in which no checksum matches by chance, beside reads that hold prefixes of this log
+abbrev pub AreImagesRecovered : Log → Store → ℕ → List (List Change) → State → Type 0
+AreImagesRecovered log opening least transactions state = (image : Files) → AreFileImages state.crash_states image → NoChanceMatch (HoldLogged log) state.reads image → IsImageRecovered opening least transactions image
 
 -- what a disk reads, and each image in which no checksum matches by chance, means the opening store changed by the first of the transactions, at least so many
-pub record IsStateRecovered (opening : Store) (least : ℕ) (transactions : List (List Change)) (state : State) : Type 0 where
+pub record IsStateRecovered (log : Log) (opening : Store) (least : ℕ) (transactions : List (List Change)) (state : State) : Type 0 where
   pub read : IsImageRecovered opening least transactions state.reads
-  pub images : AreImagesRecovered opening least transactions state
+  pub images : AreImagesRecovered log opening least transactions state

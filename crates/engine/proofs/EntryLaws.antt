@@ -8,7 +8,7 @@ use Rattle.std.proofs.lemmas.Bool.{cases_lt, cases_order, eqb-true}
 use Rattle.std.proofs.lemmas.Bool.Decides.{nat_tests}
 use Rattle.std.proofs.lemmas.List.{append-nil, length-take, length-take-le, take-append-drop, take_all}
 use Rattle.je_bytes.specs.Reading.{AreBytes}
-use Rattle.je_disk.specs.States.{Files, IsEither, CrashState, State, cut, cut_by, put_at, put_file, shortened, synced, synced_crash_state}
+use Rattle.je_disk.specs.States.{Files, IsEither, CrashState, State, content, cut, cut_by, put_at, put_file, shortened, synced, synced_crash_state}
 use Rattle.je_disk.specs.Images.{AreFileImages, IsFileImage, Leaves}
 use Rattle.je_disk.specs.Moments.{History, Passes, now}
 use Rattle.je_disk.proofs.ImageLaws.{image_put, image_synced}
@@ -23,15 +23,15 @@ use Rattle.log_file.specs.Log.{AreFiles, Log, entries_scanned, entries_of, file_
 use Rattle.log_file.specs.Scan.{scan_of}
 use Rattle.log_file.proofs.FilesLaws.{are_one_list}
 use Rattle.log_file.proofs.FileScanLaws.{are_encoded_back}
-use Rattle.log_buffer.specs.Chance.{HasPrefix, IsKeptByCut, LastIsKept}
+use Rattle.log_buffer.specs.Chance.{HasPrefix, IsKeptByCut, LastIsKept, ReadSince}
 use Rattle.log_buffer.specs.Crash.{KeepsLog, HoldsPrefix, HoldPrefixes, entries_at}
+use Rattle.log_buffer.proofs.ChanceMatches.{chance_more, past_is_held}
 use Rattle.log_buffer.proofs.CrashOpen.{cuts_keep}
 use Rattle.log_buffer.proofs.Prefixes.{cut_prefixes, empty_prefix}
 use Rattle.log_replay.specs.declared.last_file.LastFile.{LastFile}
 use Rattle.log_replay.specs.UnderWay.{IsLastOf, IsTailOf}
 use Rattle.je_lsn.specs.declared.file_no.TheConstants.{LAST_FILE}
 use Rattle.engine.specs.Crash.{ImagesMean, IsTailCut, KeepsEntry, NothingPending, ReadAsAtEntry}
-use Rattle.engine.proofs.SyncLaws.{passes_now}
 use Rattle.engine.proofs.FileLaws.{front_reads, headless, log_is, lookup-last}
 use Rattle.log_replay.specs.Reading.{corruption_at, corruption_in}
 use Rattle.store_model.specs.Store.{store_after}
@@ -426,22 +426,23 @@ unchanged store least image is = (
   is.recovered.store ∙ ap (store_after store) (take_all is.recovered.count [] (omega arith)),
 )
 
--- images of a disk that keeps a whole log mean the store that it recovers
-images_mean : (first : ℕ) (store : Store) (base : ℕ) (log : Log) (s : State) → RecoversLog first store base [] log → KeepsLog log [] (length (entries_of log)) s.crash_states → HoldPrefixes log s.reads →
-    AreFileImages s.crash_states s.reads → ImagesMean s store
-images_mean first store base log s recovers keeps prefixes read = λ image is chance.
+-- images of a disk that keeps a whole log, prefixes of which it read so far, mean the store that it recovers
+images_mean : (first : ℕ) (store : Store) (base : ℕ) (log : Log) (since : ℕ) (history : History) (k : ℕ) → RecoversLog first store base [] log → KeepsLog log [] (length (entries_of log)) (history.state_at k).crash_states →
+    AreFileImages (history.state_at k).crash_states (history.state_at k).reads → ((j : ℕ) → since ≤ j → j ≤ k → HoldPrefixes log (history.state_at j).reads) → ImagesMean since history k store
+images_mean first store base log since history k recovers keeps read past = λ image left.
     let all : ℕ = length (entries_of log) in
     unchanged store (commits_in base all (placed log)) image
-    (kept_images_recover first store base all [] log s recovers (all_are_committed first store base [] log recovers).0 keeps prefixes read image is.files chance)
+    (kept_images_recover first store base all [] log (history.state_at k) recovers (all_are_committed first store base [] log recovers).0 keeps read image left.is.files (past_is_held log since history k image past left))
 
 -- files that were read mean their store while their log is settled
-read_means : (s x : State) (held : List File) (tail : Option LastFile) (meaning : Meaning) → AreLogFiles held tail → AreFiles s.reads held → reading_of held ≡ Ok meaning → NothingPending s ⊎ NothingPending x →
-    IsSettling tail s x → ImagesMean x meaning.store
-read_means s x held tail meaning files observed reads pending is =
+read_means : (s : State) (new : History) (since k : ℕ) (held : List File) (tail : Option LastFile) (meaning : Meaning) → AreLogFiles held tail → AreFiles s.reads held → reading_of held ≡ Ok meaning →
+    NothingPending s ⊎ NothingPending (new.state_at k) → since ≤ k → ((j : ℕ) → since ≤ j → j ≤ k → IsSettling tail s (new.state_at j)) → ImagesMean since new k meaning.store
+read_means s new since k held tail meaning files observed reads pending from settled =
     let ends = found_ends held tail files in
     let found : IsOpenedLog 0 held (log_start_of tail) meaning = found_logs_recover 0 held (log_start_of tail) ends.0 meaning (found_named held tail files) ends.1 reads in
-    images_mean (first_of_found 0 held) meaning.store (length (placed (found_log 0 held))) (found_log 0 held) x found.recovers (kept_settling s x held tail files observed pending is)
-    (prefixes_settling s x held tail files observed is) (read_is_image tail s x pending is)
+    let here : IsSettling tail s (new.state_at k) = settled k from (omega arith) in
+    images_mean (first_of_found 0 held) meaning.store (length (placed (found_log 0 held))) (found_log 0 held) since new k found.recovers (kept_settling s (new.state_at k) held tail files observed pending here)
+    (read_is_image tail s (new.state_at k) pending here) (λ j lo hi. prefixes_settling s (new.state_at j) held tail files observed (settled j lo hi))
 
 -- ---- moments
 
@@ -450,22 +451,26 @@ pub entry_settled : (old new : History) (reads : Files) (held : List File) (tail
     Passes old new (IsSettling tail (now old)) → KeepsEntry old new
 entry_settled old new reads held tail files observed same passes = record {
   since = passes_weaken old new (IsSettling tail (now old)) (λ (s : State). Unit {0}) (λ s p. tt) passes;
-  reads = λ k lo hi. read_settling (now old) (new.state_at k) held tail files.last at_entry (by_order k lo hi (cases_order k old.moment));
-  images = λ pending other meaning are is k lo hi. at_state other meaning are is (new.state_at k) (inl pending) (by_order k lo hi (cases_order k old.moment));
-  at_end = λ pending other meaning are is. at_state other meaning are is (now new) (inr pending) (passes_now old new (IsSettling tail (now old)) passes (inl (inl refl)));
+  reads = λ k lo hi. read_settling (now old) (new.state_at k) held tail files.last at_entry (settled k lo hi);
+  images = λ pending other meaning are is k lo hi. at_moment other meaning are is k (inl pending) lo hi;
+  at_end = λ pending other meaning are is. at_moment other meaning are is new.moment (inr pending) passes.later (omega arith);
 } where
   at_entry : AreFiles (now old).reads held
   at_entry = subst (λ (f : Files). AreFiles f held) (sym same) observed
-
-  at_state : (other : List File) (meaning : Meaning) → AreFiles (now old).reads other → reading_of other ≡ Ok meaning → (x : State) → NothingPending (now old) ⊎ NothingPending x →
-      IsSettling tail (now old) x → ImagesMean x meaning.store
-  at_state other meaning are is x pending settling =
-      read_means (now old) x held tail meaning files at_entry (subst (λ (h : List File). reading_of h ≡ Ok meaning) (sym (are_one_list (now old).reads held other at_entry are)) is) pending settling
 
   by_order : (k : ℕ) → old.moment ≤ k → k ≤ new.moment → (k ≡ old.moment) ⊎ ((k < old.moment) ⊎ (old.moment < k)) → IsSettling tail (now old) (new.state_at k)
   by_order k lo hi (inl at) = inl (inl (ap (λ n. new.state_at n) at ∙ passes.keeps old.moment (omega arith)))
   by_order k lo hi (inr (inl before)) = absurd (omega (arith, lo, before))
   by_order k lo hi (inr (inr behind)) = passes.each k behind hi
+
+  settled : (k : ℕ) → old.moment ≤ k → k ≤ new.moment → IsSettling tail (now old) (new.state_at k)
+  settled k lo hi = by_order k lo hi (cases_order k old.moment)
+
+  at_moment : (other : List File) (meaning : Meaning) → AreFiles (now old).reads other → reading_of other ≡ Ok meaning → (k : ℕ) → NothingPending (now old) ⊎ NothingPending (new.state_at k) →
+      old.moment ≤ k → k ≤ new.moment → ImagesMean old.moment new k meaning.store
+  at_moment other meaning are is k pending lo hi =
+      read_means (now old) new old.moment k held tail meaning files at_entry (subst (λ (h : List File). reading_of h ≡ Ok meaning) (sym (are_one_list (now old).reads held other at_entry are)) is) pending lo
+      (λ j from upto. settled j from (omega (arith, upto, hi)))
 
 -- an image of a disk where nothing is pending is what the files read as
 image_reads : (file image : Option (List ℕ)) → IsFileImage (synced_crash_state file) image → file ≡ image
@@ -474,20 +479,33 @@ image_reads None (Some bytes) is = let allowed = is.allowed in cc
 image_reads (Some there) None is = cc
 image_reads (Some there) (Some bytes) is = ap (λ (x : List ℕ). Some x) (sym is.front ∙ take_all (length there) bytes is.within)
 
-pub still_means : (s : State) (held : List File) (meaning : Meaning) → NothingPending s → AreFiles s.reads held → reading_of held ≡ Ok meaning → ImagesMean s meaning.store
-still_means s held meaning pending are reads = λ image is chance. (
-  meaning,
-  record {
-    held = held;
-    are = record { rising = are.rising; each = λ f. are.each f ∙ image_reads (s.reads f) (image f) (subst (λ (m : CrashState). IsFileImage m (image f)) (pending f) (is.files f)) };
-    reads = reads;
-  },
-  refl,
-)
+pub still_means : (since : ℕ) (history : History) (k : ℕ) (s : State) (held : List File) (meaning : Meaning) → history.state_at k ≡ s → NothingPending s → AreFiles s.reads held → reading_of held ≡ Ok meaning →
+    ImagesMean since history k meaning.store
+still_means since history k s held meaning same pending are reads = λ image left.
+    let files : AreFileImages s.crash_states image = subst (λ (x : State). AreFileImages x.crash_states image) same left.is.files in (
+      meaning,
+      record {
+        held = held;
+        are = record { rising = are.rising; each = λ f. are.each f ∙ image_reads (s.reads f) (image f) (subst (λ (m : CrashState). IsFileImage m (image f)) (pending f) (files f)) };
+        reads = reads;
+      },
+      refl,
+    )
 
 -- what reads so at entry reads so
 read_entry : (entry reads : Files) → reads ≡ entry → ReadAsAtEntry entry reads
 read_entry entry reads same f = inl (ap (λ (files : Files). files f) same)
+
+-- what is read from a moment on is also read from a later one on, where nothing was done between them
+images_since : (a b c : History) (k : ℕ) (store : Store) → ((j : ℕ) → a.moment ≤ j → j < b.moment → c.state_at j ≡ now b) → c.state_at b.moment ≡ now b → b.moment ≤ k → ImagesMean b.moment c k store → ImagesMean a.moment c k store
+images_since a b c k store still here from means = λ image left. means image (record { is = left.is; chance = chance_more (ReadSince a.moment c k) (ReadSince b.moment c k) (c.state_at k).reads image later left.chance })
+  where
+    later : (f : ℕ) (read : List ℕ) → ReadSince a.moment c k f read → ReadSince b.moment c k f read
+    later f read was = by_order (cases_lt was.0 b.moment)
+      where
+        by_order : (was.0 < b.moment) ⊎ (b.moment ≤ was.0) → ReadSince b.moment c k f read
+        by_order (inl early) = (b.moment, omega arith, from, ap (λ (s : State). content s.reads f) (here ∙ sym (still was.0 was.1 early)) ∙ was.3)
+        by_order (inr late) = (was.0, late, was.2, was.3)
 
 -- time went on, and nothing was done before
 pub entry_later : (a b c : History) → Passes a b (λ (s : State). s ≡ now a) → now b ≡ now a → KeepsEntry b c → KeepsEntry a c
@@ -495,33 +513,36 @@ entry_later a b c passes same later = record {
   since = passes_then a b c (λ (s : State). Unit {0}) (passes_weaken a b (λ (s : State). s ≡ now a) (λ (s : State). Unit {0}) (λ s p. tt) passes) later.since;
   reads = λ k lo hi. reads_at k lo hi (cases_lt k b.moment);
   images = λ pending held meaning are is k lo hi. by_order pending held meaning are is k lo hi (cases_lt k b.moment);
-  at_end = λ pending held meaning are is. later.at_end pending held meaning (subst (λ (s : State). AreFiles s.reads held) (sym same) are) is;
+  at_end = λ pending held meaning are is. since c.moment meaning.store later.since.later (later.at_end pending held meaning (subst (λ (s : State). AreFiles s.reads held) (sym same) are) is);
 } where
-  still : (k : ℕ) → a.moment ≤ k → k < b.moment → (k ≡ a.moment) ⊎ ((k < a.moment) ⊎ (a.moment < k)) → c.state_at k ≡ now a
-  still k lo hi (inl at) = later.since.keeps k (omega (arith, hi)) ∙ ap (λ n. b.state_at n) at ∙ passes.keeps a.moment (omega arith)
-  still k lo hi (inr (inl before)) = absurd (omega (arith, lo, before))
-  still k lo hi (inr (inr behind)) = later.since.keeps k (omega (arith, hi)) ∙ passes.each k behind (omega (arith, hi))
+  by_moment : (k : ℕ) → a.moment ≤ k → k < b.moment → (k ≡ a.moment) ⊎ ((k < a.moment) ⊎ (a.moment < k)) → c.state_at k ≡ now a
+  by_moment k lo hi (inl at) = later.since.keeps k (omega (arith, hi)) ∙ ap (λ n. b.state_at n) at ∙ passes.keeps a.moment (omega arith)
+  by_moment k lo hi (inr (inl before)) = absurd (omega (arith, lo, before))
+  by_moment k lo hi (inr (inr behind)) = later.since.keeps k (omega (arith, hi)) ∙ passes.each k behind (omega (arith, hi))
+
+  still : (k : ℕ) → a.moment ≤ k → k < b.moment → c.state_at k ≡ now a
+  still k lo hi = by_moment k lo hi (cases_order k a.moment)
+
+  since : (k : ℕ) (store : Store) → b.moment ≤ k → ImagesMean b.moment c k store → ImagesMean a.moment c k store
+  since k store from means = images_since a b c k store (λ j lo hi. still j lo hi ∙ sym same) (later.since.keeps b.moment (omega arith)) from means
 
   reads_at : (k : ℕ) → a.moment ≤ k → k ≤ c.moment → (k < b.moment) ⊎ (b.moment ≤ k) → ReadAsAtEntry (now a).reads (c.state_at k).reads
-  reads_at k lo hi (inl early) = read_entry (now a).reads (c.state_at k).reads (ap (λ (s : State). s.reads) (still k lo early (cases_order k a.moment)))
+  reads_at k lo hi (inl early) = read_entry (now a).reads (c.state_at k).reads (ap (λ (s : State). s.reads) (still k lo early))
   reads_at k lo hi (inr late) = subst (λ (s : State). ReadAsAtEntry s.reads (c.state_at k).reads) same (later.reads k late hi)
 
   by_order : NothingPending (now a) → (held : List (ℕ × List ℕ)) (meaning : Meaning) → AreFiles (now a).reads held → reading_of held ≡ Ok meaning → (k : ℕ) → a.moment ≤ k → k ≤ c.moment →
-      (k < b.moment) ⊎ (b.moment ≤ k) → ImagesMean (c.state_at k) meaning.store
-  by_order pending held meaning are is k lo hi (inl early) =
-      subst (λ (s : State). ImagesMean s meaning.store) (sym (still k lo early (cases_order k a.moment))) (still_means (now a) held meaning pending are is)
+      (k < b.moment) ⊎ (b.moment ≤ k) → ImagesMean a.moment c k meaning.store
+  by_order pending held meaning are is k lo hi (inl early) = still_means a.moment c k (now a) held meaning (still k lo early) pending are is
   by_order pending held meaning are is k lo hi (inr late) =
-      later.images (subst NothingPending (sym same) pending) held meaning (subst (λ (s : State). AreFiles s.reads held) (sym same) are) is k late hi
+      since k meaning.store late (later.images (subst NothingPending (sym same) pending) held meaning (subst (λ (s : State). AreFiles s.reads held) (sym same) are) is k late hi)
 
 -- no time went by
 pub entry_none : (h : History) → KeepsEntry h h
 entry_none h = record {
   since = passes_none h (λ (s : State). Unit {0});
   reads = λ k lo hi. let at : k ≡ h.moment = omega (arith, lo, hi) in read_entry (now h).reads (h.state_at k).reads (ap (λ n. (h.state_at n).reads) at);
-  images = λ pending held meaning are is k lo hi.
-      let at : k ≡ h.moment = omega (arith, lo, hi) in
-      subst (λ n. ImagesMean (h.state_at n) meaning.store) (sym at) (still_means (now h) held meaning pending are is);
-  at_end = λ pending held meaning are is. still_means (now h) held meaning pending are is;
+  images = λ pending held meaning are is k lo hi. let at : k ≡ h.moment = omega (arith, lo, hi) in still_means h.moment h k (now h) held meaning (ap (λ n. h.state_at n) at) pending are is;
+  at_end = λ pending held meaning are is. still_means h.moment h h.moment (now h) held meaning refl pending are is;
 }
 
 -- time went on, and nothing was done

@@ -9,7 +9,7 @@ use Rattle.log_entry.specs.declared.entry.Entry.{Entry}
 use Rattle.log_file.specs.Log.{Log}
 use Rattle.log_buffer.specs.declared.buffer.LogBuffer.{LogBuffer}
 use Rattle.log_buffer.specs.Buffer.{disk_of, end_of, file_max_of, last_of, IsUnchanged}
-use Rattle.log_buffer.specs.Crash.{FilesStay, KeepsRead}
+use Rattle.log_buffer.specs.Crash.{FilesStay, HoldPrefixes, KeepsRead}
 use Rattle.log_buffer.specs.Growth.{longer}
 use Rattle.log_buffer.specs.Log.{HasLog}
 use Rattle.engine.specs.Crash.{AreSafeEvents, Follows}
@@ -30,7 +30,7 @@ module _ {D : Type 0} where
       record {
         since = subst (λ (h : History). Follows start h) alike g.since;
         begins = g.begins;
-        events = subst (λ (h : History). AreSafeEvents st h (λ from over. from ≡ h.moment) start.moment [] journal) alike g.events;
+        events = subst (λ (h : History). AreSafeEvents st start.moment h (λ from over. from ≡ h.moment) start.moment [] journal) alike g.events;
         none_before = g.none_before;
         base = g.base;
         least = g.least;
@@ -52,6 +52,7 @@ module _ {D : Type 0} where
         stops = λ ok. none;
         faultless = g.faultless;
         files = subst (λ (h : History). (k : ℕ) → start.moment ≤ k → k ≤ h.moment → FilesStay (now start).reads (h.state_at k).reads) alike g.files;
+        past = subst (λ (h : History). (k : ℕ) → start.moment ≤ k → k ≤ h.moment → HoldPrefixes log (h.state_at k).reads) alike g.past;
       }
 
   -- a buffer's log, longer

@@ -19,13 +19,14 @@ use Rattle.log_file.specs.Log.{Log, IsLog, entries_of}
 use Rattle.log_file.proofs.PlacedLaws.{placed_are_entries}
 use Rattle.log_buffer.specs.declared.buffer.LogBuffer.{LogBuffer}
 use Rattle.log_buffer.specs.Buffer.{has_failed}
-use Rattle.log_buffer.specs.Crash.{FilesStay, IsKeptSince, KeepsRead, KeptThrough}
+use Rattle.log_buffer.specs.Crash.{FilesStay, HoldPrefixes, IsKeptSince, KeepsRead, KeptThrough}
 use Rattle.log_buffer.specs.declared.log_pos.LogPos.{LogPos}
 use Rattle.log_buffer.specs.Growth.{log_with_all}
 use Rattle.log_buffer.specs.Laws.{placed_by}
 use Rattle.log_buffer.specs.Log.{EndsAt}
 use Rattle.log_buffer.specs.Written.{HoldsWritten}
-use Rattle.log_buffer.proofs.GrowthLaws.{appended_are_placed}
+use Rattle.log_buffer.proofs.ChanceMatches.{left_before, past_is_held}
+use Rattle.log_buffer.proofs.GrowthLaws.{appended_are_placed, prefixes_with_all}
 use Rattle.log_buffer.proofs.Staying.{stay_now, stay_then}
 use Rattle.log_buffer.proofs.WrittenLaws.{written_grow, written_stay}
 use Rattle.log_trees.specs.Placed.{Placed, placed}
@@ -51,7 +52,7 @@ kept_within log least state keeps = let low = kept_are_within log [] least state
 
 -- what it reads means at least the transactions that were written
 read_safe : (st : Standing) (first base : ℕ) (log : Log) (least : ℕ) (logged cut : List (List Change)) (over : List Event) (state : State) → RecoversLog first st.store base logged log →
-    IsStateRecovered st.store (commits_in base least (placed log)) logged state → least ≤ length (placed log) → KeepsRead log [] least state → IsRead base log least state over →
+    IsStateRecovered log st.store (commits_in base least (placed log)) logged state → least ≤ length (placed log) → KeepsRead log [] least state → IsRead base log least state over →
     IsImageRecovered st.store (written_of over) (logged ++ cut) state.reads
 read_safe st first base log least logged cut over state recovers there within keeps read = by_holds read.holds
   where
@@ -66,21 +67,23 @@ read_safe st first base log least logged cut over state recovers there within ke
         wider_image st.store (commits_in base read.written (placed log)) (written_of over) logged cut state.reads
         (written_recover first st.store base least read.written logged log state recovers read.from keeps holds) count
 
--- a disk that keeps the log of these events is safe; one that was cut short may not be in the log
-pub safe : (st : Standing) (first base : ℕ) (log : Log) (least : ℕ) (logged cut : List (List Change)) (over under_way all : List Event) (state : State) → all ≡ over ++ under_way → base ≤ least →
+-- a disk that keeps the log of these events, prefixes of which it read so far, is safe; one that was cut short may not be in the log
+pub safe : (st : Standing) (first base : ℕ) (log : Log) (least : ℕ) (logged cut : List (List Change)) (over under_way all : List Event) (since : ℕ) (history : History) (k : ℕ) → all ≡ over ++ under_way → base ≤ least →
     RecoversLog first st.store base logged log → attempts_of st all ≡ logged ++ cut →
-    synced_of over ≤ commits_in base least (placed log) → KeepsRead log [] least state → IsRead base log least state over → IsSafe st over under_way state
-safe st first base log least logged cut over under_way all state parts from recovers attempts synced keeps read =
-    let exact : IsStateRecovered st.store (commits_in base least (placed log)) logged state = states_recover first st.store base least logged log state recovers from keeps in
-    let wide : IsStateRecovered st.store (synced_of over) (logged ++ cut) state =
-    wider_is_recovered st.store (commits_in base least (placed log)) (synced_of over) logged cut state exact synced in
+    synced_of over ≤ commits_in base least (placed log) → KeepsRead log [] least (history.state_at k) → IsRead base log least (history.state_at k) over →
+    ((j : ℕ) → since ≤ j → j ≤ k → HoldPrefixes log (history.state_at j).reads) → IsSafe st since history k over under_way
+safe st first base log least logged cut over under_way all since history k parts from recovers attempts synced keeps read past =
+    let state : State = history.state_at k in
+    let exact : IsStateRecovered log st.store (commits_in base least (placed log)) logged state = states_recover first st.store base least logged log state recovers from keeps in
+    let wide : IsStateRecovered log st.store (synced_of over) (logged ++ cut) state =
+    wider_is_recovered log st.store (commits_in base least (placed log)) (synced_of over) logged cut state exact synced in
     let same : logged ++ cut ≡ attempts_of st (over ++ under_way) = sym attempts ∙ ap (attempts_of st) parts in
-    let there : IsStateRecovered st.store (synced_of over) (attempts_of st (over ++ under_way)) state =
-    subst (λ (t : List (List Change)). IsStateRecovered st.store (synced_of over) t state) same wide in
+    let there : IsStateRecovered log st.store (synced_of over) (attempts_of st (over ++ under_way)) state =
+    subst (λ (t : List (List Change)). IsStateRecovered log st.store (synced_of over) t state) same wide in
     record {
       read = subst (λ (t : List (List Change)). IsImageRecovered st.store (written_of over) t state.reads) same
           (read_safe st first base log least logged cut over state recovers exact (kept_within log least state keeps) keeps read);
-      images = λ image is chance. there.images image is.files chance;
+      images = λ image left. there.images image left.is.files (past_is_held log since history k image past left);
     }
 
 -- ---- time goes on
@@ -89,60 +92,66 @@ safe st first base log least logged cut over under_way all state parts from reco
 pub goes_on : (start old new : History) (P : State → Type 0) → Follows start old → Passes old new P → Follows start new
 goes_on start old new P since passes = passes_then start old new (λ (s : State). Unit {0}) since (passes_weaken old new P (λ (s : State). Unit {0}) (λ s p. tt) passes)
 
-event_later : (st : Standing) (old new : History) (P : State → Type 0) (from to : ℕ) (over : List Event) (event : Event) → Passes old new P → IsSafeEvent st old from to over event →
-    IsSafeEvent st new from to over event
-event_later st old new P from to over event passes is = record {
+-- what was safe at a moment is safe there later on
+safe_later : (st : Standing) (since k : ℕ) (old new : History) (P : State → Type 0) (over under_way : List Event) → Passes old new P → k ≤ old.moment → IsSafe st since old k over under_way → IsSafe st since new k over under_way
+safe_later st since k old new P over under_way passes here is = record {
+  read = subst (λ (s : State). IsImageRecovered st.store (written_of over) (attempts_of st (over ++ under_way)) s.reads) (sym (passes.keeps k here)) is.read;
+  images = λ image left. is.images image (left_before since k old new P image passes here left);
+}
+
+event_later : (st : Standing) (since : ℕ) (old new : History) (P : State → Type 0) (from to : ℕ) (over : List Event) (event : Event) → Passes old new P → IsSafeEvent st since old from to over event →
+    IsSafeEvent st since new from to over event
+event_later st since old new P from to over event passes is = record {
   later = is.later;
   within = let here : to ≤ old.moment = is.within in let on : old.moment ≤ new.moment = passes.later in omega arith;
-  during = λ k lo hi. let here : to ≤ old.moment = is.within in
-      subst (λ (s : State). IsSafe st over (event ∷ []) s) (sym (passes.keeps k (omega arith))) (is.during k lo hi);
-  behind = subst (λ (s : State). IsSafe st (over ++ event ∷ []) [] s) (sym (passes.keeps to is.within)) is.behind;
+  during = λ k lo hi. let here : to ≤ old.moment = is.within in safe_later st since k old new P over (event ∷ []) passes (omega arith) (is.during k lo hi);
+  behind = safe_later st since to old new P (over ++ event ∷ []) [] passes is.within is.behind;
   still = λ fault k lo hi. let here : to ≤ old.moment = is.within in let on : from ≤ to = is.later in
       passes.keeps k (omega arith) ∙ is.still fault k lo hi ∙ sym (passes.keeps from (omega arith));
 }
 
 -- one event more, in no time where a disk fault came before
-pub one_more : (st : Standing) (old new : History) (P : State → Type 0) (from : ℕ) (over events : List Event) (event : Event) → Passes old new P →
-    AreSafeEvents st old (λ at all. at ≡ old.moment) from over events →
-    ((k : ℕ) → old.moment < k → k ≤ new.moment → IsSafe st (over ++ events) (event ∷ []) (new.state_at k)) →
-    IsSafe st ((over ++ events) ++ event ∷ []) [] (now new) →
+pub one_more : (st : Standing) (since : ℕ) (old new : History) (P : State → Type 0) (from : ℕ) (over events : List Event) (event : Event) → Passes old new P →
+    AreSafeEvents st since old (λ at all. at ≡ old.moment) from over events →
+    ((k : ℕ) → old.moment < k → k ≤ new.moment → IsSafe st since new k (over ++ events) (event ∷ [])) →
+    IsSafe st since new new.moment ((over ++ events) ++ event ∷ []) [] →
     (has_answer is_disk_fault (over ++ events) ≡ true → new.moment ≤ old.moment) →
-    AreSafeEvents st new (λ at all. at ≡ new.moment) from over (events ++ event ∷ [])
-one_more st old new P from over [] event passes at during behind still = (
+    AreSafeEvents st since new (λ at all. at ≡ new.moment) from over (events ++ event ∷ [])
+one_more st since old new P from over [] event passes at during behind still = (
   new.moment,
   record {
     later = let on : old.moment ≤ new.moment = passes.later in omega (arith, at);
     within = omega arith;
-    during = λ k lo hi. subst (λ (l : List Event). IsSafe st l (event ∷ []) (new.state_at k)) (append-nil over) (during k (omega (arith, at, lo)) hi);
-    behind = subst (λ (l : List Event). IsSafe st (l ++ event ∷ []) [] (now new)) (append-nil over) behind;
+    during = λ k lo hi. subst (λ (l : List Event). IsSafe st since new k l (event ∷ [])) (append-nil over) (during k (omega (arith, at, lo)) hi);
+    behind = subst (λ (l : List Event). IsSafe st since new new.moment (l ++ event ∷ []) []) (append-nil over) behind;
     still = λ fault k lo hi. let stands : new.moment ≤ old.moment = still (subst (λ (l : List Event). has_answer is_disk_fault l ≡ true) (sym (append-nil over)) fault) in absurd (omega (arith, at, lo, hi));
   },
   refl,
 )
-one_more st old new P from over (first ∷ events) event passes safe_so_far during behind still = (
+one_more st since old new P from over (first ∷ events) event passes safe_so_far during behind still = (
   safe_so_far.0,
-  event_later st old new P from safe_so_far.0 over first passes safe_so_far.1,
-  one_more st old new P safe_so_far.0 (over ++ first ∷ []) events event passes safe_so_far.2
-      (λ k lo hi. subst (λ (l : List Event). IsSafe st l (event ∷ []) (new.state_at k)) (sym (append_assoc over (first ∷ []) events)) (during k lo hi))
-      (subst (λ (l : List Event). IsSafe st (l ++ event ∷ []) [] (now new)) (sym (append_assoc over (first ∷ []) events)) behind)
+  event_later st since old new P from safe_so_far.0 over first passes safe_so_far.1,
+  one_more st since old new P safe_so_far.0 (over ++ first ∷ []) events event passes safe_so_far.2
+      (λ k lo hi. subst (λ (l : List Event). IsSafe st since new k l (event ∷ [])) (sym (append_assoc over (first ∷ []) events)) (during k lo hi))
+      (subst (λ (l : List Event). IsSafe st since new new.moment (l ++ event ∷ []) []) (sym (append_assoc over (first ∷ []) events)) behind)
       (λ fault. still (subst (λ (l : List Event). has_answer is_disk_fault l ≡ true) (append_assoc over (first ∷ []) events) fault)),
 )
 
 -- no event more: all are over
-pub none_more : (st : Standing) (old new : History) (P : State → Type 0) (from : ℕ) (over events : List Event) → Passes old new P →
-    AreSafeEvents st old (λ at all. at ≡ old.moment) from over events →
-    ((k : ℕ) → old.moment < k → k ≤ new.moment → IsSafe st (over ++ events) [] (new.state_at k)) →
+pub none_more : (st : Standing) (since : ℕ) (old new : History) (P : State → Type 0) (from : ℕ) (over events : List Event) → Passes old new P →
+    AreSafeEvents st since old (λ at all. at ≡ old.moment) from over events →
+    ((k : ℕ) → old.moment < k → k ≤ new.moment → IsSafe st since new k (over ++ events) []) →
     (has_answer is_disk_fault (over ++ events) ≡ true → new.moment ≤ old.moment) →
-    AreSafeEvents st new (IsSafeBehind st new) from over events
-none_more st old new P from over [] passes at behind still = record {
-  safe = λ k lo hi. subst (λ (l : List Event). IsSafe st l [] (new.state_at k)) (append-nil over) (behind k (omega (arith, at, lo)) hi);
+    AreSafeEvents st since new (IsSafeBehind st since new) from over events
+none_more st since old new P from over [] passes at behind still = record {
+  safe = λ k lo hi. subst (λ (l : List Event). IsSafe st since new k l []) (append-nil over) (behind k (omega (arith, at, lo)) hi);
   still = λ fault k lo hi. let stands : new.moment ≤ old.moment = still (subst (λ (l : List Event). has_answer is_disk_fault l ≡ true) (sym (append-nil over)) fault) in absurd (omega (arith, at, lo, hi));
 }
-none_more st old new P from over (first ∷ events) passes safe_so_far behind still = (
+none_more st since old new P from over (first ∷ events) passes safe_so_far behind still = (
   safe_so_far.0,
-  event_later st old new P from safe_so_far.0 over first passes safe_so_far.1,
-  none_more st old new P safe_so_far.0 (over ++ first ∷ []) events passes safe_so_far.2
-      (λ k lo hi. subst (λ (l : List Event). IsSafe st l [] (new.state_at k)) (sym (append_assoc over (first ∷ []) events)) (behind k lo hi))
+  event_later st since old new P from safe_so_far.0 over first passes safe_so_far.1,
+  none_more st since old new P safe_so_far.0 (over ++ first ∷ []) events passes safe_so_far.2
+      (λ k lo hi. subst (λ (l : List Event). IsSafe st since new k l []) (sym (append_assoc over (first ∷ []) events)) (behind k lo hi))
       (λ fault. still (subst (λ (l : List Event). has_answer is_disk_fault l ≡ true) (append_assoc over (first ∷ []) events) fault)),
 )
 
@@ -183,6 +192,14 @@ files_on log least start old new later files through k lo hi = by_order (cases_l
   by_order (inl behind) = stay_then (now start).reads (now old).reads (new.state_at k).reads (files old.moment later (omega arith)) (through.each k behind hi).stay
   by_order (inr within) = subst (λ (s : State). FilesStay (now start).reads s.reads) (sym (through.keeps k within)) (files k lo within)
 
+-- what the disk read is a prefix of a log that has grown
+pub past_on : (log grown : Log) (least : ℕ) (start old new : History) → ((reads : Files) → HoldPrefixes log reads → HoldPrefixes grown reads) →
+    ((k : ℕ) → start.moment ≤ k → k ≤ old.moment → HoldPrefixes log (old.state_at k).reads) → KeptThrough old new grown [] least → (k : ℕ) → start.moment ≤ k → k ≤ new.moment → HoldPrefixes grown (new.state_at k).reads
+past_on log grown least start old new grows past through k lo hi = by_order (cases_lt old.moment k) where
+  by_order : (old.moment < k) ⊎ (k ≤ old.moment) → HoldPrefixes grown (new.state_at k).reads
+  by_order (inl behind) = (through.each k behind hi).kept.prefixes
+  by_order (inr within) = subst (λ (s : State). HoldPrefixes grown s.reads) (sym (through.keeps k within)) (grows (old.state_at k).reads (past k lo within))
+
 -- ---- a disk fault
 
 -- no answer of a longer journal is a disk fault
@@ -195,14 +212,15 @@ none-push test (first ∷ journal) event none one = by_first (answers_some test 
 
 -- ---- what is read
 
--- A log that a longer one goes on from: what its first entries commit is the same, and so is what was written of them.
+-- A log that a longer one goes on from: what its first entries commit is the same, and so is what was written of them, and prefixes of it.
 pub record IsGrownFrom (base : ℕ) (log grown : Log) : Type 0 where
   pub commits : (n : ℕ) → n ≤ length (entries_of log) → commits_in base n (placed grown) ≡ commits_in base n (placed log)
   pub holds : (n : ℕ) (reads : Files) → HoldsWritten log n reads → HoldsWritten grown n reads
+  pub prefixes : (reads : Files) → HoldPrefixes log reads → HoldPrefixes grown reads
   pub longer : length (entries_of log) ≤ length (entries_of grown)
 
 pub grown_same : (base : ℕ) (log : Log) → IsGrownFrom base log log
-grown_same base log = record { commits = λ n within. refl; holds = λ n reads h. h; longer = omega arith }
+grown_same base log = record { commits = λ n within. refl; holds = λ n reads h. h; prefixes = λ reads h. h; longer = omega arith }
 
 pub grown_by : (base : ℕ) (log : Log) (end : LogPos) (last most : ℕ) (entries : List Entry) → IsLog log → EndsAt log end.file end.offset last → IsGrownFrom base log (log_with_all most end entries log)
 grown_by base log end last most entries is ends =
@@ -213,6 +231,7 @@ grown_by base log end last most entries is ends =
     record {
       commits = λ n within. commits_stay log end last most entries base n is ends within;
       holds = λ n reads h. written_grow log most end entries n reads h;
+      prefixes = λ reads h. prefixes_with_all log end most entries reads h;
       longer = omega (arith, count, parts, before, behind);
     }
 
@@ -297,14 +316,15 @@ module _ {D : Type 0} where
       let from_now : g.base ≤ least = omega (arith, from, rises) in
       let more = commits_rise g.base g.least least (placed grown) from rises (kept_within grown least (now new) keeps) in
       let synced_now : synced_of all ≤ commits_in g.base least (placed grown) = omega (arith, synced-push journal event, synced, more, durable) in
+      let past : (k : ℕ) → start.moment ≤ k → k ≤ new.moment → HoldPrefixes grown (new.state_at k).reads = past_on log grown g.least start old new grows.prefixes g.past through in
       record {
         since = goes_on start old new (IsKeptSince grown [] g.least (now old).reads) g.since through;
         begins = g.begins;
-        events = one_more st old new (IsKeptSince grown [] g.least (now old).reads) start.moment [] journal event through g.events
+        events = one_more st start.moment old new (IsKeptSince grown [] g.least (now old).reads) start.moment [] journal event through g.events
             (λ k lo hi.
-            safe st first g.base grown g.least logged cut journal (event ∷ []) all (new.state_at k) refl from recovers attempts synced (through.each k lo hi).kept
-            (read_on g.base log grown g.least (now old) (new.state_at k) journal grows (through.each k lo hi).stay g.kept.read))
-            (safe st first g.base grown least logged cut all [] all (now new) (sym (append-nil all)) from_now recovers attempts synced_now keeps read)
+            safe st first g.base grown g.least logged cut journal (event ∷ []) all start.moment new k refl from recovers attempts synced (through.each k lo hi).kept
+            (read_on g.base log grown g.least (now old) (new.state_at k) journal grows (through.each k lo hi).stay g.kept.read) (λ j from_start upto. past j from_start (omega (arith, upto, hi))))
+            (safe st first g.base grown least logged cut all [] all start.moment new new.moment (sym (append-nil all)) from_now recovers attempts synced_now keeps read past)
             still;
         none_before = g.none_before;
         base = g.base;
@@ -317,6 +337,7 @@ module _ {D : Type 0} where
         stops = stops;
         faultless = λ fault. let before_it = quiet fault in none-push is_disk_fault journal event (g.faultless before_it.0) before_it.1;
         files = files_on grown g.least start old new g.since.later g.files through;
+        past = past;
       }
 
   -- the same where the event says that no more commits are written than a crash keeps

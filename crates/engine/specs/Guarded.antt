@@ -11,7 +11,7 @@ use Rattle.je_answers.specs.Written.{written_of}
 use Rattle.log_file.specs.Log.{Log, entries_of}
 use Rattle.log_buffer.specs.declared.buffer.LogBuffer.{LogBuffer}
 use Rattle.log_buffer.specs.Buffer.{first_of, has_failed}
-use Rattle.log_buffer.specs.Crash.{FilesStay, Holds, KeepsRead}
+use Rattle.log_buffer.specs.Crash.{FilesStay, HoldPrefixes, Holds, KeepsRead}
 use Rattle.log_buffer.specs.Log.{HasLog}
 use Rattle.log_buffer.specs.Written.{HoldsWritten}
 use Rattle.log_trees.specs.Placed.{placed}
@@ -57,11 +57,11 @@ module _ {D : Type 0} where
     pub has : HasLog true state buffer log
     pub holds : Holds log [] least begun (first_of buffer) state
 
-  -- A run under way whose disk was safe at each moment of it, and the log that it has now. A buffer that works has met no fault, and has the log.
+  -- A run under way whose disk was safe at each moment of it, and the log that it has now. What the disk read at each moment was a prefix of that log. A buffer that works has met no fault, and has the log.
   pub record IsGuardedLog (st : Standing) (log : Log) (start : History) (history : History) (buffer : LogBuffer D) (journal : List Event) : Type 0 where
     pub since : Follows start history
-    pub begins : IsSafe st [] [] (now start)
-    pub events : AreSafeEvents st history (λ from over. from ≡ history.moment) start.moment [] journal
+    pub begins : IsSafe st start.moment start start.moment [] []
+    pub events : AreSafeEvents st start.moment history (λ from over. from ≡ history.moment) start.moment [] journal
     pub none_before : st.commits ≡ 0
     pub base : ℕ
     pub least : ℕ
@@ -73,6 +73,7 @@ module _ {D : Type 0} where
     pub stops : has_failed buffer ≡ false → (after_events st journal).fault ≡ None
     pub faultless : (after_events st journal).fault ≡ None → has_answer is_disk_fault journal ≡ false
     pub files : (k : ℕ) → start.moment ≤ k → k ≤ history.moment → FilesStay (now start).reads (history.state_at k).reads
+    pub past : (k : ℕ) → start.moment ≤ k → k ≤ history.moment → HoldPrefixes log (history.state_at k).reads
 
   -- a buffer that works has this log, and a crash keeps at least so many of its entries
   abbrev pub KeepsIfWorks : Bool → State → LogBuffer D → Log → ℕ → Type 0

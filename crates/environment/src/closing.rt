@@ -29,7 +29,7 @@ impl<D: Disk> Environment<D> {
             → IsSafeRun st start (D.history result.disk) journal }
         ensures images { D.observable ≡ true → result.failed ≡ false → (most : ℕ) (st : Standing) (start : History) (journal : List Event)
             → IsAt most D.observable (now (D.history (disk_of self))) self (after_events st journal) → IsGuarded most st start (D.history (disk_of self)) self journal
-            → (after_events st journal).fault ≡ None → ImagesMean (now (D.history result.disk)) (after_events st journal).store }
+            → (after_events st journal).fault ≡ None → ImagesMean start.moment (D.history result.disk) (D.history result.disk).moment (after_events st journal).store }
         ensures files { D.observable ≡ true → result.failed ≡ false → (most : ℕ) (st : Standing) → IsAt most D.observable (now (D.history (disk_of self))) self st → st.fault ≡ None
             → MeanStore (now (D.history result.disk)).reads st.store }
         ensures cause { result.failed ≡ true → HasRisen (D.faults (disk_of self)) (D.faults result.disk) }

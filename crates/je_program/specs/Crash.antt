@@ -21,4 +21,4 @@ pub record IsSafeProgram (old history : History) (st : Standing) (journal : List
   pub before : KeepsEntry old start
   pub run : IsSafeRun st start history journal
   pub indexed : (k : ℕ) → AreIndexed (store_after st.store (take k (attempts_of st journal)))
-  pub ends : cause ≡ AllDone → ImagesMean (now history) (final_store st journal)
+  pub ends : cause ≡ AllDone → ImagesMean start.moment history history.moment (final_store st journal)

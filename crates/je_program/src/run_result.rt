@@ -119,7 +119,7 @@ fn finish<D: Disk>(running: Running<D>, opening: Opening) -> RunResult<D>
     ensures caused { (before : ℕ) → IsCaused before (D.faults (disk_of running.recorded.environment)) running.recorded.journal.items → ClosesRun before (D.faults result.disk) running.recorded.journal.items result.cause }
     ensures crash { D.observable ≡ true → (p : Beginning) → IsUnderWay D.observable D.history D.faults p Nothing running.recorded → IsSafeRun p.st p.start (D.history result.disk) running.recorded.journal.items }
     ensures crash_end { D.observable ≡ true → (p : Beginning) → IsUnderWay D.observable D.history D.faults p Nothing running.recorded → p.st.fault ≡ None → result.cause ≡ Why.Done
-        → ImagesMean (now (D.history result.disk)) (final_store p.st running.recorded.journal.items) }
+        → ImagesMean p.start.moment (D.history result.disk) (D.history result.disk).moment (final_store p.st running.recorded.journal.items) }
     ensures totals { (p : Beginning) → IsUnderWay D.observable D.history D.faults p Nothing running.recorded → result.totals ≡ totals_of (final_store p.st running.recorded.journal.items) }
     ensures files { (p : Beginning) → IsUnderWay D.observable D.history D.faults p Nothing running.recorded → p.st.fault ≡ None → result.cause ≡ Why.Done → D.observable ≡ true
         → MeanStore (now (D.history result.disk)).reads (final_store p.st running.recorded.journal.items) }

@@ -1,12 +1,15 @@
 -- What is found of a file where no entry matches by chance, and of one that was only cut short.
-use Rattle.std.proofs.Common.{◌≡◌, ℕ, ◌+◌, ◌-◌, ◌<◌, ◌≤◌, ◌^◌, ◌==◌, ◌&&◌, not, nat_lt, Bool, true, false, List, [], ◌∷◌, ◌++◌, Some, length, take, drop, cond, refl, sym, ap, ap₂, subst, ◌∙◌, append_assoc, arith, length-append, ◌⊎◌, inl, inr}
+use Rattle.std.proofs.Common.{◌≡◌, ℕ, ◌+◌, ◌-◌, ◌<◌, ◌≤◌, ◌^◌, ◌==◌, ◌&&◌, not, nat_lt, Bool, true, false, List, [], ◌∷◌, ◌++◌, Option, Some, length, take, drop, cond, refl, sym, ap, ap₂, subst, ◌∙◌, append_assoc, arith, length-append, ◌⊎◌, inl, inr}
 use Rattle.je_bytes.specs.Reading.{AreBytes}
 use Rattle.std.proofs.lemmas.Bool.Decides.{nat_tests}
 use Rattle.std.proofs.lemmas.Bool.{cases_order, eqb-true}
 use Rattle.std.proofs.lemmas.List.{append-nil, drop-take, drop_all, length-take, take-append-drop}
 use Rattle.std.specs.List.{AllByRecursion}
 use Rattle.std.specs.Map.{lookup}
-use Rattle.je_disk.specs.States.{content}
+use Rattle.std.specs.Prelude.{unwrap_or}
+use Rattle.je_disk.specs.States.{Files, State, content}
+use Rattle.je_disk.specs.Images.{IsImage}
+use Rattle.je_disk.specs.Moments.{History, Passes}
 use Rattle.log_entry.specs.declared.entry.Entry.{Entry}
 use Rattle.log_entry.specs.declared.entry.Entry.TheVariants.{FileHeader}
 use Rattle.log_entry.specs.declared.decoder.Decoded.{Decoded}
@@ -24,8 +27,13 @@ use Rattle.log_file.specs.Scan.{may_follow, sizes_of, front, prefix_with, no_pre
 use Rattle.log_file.specs.Log.{Log, AreFileEntries, entries_scanned, file_bytes}
 use Rattle.log_file.proofs.EncodedLaws.{sizes-append}
 use Rattle.log_file.proofs.FileScanLaws.{found-encoded, behind-encoded}
-use Rattle.log_buffer.specs.Crash.{HoldsPrefix}
-use Rattle.log_buffer.specs.Chance.{AppendedHaveNoChance, AreAppended, CutsHaveNoChance, IsFoundOf, IsFrontOf, ReadsHaveNoChance}
+use Rattle.log_buffer.specs.Crash.{HoldLogged, HoldPrefixes, HoldsPrefix}
+use Rattle.log_buffer.specs.Chance.{AppendedAreFound, AreAppended, CutIsFound, IsInPlace, IsLeftAt, NoChanceMatch, OnceReadIsFound, PastIsHeld, ReadSince, ReadsHaveNoChance, WasFound}
+
+-- the first of these entries
+record IsFrontOf (all front : List Entry) : Type 0 where
+  more : List Entry
+  is : all ≡ front ++ more
 
 -- ---- bytes that were cut short
 
@@ -215,45 +223,115 @@ appended_prefix f entries bytes are so = by_decoded (decoded bytes) refl where
       let header : decoded bytes ≡ Whole (FileHeader 1 f) 0 n = is ∙ ap (λ (x : Entry). Whole x prev n) a.0 ∙ ap (λ (k : ℕ). Whole (FileHeader 1 f) k n) a.1 in
       with_front n header (prefix_appended 0 26 entries (drop 26 bytes) (subst (λ (k : ℕ). AreAppended 0 (0 + k) entries (drop k bytes)) size a.2))
 
+-- ---- entries at their places
+
+-- an entry of the first ones stands among all where it stands among them
+front_in_place : (all front : List Entry) → IsFrontOf all front → (at : ℕ) (entry : Entry) → IsInPlace at entry front → IsInPlace at entry all
+front_in_place all front is at entry there = (there.0, there.1 ++ is.more, is.is ∙ ap (λ (l : List Entry). l ++ is.more) there.2 ∙ append_assoc there.0 (entry ∷ there.1) is.more, there.3)
+
+first_place : (e : Entry) (all before after : List Entry) → all ≡ before ++ e ∷ after → sizes_of before ≡ 0 → all ≡ e ∷ after
+first_place e all [] after is none = is
+first_place e all (x ∷ before) after is none = absurd (omega (arith, none))
+
+later_place : (e : Entry) (rest : List Entry) (at : ℕ) (entry : Entry) (before after : List Entry) → e ∷ rest ≡ before ++ entry ∷ after → sizes_of before ≡ size_of e + at → IsInPlace at entry rest
+later_place e rest at entry [] after is size = absurd (omega (arith, size))
+later_place e rest at entry (x ∷ before) after is size =
+    let head : e ≡ x = cc in
+    let tail : rest ≡ before ++ entry ∷ after = cc in
+    let same = ap size_of head in
+    (before, after, tail, omega (arith, size, same))
+
+-- entries each of which stands among all where it stands are the first of them
+front_by_places : (all es : List Entry) → ((at : ℕ) (entry : Entry) → IsInPlace at entry es → IsInPlace at entry all) → IsFrontOf all es
+front_by_places all [] places = front_none all
+front_by_places all (e ∷ es) places =
+    let first = places 0 e ([], es, refl, refl) in
+    let is : all ≡ e ∷ first.1 = first_place e all first.0 first.1 first.2 first.3 in
+    let rest : IsFrontOf first.1 es = front_by_places first.1 es
+    (λ at entry there.
+    let next = places (size_of e + at) entry (e ∷ there.0, there.1, ap (λ (l : List Entry). e ∷ l) there.2, ap (λ (n : ℕ). size_of e + n) there.3) in
+    later_place e first.1 at entry next.0 next.1 (sym is ∙ next.2) next.3) in
+    record { more = rest.more; is = is ∙ ap (λ (l : List Entry). e ∷ l) rest.is }
+
 -- ---- images that meet the premise
 
--- what the disk reads has a run, and the image one of the first of its entries
-pub meets : (f : ℕ) (read bytes : List ℕ) (prefix : ValidPrefix) → scan_of f read ≡ Prefix prefix → HoldsPrefix f prefix.entries bytes → IsFoundOf (scan_of f read) (scan_of f bytes)
-meets f read bytes prefix is holds =
-    subst (λ (x : FileScan). IsFoundOf x (scan_of f bytes)) (sym is) (subst (λ (x : FileScan). IsFoundOf (Prefix prefix) x) (sym holds.found) (record { more = holds.more; is = holds.is }))
+-- what the disk once read has a run, and the image one of the first of its entries
+pub meets : (past : ℕ → List ℕ → Type 0) (f : ℕ) (read bytes : List ℕ) (prefix : ValidPrefix) → past f read → scan_of f read ≡ Prefix prefix → HoldsPrefix f prefix.entries bytes → WasFound past f (scan_of f bytes)
+meets past f read bytes prefix was is holds =
+    subst (λ (x : FileScan). WasFound past f x) (sym holds.found)
+    (λ at entry there.
+    (read, was, subst (λ (x : FileScan). IsInPlace at entry (entries_scanned x)) (sym is) (front_in_place prefix.entries holds.prefix.entries (record { more = holds.more; is = holds.is }) at entry there)))
+
+once_read : (past : ℕ → List ℕ → Type 0) (f : ℕ) (read : List ℕ) → past f read → (found : FileScan) → scan_of f read ≡ found → WasFound past f found
+once_read past f read was (Prefix prefix) is = λ at entry there. (read, was, subst (λ (x : FileScan). IsInPlace at entry (entries_scanned x)) (sym is) there)
+once_read past f read was (VersionUnknown version) is = (read, was, is)
+once_read past f read was Damaged is = (read, was, is)
+
+pub once_read_is_found : OnceReadIsFound
+once_read_is_found since history k f read was = once_read (ReadSince since history k) f read was (scan_of f read) refl
+
+pub own_chance : (past : ℕ → List ℕ → Type 0) (reads : Files) → ((f : ℕ) → past f (content reads f)) → NoChanceMatch past reads reads
+own_chance past reads was f may = once_read past f (content reads f) (was f) (scan_of f (content reads f)) refl
 
 pub reads_have_no_chance : ReadsHaveNoChance
-reads_have_no_chance reads f may = same (scan_of f (content reads f)) where
-  same : (found : FileScan) → IsFoundOf found found
-  same (Prefix prefix) = front_whole prefix.entries
-  same (VersionUnknown version) = refl
-  same Damaged = refl
+reads_have_no_chance since history k from = own_chance (ReadSince since history k) (history.state_at k).reads (λ f. (k, from, omega arith, refl))
 
-pub cuts_have_no_chance : CutsHaveNoChance
-cuts_have_no_chance reads image prefixes cut f may =
-    let short = cut f in
-    let here = prefixes f in
-    meets f (content reads f) (content image f) here.prefix here.found (subst (HoldsPrefix f here.prefix.entries) (sym short.1) (cut_prefix f short.0 (content reads f) here.prefix here.found))
+pub cut_is_found : CutIsFound
+cut_is_found since history k f len read was here = meets (ReadSince since history k) f read (take len read) here.prefix was here.found (cut_prefix f len read here.prefix here.found)
 
-pub appended_have_no_chance : AppendedHaveNoChance
-appended_have_no_chance reads image prefixes appended f may =
-    let here = prefixes f in
-    let so = appended f in
-    meets f (content reads f) (content image f) here.prefix here.found
-    (appended_prefix f here.prefix.entries (content image f) so.0 (subst (λ (x : FileScan). AreAppended 0 0 (FileHeader 1 f ∷ entries_scanned x) (content image f)) here.found so.1))
+pub appended_are_found : AppendedAreFound
+appended_are_found since history k f read bytes was here are so =
+    meets (ReadSince since history k) f read bytes here.prefix was here.found
+    (appended_prefix f here.prefix.entries bytes are (subst (λ (x : FileScan). AreAppended 0 0 (FileHeader 1 f ∷ entries_scanned x) bytes) here.found so))
 
--- an image that meets it holds a prefix of what the disk holds a prefix of
-pub found_left : (f : ℕ) (entries : List Entry) (read bytes : List ℕ) → HoldsPrefix f entries read → IsFoundOf (scan_of f read) (scan_of f bytes) → HoldsPrefix f entries bytes
-found_left f entries read bytes holds is = by_found (scan_of f bytes) refl (subst (λ (x : FileScan). IsFoundOf x (scan_of f bytes)) holds.found is) where
-  by_found : (found : FileScan) → scan_of f bytes ≡ found → IsFoundOf (Prefix holds.prefix) found → HoldsPrefix f entries bytes
-  by_found (Prefix prefix) there first = record {
-    prefix = prefix;
-    found = there;
-    more = first.more ++ holds.more;
-    is = holds.is ∙ ap (λ (l : List Entry). l ++ holds.more) first.is ∙ append_assoc prefix.entries first.more holds.more;
-  }
-  by_found (VersionUnknown version) there same = absurd cc
-  by_found Damaged there same = absurd cc
+-- ---- what the disk read before
+
+found_more : (past more : ℕ → List ℕ → Type 0) (f : ℕ) → ((read : List ℕ) → past f read → more f read) → (found : FileScan) → WasFound past f found → WasFound more f found
+found_more past more f wider (Prefix prefix) was = λ at entry there. let once = was at entry there in (once.0, wider once.0 once.1, once.2)
+found_more past more f wider (VersionUnknown version) was = (was.0, wider was.0 was.1, was.2)
+found_more past more f wider Damaged was = (was.0, wider was.0 was.1, was.2)
+
+-- where more was once read, no more matches by chance
+pub chance_more : (past more : ℕ → List ℕ → Type 0) (reads image : Files) → ((f : ℕ) (read : List ℕ) → past f read → more f read) → NoChanceMatch past reads image → NoChanceMatch more reads image
+chance_more past more reads image wider chance f may = found_more past more f (wider f) (scan_of f (content image f)) (chance f may)
+
+-- an image that may be left later on, beside what was read until then, was left
+pub left_before : (since k : ℕ) (old new : History) (P : State → Type 0) (image : Files) → Passes old new P → k ≤ old.moment → IsLeftAt since new k image → IsLeftAt since old k image
+left_before since k old new P image passes here left = record {
+  is = subst (λ (s : State). IsImage s image) (passes.keeps k here) left.is;
+  chance = subst (λ (s : State). NoChanceMatch (ReadSince since old k) s.reads image) (passes.keeps k here)
+      (chance_more (ReadSince since new k) (ReadSince since old k) (new.state_at k).reads image earlier left.chance);
+} where
+  earlier : (f : ℕ) (read : List ℕ) → ReadSince since new k f read → ReadSince since old k f read
+  earlier f read was =
+      let low : was.0 ≤ k = was.2 in
+      (was.0, was.1, was.2, ap (λ (s : State). content s.reads f) (sym (passes.keeps was.0 (omega (arith, low, here)))) ∙ was.3)
+
+-- prefixes of a log are prefixes in the files that it has
+pub prefixes_logged : (log : Log) (reads : Files) (f : ℕ) → HoldPrefixes log reads → HoldLogged log f (content reads f)
+prefixes_logged log reads f holds entries is = subst (λ (es : List Entry). HoldsPrefix f es (content reads f)) (ap (λ (o : Option (List Entry)). unwrap_or o []) is) (holds f)
+
+pub past_is_held : PastIsHeld
+past_is_held log since history k image holds left =
+    chance_more (ReadSince since history k) (HoldLogged log) (history.state_at k).reads image
+    (λ f read was. subst (HoldLogged log f) was.3 (prefixes_logged log (history.state_at was.0).reads f (holds was.0 was.1 was.2))) left.chance
+
+-- an image in which nothing is found but what was once read holds a prefix of what that holds prefixes of
+pub found_left : (past : ℕ → List ℕ → Type 0) (f : ℕ) (entries : List Entry) (bytes : List ℕ) → ((read : List ℕ) → past f read → HoldsPrefix f entries read) → WasFound past f (scan_of f bytes) → HoldsPrefix f entries bytes
+found_left past f entries bytes held was = by_found (scan_of f bytes) refl was where
+  once : (at : ℕ) (entry : Entry) (read : List ℕ) → HoldsPrefix f entries read → IsInPlace at entry (entries_scanned (scan_of f read)) → IsInPlace at entry entries
+  once at entry read holds there =
+      front_in_place entries holds.prefix.entries (record { more = holds.more; is = holds.is }) at entry (subst (λ (x : FileScan). IsInPlace at entry (entries_scanned x)) holds.found there)
+
+  never : (read : List ℕ) (found : FileScan) → HoldsPrefix f entries read → scan_of f read ≡ found → (prefix : ValidPrefix) × (found ≡ Prefix prefix)
+  never read found holds is = (holds.prefix, sym is ∙ holds.found)
+
+  by_found : (found : FileScan) → scan_of f bytes ≡ found → WasFound past f found → HoldsPrefix f entries bytes
+  by_found (Prefix prefix) is there =
+      let front = front_by_places entries prefix.entries (λ at entry here. let read = there at entry here in once at entry read.0 (held read.0 read.1) read.2) in
+      record { prefix = prefix; found = is; more = front.more; is = front.is }
+  by_found (VersionUnknown version) is there = absurd (let other = (never there.0 (VersionUnknown version) (held there.0 there.1) there.2).1 in cc)
+  by_found Damaged is there = absurd (let other = (never there.0 Damaged (held there.0 there.1) there.2).1 in cc)
 
 -- ---- entries that are kept
 

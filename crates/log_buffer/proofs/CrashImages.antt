@@ -22,7 +22,7 @@ use Rattle.log_file.specs.Placed.{placed}
 use Rattle.log_file.proofs.PlacedLaws.{placed-append, fronts_are_placed}
 use Rattle.log_file.proofs.EncodedLaws.{length-file_bytes}
 use Rattle.log_file.proofs.FilesLaws.{Rises, AreAbove as AllAbove, are_one_list, encoded_files, are_encoded_files, log_in-encoded}
-use Rattle.log_buffer.specs.Crash.{KeepsFront, KeepsFile, KeepsLog, HoldsPrefix, HoldPrefixes, entries_at}
+use Rattle.log_buffer.specs.Crash.{KeepsFront, KeepsFile, KeepsLog, HoldsPrefix, HoldLogged}
 use Rattle.log_buffer.specs.Chance.{NoChanceMatch, if_logged, among, AreFirst, HasPrefix, IsAllPrefix, AreWholeButLast, IsRemoved, IsUpToLog, LeavesLog, KeptIsLeft}
 use Rattle.log_buffer.proofs.LogChanges.{AreBelow, below_more, lookup_none}
 use Rattle.log_buffer.proofs.LogSplits.{below_at, lookup_at, lookup_under, lookup_back, lookup_front, lookup_here, lookup_past, entries-append, entries_parted}
@@ -129,7 +129,7 @@ all_prefix f entries bytes lt ok is = record {
 abbrev no_entries : Option (List Entry)
 no_entries = None
 
-module _ (log gone : Log) (least : ℕ) (state : State) (image : Files) (is : IsLog log) (k : KeepsLog log gone least state.crash_states) (holds : HoldPrefixes log state.reads) (read : AreFileImages state.crash_states state.reads) (img : AreFileImages state.crash_states image) (no_chance : NoChanceMatch state.reads image) where
+module _ (log gone : Log) (least : ℕ) (state : State) (image : Files) (is : IsLog log) (k : KeepsLog log gone least state.crash_states) (read : AreFileImages state.crash_states state.reads) (img : AreFileImages state.crash_states image) (no_chance : NoChanceMatch (HoldLogged log) state.reads image) where
   parts : IsLog (k.before ++ (k.at, k.kept ++ k.more) ∷ k.after)
   parts = subst IsLog k.log_is is
 
@@ -308,9 +308,8 @@ module _ (log gone : Log) (least : ℕ) (state : State) (image : Files) (is : Is
   left_at : (bytes : List ℕ) → image k.at ≡ Some bytes → HoldsPrefix k.at (k.kept ++ k.more) bytes
   left_at bytes some =
       let there : content image k.at ≡ bytes = ap (λ (o : Option (List ℕ)). unwrap_or o []) some in
-      let entries : entries_at log k.at ≡ k.kept ++ k.more = ap (λ (o : Option (List Entry)). unwrap_or o []) found_at in
       subst (HoldsPrefix k.at (k.kept ++ k.more)) there
-      (subst (λ (es : List Entry). HoldsPrefix k.at es (content image k.at)) entries (found_left k.at (entries_at log k.at) (content state.reads k.at) (content image k.at) (holds k.at) (no_chance k.at (inr none_read))))
+      (found_left (HoldLogged log) k.at (k.kept ++ k.more) (content image k.at) (λ read held. held (k.kept ++ k.more) found_at) (no_chance k.at (inr none_read)))
 
   count_at : (bytes : List ℕ) (prefix : ValidPrefix) → image k.at ≡ Some bytes → scan_of k.at bytes ≡ Prefix prefix → (k.kept ≡ []) ⊎ KeepsFront (file_bytes k.at k.kept) (state.crash_states k.at) → length k.kept ≤ length prefix.entries
   count_at bytes prefix some found (inl empty) = let none = ap length empty in omega (arith, none)
@@ -404,4 +403,4 @@ module _ (log gone : Log) (least : ℕ) (state : State) (image : Files) (is : Is
   leaves = record { first = first_files; whole = whole_files; others = not_logged; within = not_above }
 
 pub kept_is_left : KeptIsLeft
-kept_is_left log gone least state image is k holds read img no_chance = leaves log gone least state image is k holds read img no_chance
+kept_is_left log gone least state image is k read img no_chance = leaves log gone least state image is k read img no_chance

@@ -5,7 +5,7 @@ use Rattle.std.proofs.lemmas.Bool.{cases_order}
 use Rattle.std.proofs.lemmas.List.{append-nil, map-append}
 use Rattle.std.proofs.lemmas.Map.Keys.{sorted_from_strictly_increasing}
 use Rattle.std.specs.List.Sorted.{IsStrictlySortedBy}
-use Rattle.je_disk.specs.States.{State}
+use Rattle.je_disk.specs.States.{Files, State}
 use Rattle.je_disk.specs.Moments.{History, now}
 use Rattle.je_disk.proofs.MomentLaws.{passes_none, passes_weaken}
 use Rattle.log_entry.specs.declared.entry.Entry.{Entry}
@@ -18,7 +18,7 @@ use Rattle.log_file.proofs.PlacedLaws.{placed_go_last, placed_go_on}
 use Rattle.log_buffer.specs.declared.buffer.LogBuffer.{LogBuffer}
 use Rattle.log_buffer.specs.declared.log_pos.LogPos.{LogPos}
 use Rattle.log_buffer.specs.Buffer.{disk_of, first_of, end_of, file_max_of, has_failed}
-use Rattle.log_buffer.specs.Crash.{Holds, IsKeptSince, KeepsRead, KeptThrough}
+use Rattle.log_buffer.specs.Crash.{HoldPrefixes, Holds, IsKeptSince, KeepsRead, KeptThrough}
 use Rattle.log_buffer.specs.Flip.{header_size, next_file, placed_at, end_after, end_after_all, pos_lsn, behind}
 use Rattle.log_buffer.specs.Growth.{log_with_all, longer, SameJobs, KeepsLonger, Grew, Tried, GrewNone, GrewUnchanged, GrewThen, TriedThen, TriedMore}
 use Rattle.log_buffer.specs.Laws.{placed_by, AppendedIsPlaced, AppendedArePlaced}
@@ -158,6 +158,13 @@ read_with_all log removed end file_max least [] s ends k = k
 read_with_all log removed end file_max least (e ∷ entries) s ends k =
     read_with_all (log_with (placed_at file_max end (size_of e)).file e log) removed (end_after file_max end (size_of e)) file_max least entries s
     (is_with log end file_max (size_of e) e ends).ends (read_with log removed end file_max (size_of e) least s e ends k)
+
+-- prefixes of a log are prefixes of a longer one
+pub prefixes_with_all : (log : Log) (end : LogPos) (file_max : ℕ) (entries : List Entry) (reads : Files) → HoldPrefixes log reads → HoldPrefixes (log_with_all file_max end entries log) reads
+prefixes_with_all log end file_max [] reads holds = holds
+prefixes_with_all log end file_max (e ∷ entries) reads holds =
+    prefixes_with_all (log_with (placed_at file_max end (size_of e)).file e log) (end_after file_max end (size_of e)) file_max entries reads
+    (prefixes_grow (placed_at file_max end (size_of e)).file e log reads holds)
 
 -- what is kept of a log through calls is kept of a longer one
 pub through_with_all : (log removed : Log) (end : LogPos) (file_max least : ℕ) (entries : List Entry) (old new : History) → EndsIn log end → KeptThrough old new log removed least

@@ -1,7 +1,6 @@
 -- Zeros are no entry, and behind whole entries they are a torn tail.
 use Rattle.std.proofs.Common.{◌≡◌, ◌⊎◌, ◌∙◌, ℕ, List, Option, Some, None, get_or, take, drop, refl, ap, subst, inl, inr}
 use Rattle.std.specs.Int.{w32}
-use Rattle.je_disk.specs.States.{content}
 use Rattle.log_entry.specs.declared.entry.Entry.{Entry}
 use Rattle.log_entry.specs.declared.decoder.Decoded.{Decoded}
 use Rattle.log_entry.specs.declared.decoder.Decoded.TheVariants.{Whole, Torn as NotWhole}
@@ -15,7 +14,8 @@ use Rattle.log_file.specs.Scan.{prefix_with, no_prefix, scan_of, scan_by}
 use Rattle.log_file.specs.Log.{entries_scanned}
 use Rattle.log_file.proofs.FileScanLaws.{are_found_again}
 use Rattle.log_buffer.specs.Crash.{HoldsPrefix}
-use Rattle.log_buffer.specs.Zeros.{AreZeros, HasZerosBehind, ZerosAreTorn, ZerosHaveNoChance}
+use Rattle.log_buffer.specs.Chance.{ReadSince}
+use Rattle.log_buffer.specs.Zeros.{AreZeros, HasZerosBehind, ZerosAreFound, ZerosAreTorn}
 use Rattle.log_buffer.proofs.ChanceMatches.{meets}
 
 -- no entry has the kind 0
@@ -51,13 +51,9 @@ holds_front f entries bytes has = by_decoded (decoded has.zeros) refl where
   }
   by_decoded (Whole e prev len) is = absurd (zeros_are_torn has.zeros e prev len has.are_zeros is)
 
-pub zeros_have_no_chance : ZerosHaveNoChance
-zeros_have_no_chance reads image prefixes filled f may =
-    let here = prefixes f in
-    meets f (content reads f) (content image f) here.prefix here.found (by_case here.prefix here.found (filled f))
+pub zeros_are_found : ZerosAreFound
+zeros_are_found since history k f read bytes was here filled = meets (ReadSince since history k) f read bytes here.prefix was here.found (by_case filled)
   where
-    by_case : (prefix : ValidPrefix) → scan_of f (content reads f) ≡ Prefix prefix → AreZeros (content image f) ⊎ HasZerosBehind f (entries_scanned (scan_of f (content reads f))) (content image f)
-        → HoldsPrefix f prefix.entries (content image f)
-    by_case prefix found (inl zeros) = holds_none f prefix.entries (content image f) zeros
-    by_case prefix found (inr has) =
-        holds_front f prefix.entries (content image f) (subst (λ (x : FileScan). HasZerosBehind f (entries_scanned x) (content image f)) found has)
+    by_case : AreZeros bytes ⊎ HasZerosBehind f (entries_scanned (scan_of f read)) bytes → HoldsPrefix f here.prefix.entries bytes
+    by_case (inl zeros) = holds_none f here.prefix.entries bytes zeros
+    by_case (inr has) = holds_front f here.prefix.entries bytes (subst (λ (x : FileScan). HasZerosBehind f (entries_scanned x) bytes) here.found has)

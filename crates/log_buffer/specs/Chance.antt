@@ -3,7 +3,8 @@ use Rattle.std.specs.Prelude.{◌≡◌, ◌≢◌, ◌⊎◌, ◌≤◌, ◌<�
 use Rattle.std.specs.Map.{lookup}
 use Rattle.je_bytes.specs.Reading.{AreBytes}
 use Rattle.je_disk.specs.States.{Files, CrashState, State, content, cut, synced_crash_state}
-use Rattle.je_disk.specs.Images.{AreFileImages}
+use Rattle.je_disk.specs.Images.{AreFileImages, IsImage}
+use Rattle.je_disk.specs.Moments.{History}
 use Rattle.log_entry.specs.declared.entry.Entry.{Entry}
 use Rattle.log_entry.specs.declared.entry.Entry.TheVariants.{FileHeader}
 use Rattle.log_entry.specs.declared.decoder.Decoded.TheVariants.{Whole}
@@ -11,28 +12,36 @@ use Rattle.log_entry.specs.Reading.{decoded}
 use Rattle.log_file.specs.declared.valid_prefix.ValidPrefix.{ValidPrefix}
 use Rattle.log_file.specs.declared.file_scan.FileScan.{FileScan}
 use Rattle.log_file.specs.declared.file_scan.FileScan.TheVariants.{Prefix}
-use Rattle.log_file.specs.Scan.{scan_of}
+use Rattle.log_file.specs.Scan.{scan_of, sizes_of}
 use Rattle.log_file.specs.Log.{Log, IsLog, AreFiles, file_bytes, files_of_log, entries_scanned, entries_of, log_in}
 use Rattle.log_file.specs.Placed.{HasFirst}
-use Rattle.log_buffer.specs.Crash.{KeepsLog, KeepsFront, HoldPrefixes}
+use Rattle.log_buffer.specs.Crash.{KeepsLog, KeepsFront, HoldLogged, HoldPrefixes}
 
--- the first of these entries
-pub record IsFrontOf (all front : List Entry) : Type 0 where
-  pub more : List Entry
-  pub is : all ≡ front ++ more
+-- an entry stands in a file so many bytes behind its header
+abbrev pub IsInPlace : ℕ → Entry → List Entry → Type 0
+IsInPlace at entry entries = (before : List Entry) × (after : List Entry) × (entries ≡ before ++ entry ∷ after) × (sizes_of before ≡ at)
 
--- what is found of a file in an image, beside what the disk reads there: a run of the first of the entries that are read, or else the same
-abbrev pub IsFoundOf : FileScan → FileScan → Type 0
-IsFoundOf (Prefix read) (Prefix prefix) = IsFrontOf read.entries prefix.entries
-IsFoundOf read found = found ≡ read
+-- what is found of a file in an image was once read there: each entry of the valid prefix, at its place; or else the same was found
+abbrev pub WasFound : (ℕ → List ℕ → Type 0) → ℕ → FileScan → Type 0
+WasFound past f (Prefix prefix) = (at : ℕ) (entry : Entry) → IsInPlace at entry prefix.entries → (read : List ℕ) × past f read × IsInPlace at entry (entries_scanned (scan_of f read))
+WasFound past f found = (read : List ℕ) × past f read × (scan_of f read ≡ found)
 
 -- the disk reads a file, or reads none behind it: it is not one that is missing among others
 abbrev pub MayBeRead : Files → ℕ → Type 0
 MayBeRead reads f = ((bytes : List ℕ) × (reads f ≡ Some bytes)) ⊎ ((g : ℕ) → f < g → reads g ≡ None)
 
--- No checksum matches by chance: in each file that the disk reads, and behind the last of them, the valid prefix of the image consists of the first entries of the valid prefix that the disk reads there, or the two are found the same.
-abbrev pub NoChanceMatch : Files → Files → Type 0
-NoChanceMatch reads image = (f : ℕ) → MayBeRead reads f → IsFoundOf (scan_of f (content reads f)) (scan_of f (content image f))
+-- what the disk read in a file at a moment from one on, up to another
+abbrev pub ReadSince : ℕ → History → ℕ → ℕ → List ℕ → Type 0
+ReadSince since history k f read = (j : ℕ) × (since ≤ j) × (j ≤ k) × (content (history.state_at j).reads f ≡ read)
+
+-- No checksum matches by chance: in each file that the disk reads, and behind the last of them, what is found in the image was once read.
+abbrev pub NoChanceMatch : (ℕ → List ℕ → Type 0) → Files → Files → Type 0
+NoChanceMatch past reads image = (f : ℕ) → MayBeRead reads f → WasFound past f (scan_of f (content image f))
+
+-- An image that a crash may leave at a moment, in which no checksum matches by chance, beside all that the disk read from another moment on.
+pub record IsLeftAt (since : ℕ) (history : History) (k : ℕ) (image : Files) : Type 0 where
+  pub is : IsImage (history.state_at k) image
+  pub chance : NoChanceMatch (ReadSince since history k) (history.state_at k).reads image
 
 -- what is there of a file, if the log has it
 abbrev pub if_logged : {A B : Type 0} → Option A → Option B → Option B
@@ -87,28 +96,29 @@ pub record LeavesLog (log removed : Log) (least : ℕ) (image : Files) : Type 0 
   pub others : (f : ℕ) → lookup (λ n. n == f) log ≡ None → IsRemoved removed f (image f)
   pub within : (f : ℕ) → IsUpToLog log f (image f)
 
--- what a crash keeps of a log is in each image
+-- what a crash keeps of a log is in each image, where what the disk once read holds prefixes of what the log has in its files
 abbrev pub KeptIsLeft : Type 0
-KeptIsLeft = (log removed : Log) (least : ℕ) (state : State) (image : Files) → IsLog log → KeepsLog log removed least state.crash_states → HoldPrefixes log state.reads → AreFileImages state.crash_states state.reads → AreFileImages state.crash_states image
-    → NoChanceMatch state.reads image → LeavesLog log removed least image
+KeptIsLeft = (log removed : Log) (least : ℕ) (state : State) (image : Files) → IsLog log → KeepsLog log removed least state.crash_states → AreFileImages state.crash_states state.reads → AreFileImages state.crash_states image
+    → NoChanceMatch (HoldLogged log) state.reads image → LeavesLog log removed least image
 
--- ---- which images meet the premise
+-- so it is where all that the disk read so far holds prefixes of the log
+abbrev pub PastIsHeld : Type 0
+PastIsHeld = (log : Log) (since : ℕ) (history : History) (k : ℕ) (image : Files) → ((j : ℕ) → since ≤ j → j ≤ k → HoldPrefixes log (history.state_at j).reads) → IsLeftAt since history k image
+    → NoChanceMatch (HoldLogged log) (history.state_at k).reads image
+
+-- ---- which images meet the premise: those of which each file does
 
 -- what the disk reads meets it, whatever that is
 abbrev pub ReadsHaveNoChance : Type 0
-ReadsHaveNoChance = (reads : Files) → NoChanceMatch reads reads
+ReadsHaveNoChance = (since : ℕ) (history : History) (k : ℕ) → since ≤ k → NoChanceMatch (ReadSince since history k) (history.state_at k).reads (history.state_at k).reads
 
--- each file has a header, or ends within it, and no other damage
-abbrev pub HavePrefixes : Files → Type 0
-HavePrefixes reads = (f : ℕ) → HasPrefix (f, content reads f)
+-- a file as it once was, also one that was removed
+abbrev pub OnceReadIsFound : Type 0
+OnceReadIsFound = (since : ℕ) (history : History) (k f : ℕ) (read : List ℕ) → ReadSince since history k f read → WasFound (ReadSince since history k) f (scan_of f read)
 
--- files that were cut short and not changed otherwise
-abbrev pub AreCutShort : Files → Files → Type 0
-AreCutShort reads image = (f : ℕ) → (len : ℕ) × (content image f ≡ take len (content reads f))
-
--- files that were only cut short meet it
-abbrev pub CutsHaveNoChance : Type 0
-CutsHaveNoChance = (reads image : Files) → HavePrefixes reads → AreCutShort reads image → NoChanceMatch reads image
+-- a file that was cut short and not changed otherwise
+abbrev pub CutIsFound : Type 0
+CutIsFound = (since : ℕ) (history : History) (k f len : ℕ) (read : List ℕ) → ReadSince since history k f read → HasPrefix (f, read) → WasFound (ReadSince since history k) f (scan_of f (take len read))
 
 -- each whole entry of a file's bytes from an offset on is the one of these that was appended there, and none goes on behind the last of them
 abbrev pub AreAppended : ℕ → ℕ → List Entry → List ℕ → Type 0
@@ -116,13 +126,10 @@ AreAppended prev at [] bytes = (found : Entry) (len : ℕ) → decoded bytes ≡
 AreAppended prev at (entry ∷ entries) bytes =
     (found : Entry) (field len : ℕ) → decoded bytes ≡ Whole found field len → (found ≡ entry) × (field ≡ prev) × AreAppended at (at + len) entries (drop len bytes)
 
--- in each file of an image what reads as a whole entry was appended there: it is the header, or one of the entries that the disk reads
-abbrev pub HaveAppended : Files → Files → Type 0
-HaveAppended reads image = (f : ℕ) → AreBytes (content image f) × AreAppended 0 0 (FileHeader 1 f ∷ entries_scanned (scan_of f (content reads f))) (content image f)
-
--- files in which no torn entry reads as a whole one meet it
-abbrev pub AppendedHaveNoChance : Type 0
-AppendedHaveNoChance = (reads image : Files) → HavePrefixes reads → HaveAppended reads image → NoChanceMatch reads image
+-- a file in which what reads as a whole entry was appended there: it is the header, or one of the entries that the disk once read
+abbrev pub AppendedAreFound : Type 0
+AppendedAreFound = (since : ℕ) (history : History) (k f : ℕ) (read bytes : List ℕ) → ReadSince since history k f read → HasPrefix (f, read) → AreBytes bytes
+    → AreAppended 0 0 (FileHeader 1 f ∷ entries_scanned (scan_of f read)) bytes → WasFound (ReadSince since history k) f (scan_of f bytes)
 
 -- ---- as a log is opened
 

@@ -67,6 +67,10 @@ pub record HoldsPrefix (f : ℕ) (entries : List Entry) (bytes : List ℕ) : Typ
 abbrev pub HoldPrefixes : Log → Files → Type 0
 HoldPrefixes log reads = (f : ℕ) → HoldsPrefix f (entries_at log f) (content reads f)
 
+-- what was read in a file was a prefix of what the log has in it, if it has the file: others may have been removed
+abbrev pub HoldLogged : Log → ℕ → List ℕ → Type 0
+HoldLogged log f read = (entries : List Entry) → lookup (λ n. n == f) log ≡ Some entries → HoldsPrefix f entries read
+
 -- A crash keeps at least so many of the log's entries; what the files read as is one of the images that a crash may leave, and they hold prefixes of the log.
 pub record KeepsRead (log removed : Log) (least : ℕ) (state : State) : Type 0 where
   pub keeps : KeepsLog log removed least state.crash_states

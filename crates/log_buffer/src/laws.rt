@@ -1,9 +1,9 @@
 // What holds of all logs that entries are appended to.
-ghost use Rattle.log_buffer.specs.Chance.{AppendedHaveNoChance, CutsHaveNoChance, CutsKeep, KeptIsLeft, ReadsHaveNoChance};
+ghost use Rattle.log_buffer.specs.Chance.{AppendedAreFound, CutIsFound, CutsKeep, KeptIsLeft, OnceReadIsFound, PastIsHeld, ReadsHaveNoChance};
 ghost use Rattle.log_buffer.specs.Growth.{GrewNone, GrewUnchanged, GrewThen, TriedThen, TriedMore};
 ghost use Rattle.log_buffer.specs.Laws.{AppendedIsLast, AppendedIsPlaced, AppendedArePlaced, AreBounded, NeverFalls, AppendsJoin};
 ghost use Rattle.log_buffer.specs.Written.{AllAreWritten, WrittenAreFirst, WrittenGrow, WrittenStay};
-ghost use Rattle.log_buffer.specs.Zeros.{ZerosAreTorn, ZerosHaveNoChance};
+ghost use Rattle.log_buffer.specs.Zeros.{ZerosAreFound, ZerosAreTorn};
 
 use je_disk::Disk;
 
@@ -34,23 +34,26 @@ pub fn files_are_bounded()
 {}
 
 /// What a crash keeps of a log is in each image of the disk where no checksum matches by chance: where each
-/// file's valid prefix consists of the first entries that the disk reads there. What the disk reads is such
-/// an image, whatever it is; so are files that were only cut short, and files in which no torn entry reads
-/// as a whole one. A log whose last file has a torn end is kept whole, before the end is cut off and
+/// file's valid prefix consists of the first entries of what the disk once read there. An image meets this
+/// where each of its files does: one that is as it once was, which may have been removed since; one that was
+/// only cut short; and one in which no torn entry reads as a whole one. So what the disk reads meets it,
+/// whatever that is. A log whose last file has a torn end is kept whole, before the end is cut off and
 /// afterwards.
 pub fn kept_is_left()
     ensures left { KeptIsLeft }
+    ensures past { PastIsHeld }
     ensures reads { ReadsHaveNoChance }
-    ensures cuts { CutsHaveNoChance }
-    ensures appended { AppendedHaveNoChance }
+    ensures once { OnceReadIsFound }
+    ensures cuts { CutIsFound }
+    ensures appended { AppendedAreFound }
     ensures opening { CutsKeep }
 {}
 
-/// Zeros are no entry. So an image in which they stand behind whole entries, as a disk leaves it that set room aside
-/// there, is one where no checksum matches by chance.
+/// Zeros are no entry. So no checksum matches by chance in a file in which they stand behind whole entries, as a disk
+/// leaves it that set room aside there.
 pub fn zeros_are_torn()
     ensures torn { ZerosAreTorn }
-    ensures chance { ZerosHaveNoChance }
+    ensures found { ZerosAreFound }
 {}
 
 /// Entries that were written are read from then on, whatever is appended behind them and whatever fault the disk

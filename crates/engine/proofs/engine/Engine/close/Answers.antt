@@ -7,8 +7,9 @@ use Rattle.log_buffer.specs.Buffer.{disk_of, has_failed}
 use Rattle.log_buffer.specs.Log.{HasLog}
 use Rattle.engine.specs.Guarded.{IsGuardedLog}
 use Rattle.engine.specs.Whole.{contents_of}
-use Rattle.engine.proofs.ClosedLaws.{closed_images, closed_safely, files_mean}
+use Rattle.engine.proofs.ClosedLaws.{closed_safely, files_mean, run_images}
 use Rattle.engine.proofs.GuardLaws.{keeping_any}
+use Rattle.engine.proofs.ObservedLaws.{of_observed}
 use Rattle.engine.proofs.WholeLaws.{valid_at}
 use Rattle.engine.proofs.engine.Engine.close.Goals as goal
 
@@ -27,7 +28,14 @@ returns-clause-images g c = λ observed done most st start journal here is none.
     let standing = after_events st journal in
     let same = sym c.into_parts-log.ensures.log in
     let v = valid_at most g.D.Disk.observable (now (g.D.Disk.history (disk_of engine.trees.log))) engine.trees.log (contents_of engine) standing here.at none in
-    closed_images v.log (now (g.D.Disk.history c.close_log-disk.result.0)) standing.store v.recovers
+    let buffer = c.into_parts-log.result.0 in
+    let log : Log = is.0 in
+    let old = g.D.Disk.history (disk_of buffer) in
+    let guarded = subst (λ (b : LogBuffer g.row.D.Denot). IsGuardedLog st log start (g.D.Disk.history (disk_of b)) b journal) same is.1 in
+    run_images st log v.log start old (g.D.Disk.history c.close_log-disk.result.0) buffer journal standing.store guarded none
+    (of_observed g.D.Disk.observable (now old) buffer v.log observed (subst (λ (b : LogBuffer g.row.D.Denot). HasLog g.D.Disk.observable (now (g.D.Disk.history (disk_of b))) b v.log) same v.has))
+    v.recovers
+    (c.close_log-disk.ensures.crash observed log guarded.least (λ works. keeping_any (now old) buffer log guarded.least guarded.begun (guarded.works none)))
     (c.close_log-disk.ensures.kept observed v.log (subst (λ (b : LogBuffer g.row.D.Denot). HasLog g.D.Disk.observable (now (g.D.Disk.history (disk_of b))) b v.log) same v.has)
     (subst (λ (b : LogBuffer g.row.D.Denot). has_failed b ≡ false) same v.works) done)
 
