@@ -11,10 +11,11 @@ use Rattle.tree_nodes.specs.declared.node.Node.{Node}
 use Rattle.tree_nodes.specs.Nodes.{NodeRow, least}
 use Rattle.tree_nodes.specs.Levels.{row_of, AreParts, HasPutAt, HasRaised}
 use Rattle.db_tree.specs.Loading.{HasMore, HasLoaded}
-use Rattle.db_tree.specs.Waiting.{waiting_of, count_lows}
+use Rattle.db_tree.specs.Splits.{one_if}
+use Rattle.db_tree.specs.Waiting.{is_forced, waiting_of, waits_at, count_lows}
 use Rattle.db_tree.proofs.NodeSteps.{IsElsewhere, place_of, put_elsewhere, put_here}
 use Rattle.db_tree.proofs.Over.{there_is}
-use Rattle.db_tree.proofs.WaitCounts.{put_few}
+use Rattle.db_tree.proofs.WaitCounts.{put_few, put_net}
 
 -- ---- levels with more nodes
 
@@ -106,9 +107,22 @@ set_few old new level low n was are there put = by_value (value_at low (row_of o
     by_value None is some = absurd (true≢false (sym some))
     by_value (Some m) is some = put_few old new level low m n was are is put
 
+-- it counts in place of that one
+pub set_net : (old new : List NodeRow) (level : ℕ) (low : Name) (n : Node) (waited : Bool) → AreParts old → AreParts new → IsSome (value_at low (row_of old level)) → HasPutAt old new level low n → waited ≡ waits_at old level low →
+    count_lows (waiting_of new) + one_if waited ≡ count_lows (waiting_of old) + one_if n.forced
+set_net old new level low n waited was are there put is = by_value (value_at low (row_of old level)) refl there
+  where
+    by_value : (o : Option Node) → value_at low (row_of old level) ≡ o → IsSome o → count_lows (waiting_of new) + one_if waited ≡ count_lows (waiting_of old) + one_if n.forced
+    by_value None found some = absurd (true≢false (sym some))
+    by_value (Some m) found some =
+        subst (λ (t : Bool). count_lows (waiting_of new) + one_if t ≡ count_lows (waiting_of old) + one_if n.forced) (sym (is ∙ ap is_forced found)) (put_net old new level low m n was are found put)
+
 -- counts that rise step by step
 pub few_three : (a b c d m n k : ℕ) → b ≤ a + m → c ≤ b + n → d ≤ c + 1 → m + n + 1 ≤ k → d ≤ a + k
 few_three a b c d m n k first next last at_most = omega (arith, first, next, last, at_most)
+
+pub net_three : (a b c d m n waits waited : ℕ) → b ≤ a + m → c ≤ b + n → d + waited ≡ c + waits → d + waited ≤ a + (m + n + waits)
+net_three a b c d m n waits waited first next last = omega (arith, first, next, last)
 
 pub both_few : (m n : ℕ) → m ≤ 256 → n ≤ 256 → m + n + 1 ≤ 513
 both_few m n first next = omega (arith, first, next)

@@ -16,6 +16,7 @@ use Rattle.tree_nodes.specs.declared.node.Node.{Node}
 use Rattle.tree_nodes.specs.Nodes.{NodeRow, least}
 use Rattle.tree_nodes.specs.Levels.{row_of, AreParts, HasPutAt, HasRaised}
 use Rattle.tree_nodes.specs.Lows.{lows_of, lows_at, with_low, with_root}
+use Rattle.db_tree.specs.Splits.{one_if}
 use Rattle.db_tree.specs.Waiting.{is_forced, waits_in, waiting_in, waiting_of, count_lows}
 use Rattle.db_tree.proofs.WaitLaws.{put_lows, keys_at, keys_with, root_waits}
 
@@ -24,6 +25,12 @@ use Rattle.db_tree.proofs.WaitLaws.{put_lows, keys_at, keys_with, root_waits}
 pub count_both : (a b : List (List Name)) → count_lows (a ++ b) ≡ count_lows a + count_lows b
 count_both [] b = omega arith
 count_both (l ∷ a) b = let rest : count_lows (a ++ b) ≡ count_lows a + count_lows b = count_both a b in omega (arith, rest)
+
+all_same : (a b : List (List Name)) → length a ≡ length b → ((k : ℕ) → lows_at a k ≡ lows_at b k) → count_lows a ≡ count_lows b
+all_same [] [] same each = refl
+all_same [] (y ∷ b) same each = absurd (omega (arith, same))
+all_same (x ∷ a) [] same each = absurd (omega (arith, same))
+all_same (x ∷ a) (y ∷ b) same each = let rest : length a ≡ length b = omega (arith, same) in ap₂ (λ (l : List Name) (c : ℕ). length l + c) (each 0) (all_same a b rest (λ k. each (suc k)))
 
 -- one list differs
 pub count_one : (n : ℕ) (a b : List (List Name)) (level : ℕ) → length a ≡ length b → ((k : ℕ) → (k ≡ level → ⊥) → lows_at a k ≡ lows_at b k) → length (lows_at a level) ≤ length (lows_at b level) + n → count_lows a ≤ count_lows b + n
@@ -34,17 +41,30 @@ count_one n (x ∷ a) (y ∷ b) zero same others few =
     let heights : length a ≡ length b = omega (arith, same) in
     let rest : count_lows a ≡ count_lows b = all_same a b heights (λ k. others (suc k) (λ (h : suc k ≡ 0). absurd (omega (arith, h)))) in
     omega (arith, few, rest)
-  where
-    all_same : (a b : List (List Name)) → length a ≡ length b → ((k : ℕ) → lows_at a k ≡ lows_at b k) → count_lows a ≡ count_lows b
-    all_same [] [] same each = refl
-    all_same [] (y ∷ b) same each = absurd (omega (arith, same))
-    all_same (x ∷ a) [] same each = absurd (omega (arith, same))
-    all_same (x ∷ a) (y ∷ b) same each = let rest : length a ≡ length b = omega (arith, same) in ap₂ (λ (l : List Name) (c : ℕ). length l + c) (each 0) (all_same a b rest (λ k. each (suc k)))
 count_one n (x ∷ a) (y ∷ b) (suc level) same others few =
     let heights : length a ≡ length b = omega (arith, same) in
     let head : length x ≡ length y = ap length (others 0 (λ (h : 0 ≡ suc level). absurd (omega (arith, h)))) in
     let rest : count_lows a ≤ count_lows b + n = count_one n a b level heights (λ k apart. others (suc k) (λ (h : suc k ≡ suc level). apart (omega (arith, h)))) few in
     omega (arith, head, rest)
+
+-- and the counts by as much as it does
+count_apart : (a b : List (List Name)) (level : ℕ) → length a ≡ length b → ((k : ℕ) → (k ≡ level → ⊥) → lows_at a k ≡ lows_at b k) → count_lows a + length (lows_at b level) ≡ count_lows b + length (lows_at a level)
+count_apart [] [] level same others = refl
+count_apart [] (y ∷ b) level same others = absurd (omega (arith, same))
+count_apart (x ∷ a) [] level same others = absurd (omega (arith, same))
+count_apart (x ∷ a) (y ∷ b) zero same others =
+    let heights : length a ≡ length b = omega (arith, same) in
+    let rest : count_lows a ≡ count_lows b = all_same a b heights (λ k. others (suc k) (λ (h : suc k ≡ 0). absurd (omega (arith, h)))) in
+    omega (arith, rest)
+count_apart (x ∷ a) (y ∷ b) (suc level) same others =
+    let heights : length a ≡ length b = omega (arith, same) in
+    let head : length x ≡ length y = ap length (others 0 (λ (h : 0 ≡ suc level). absurd (omega (arith, h)))) in
+    let rest : count_lows a + length (lows_at b level) ≡ count_lows b + length (lows_at a level) = count_apart a b level heights (λ k apart. others (suc k) (λ (h : suc k ≡ suc level). apart (omega (arith, h)))) in
+    omega (arith, head, rest)
+
+cond_is : (t : Bool) (x : Name) (l : List Name) → length (cond t (x ∷ l) l) ≡ length l + one_if t
+cond_is true x l = omega arith
+cond_is false x l = omega arith
 
 cond_few : (t : Bool) (x : Name) (l : List Name) → length (cond t (x ∷ l) l) ≤ length l + 1
 cond_few true x l = omega arith
@@ -82,6 +102,34 @@ few_more p q low (x ∷ xs) up same = by_name (same_or_other low x) (few_more p 
     by_name (inr apart) tails =
         subst (λ (t : Bool). length (cond (p x) (x ∷ filter p xs) (filter p xs)) ≤ length (cond t (x ∷ filter q xs) (filter q xs)) + 1) (same x apart)
         (cond_both (p x) x 1 (filter p xs) (filter q xs) tails)
+
+-- each name of a list as two tests say of it
+count_like : (t : Bool) (x : Name) (l m : List Name) (a b : ℕ) → length l + a ≡ length m + b → length (cond t (x ∷ l) l) + a ≡ length (cond t (x ∷ m) m) + b
+count_like true x l m a b same = omega (arith, same)
+count_like false x l m a b same = same
+
+-- tests that differ at one name, which a level has
+count_net : (p q : Name → Bool) (low : Name) (row : NodeRow) → IsStrictlySortedBy name_cmp (keys_of row) → IsSome (value_at low row) → ((y : Name) → is_eq (name_cmp low y) ≡ false → p y ≡ q y) →
+    length (filter p (keys_of row)) + one_if (q low) ≡ length (filter q (keys_of row)) + one_if (p low)
+unfolding IsStrictlySortedBy
+count_net p q low [] up some same = absurd (true≢false (sym some))
+count_net p q low (e ∷ row) up some same = by_name (same_or_other low e.0) (λ there. count_net p q low row up.1 there same)
+  where
+    apart_from : (names : List Name) → AllByRecursion (λ y. name_cmp e.0 y ≡ Less) names → low ≡ e.0 → AllByRecursion (λ y. p y ≡ q y) names
+    apart_from [] all is = tt
+    apart_from (y ∷ names) all is = (same y (ap (λ (n : Name). is_eq (name_cmp n y)) is ∙ ap is_eq all.0), apart_from names all.1 is)
+
+    by_name : (low ≡ e.0) ⊎ (is_eq (name_cmp low e.0) ≡ false) →
+        (IsSome (value_at low row) → length (filter p (keys_of row)) + one_if (q low) ≡ length (filter q (keys_of row)) + one_if (p low)) →
+        length (filter p (e.0 ∷ keys_of row)) + one_if (q low) ≡ length (filter q (e.0 ∷ keys_of row)) + one_if (p low)
+    by_name (inl is) rest =
+        let tails : length (filter p (keys_of row)) ≡ length (filter q (keys_of row)) = ap length (filter_all p q (keys_of row) (apart_from (keys_of row) up.0 is)) in
+        let first : length (filter p (e.0 ∷ keys_of row)) ≡ length (filter p (keys_of row)) + one_if (p low) = cond_is (p e.0) e.0 (filter p (keys_of row)) ∙ ap (λ (y : Name). length (filter p (keys_of row)) + one_if (p y)) (sym is) in
+        let second : length (filter q (e.0 ∷ keys_of row)) ≡ length (filter q (keys_of row)) + one_if (q low) = cond_is (q e.0) e.0 (filter q (keys_of row)) ∙ ap (λ (y : Name). length (filter q (keys_of row)) + one_if (q y)) (sym is) in
+        omega (arith, tails, first, second)
+    by_name (inr apart) rest =
+        subst (λ (t : Bool). length (filter p (e.0 ∷ keys_of row)) + one_if (q low) ≡ length (cond t (e.0 ∷ filter q (keys_of row)) (filter q (keys_of row))) + one_if (p low)) (same e.0 apart)
+        (count_like (p e.0) e.0 (filter p (keys_of row)) (filter q (keys_of row)) (one_if (q low)) (one_if (p low)) (rest (subst IsSome (other_stays low e.0 (Some e.1) (value_at low row) apart) some)))
 
 -- a test that is stricter
 pub few_less : (p q : Name → Bool) (xs : List Name) → ((y : Name) → p y ≡ true → q y ≡ true) → length (filter p xs) ≤ length (filter q xs) + 0
@@ -132,6 +180,24 @@ put_few old new level low m n was are there put =
     level_few 1 old new level low n put
     (subst (λ (keys : List Name). length (filter (waits_in (row_of new level)) keys) ≤ length (waiting_in (row_of old level)) + 1) (sym (keys_at new old level (put_lows old new level low m n was are there put)))
     (few_more (waits_in (row_of new level)) (waits_in (row_of old level)) low (keys_of (row_of old level)) (was.rising level) (put_elsewhere old new level low n put)))
+
+-- it counts in place of that one
+pub put_net : (old new : List NodeRow) (level : ℕ) (low : Name) (m n : Node) → AreParts old → AreParts new → value_at low (row_of old level) ≡ Some m → HasPutAt old new level low n →
+    count_lows (waiting_of new) + one_if m.forced ≡ count_lows (waiting_of old) + one_if n.forced
+put_net old new level low m n was are there put =
+    let all : count_lows (waiting_of new) + length (waiting_in (row_of old level)) ≡ count_lows (waiting_of old) + length (waiting_in (row_of new level)) =
+    subst (λ (l : List Name). count_lows (waiting_of new) + length l ≡ count_lows (waiting_of old) + length (waiting_in (row_of new level))) (waiting_at_is old level)
+    (subst (λ (l : List Name). count_lows (waiting_of new) + length (lows_at (waiting_of old) level) ≡ count_lows (waiting_of old) + length l) (waiting_at_is new level)
+    (count_apart (waiting_of new) (waiting_of old) level (length-map new waiting_in ∙ put.height ∙ sym (length-map old waiting_in)) (λ k apart. waiting_at_is new k ∙ ap waiting_in (put.others k apart) ∙ sym (waiting_at_is old k)))) in
+    let some : IsSome (value_at low (row_of old level)) = subst IsSome (sym there) refl in
+    let here : waits_in (row_of new level) low ≡ n.forced = ap is_forced (put.here low ∙ same_gets low (Some n) (value_at low (row_of old level))) in
+    let one : length (filter (waits_in (row_of new level)) (keys_of (row_of old level))) + one_if (waits_in (row_of old level) low) ≡ length (waiting_in (row_of old level)) + one_if (waits_in (row_of new level) low) =
+    count_net (waits_in (row_of new level)) (waits_in (row_of old level)) low (row_of old level) (was.rising level) some (put_elsewhere old new level low n put) in
+    let keys : length (waiting_in (row_of new level)) ≡ length (filter (waits_in (row_of new level)) (keys_of (row_of old level))) =
+    ap (λ (names : List Name). length (filter (waits_in (row_of new level)) names)) (keys_at new old level (put_lows old new level low m n was are there put)) in
+    let before : one_if (waits_in (row_of old level) low) ≡ one_if m.forced = ap (λ (o : Option Node). one_if (is_forced o)) there in
+    let after : one_if (waits_in (row_of new level) low) ≡ one_if n.forced = ap one_if here in
+    omega (arith, all, one, keys, before, after)
 
 -- one that does not wait
 pub put_fewer : (old new : List NodeRow) (level : ℕ) (low : Name) (m n : Node) → AreParts old → AreParts new → value_at low (row_of old level) ≡ Some m → HasPutAt old new level low n → n.forced ≡ false →

@@ -15,6 +15,7 @@ pub mod laws;
 pub mod loading;
 pub mod log_node;
 pub mod logged_nodes;
+pub mod new_waits;
 pub mod node_at;
 pub mod node_image;
 pub mod node_split;
@@ -29,6 +30,7 @@ pub mod tree_log;
 pub mod waiting;
 
 pub use laws::{images_show_their_nodes, splits_are_few, trees_are_covered, trees_fit_their_log};
+pub use new_waits::NewWaits;
 pub use node_at::NodeAt;
 pub use node_image::NodeImage;
 pub use node_split::NodeSplit;

@@ -8,9 +8,10 @@ ghost use Rattle.db_tree.specs.Loading.{loaded_by, HasMore, HasLoaded, IsLoaded}
 ghost use Rattle.db_tree.specs.Trees.{HasCell};
 ghost use Rattle.db_tree.specs.Stored.{loaded_cell};
 ghost use Rattle.db_tree.specs.Shapes.{count_in};
-ghost use Rattle.db_tree.specs.Waiting.{waiting_of, count_lows};
+ghost use Rattle.db_tree.specs.Splits.{one_if};
+ghost use Rattle.db_tree.specs.Waiting.{waiting_of, count_lows, waits_at};
 
-use crate::DbTree;
+use crate::{DbTree, NewWaits};
 use je_lsn::Lsn;
 use node_core::{Marked, Node as Image, Version};
 use record_map::{Cell, Data, SortKey};
@@ -156,6 +157,7 @@ fn put_lows(
     requires there { level < length levels.old }
     requires level { level < 256 }
     ensures here { OnOk result (IsSome (value_at low.now (row_of levels.new level))) }
+    ensures there { OnOk result (level < length levels.new) }
     ensures more { OnOk result (HasMore levels.old levels.new level low.now) }
     ensures few { IfOk result (λ made. count_lows (waiting_of levels.new) ≤ count_lows (waiting_of levels.old) + made) }
     ensures made { IfOk result (λ made. made ≤ 256) }
@@ -169,32 +171,46 @@ fn put_lows(
     Ok(made)
 }
 
+// Whether the node of a level with the low waits to be logged.
+fn waits_there(levels: &Levels, level: usize, low: &SortKey) -> bool
+    requires { level < length levels.now }
+    ensures { result ≡ waits_at levels.now level low.now }
+{
+    match levels.at(level, low) {
+        Some(node) => node.forced,
+        None => false,
+    }
+}
+
 // Puts a node of a level under its low. The lows of a level are among those of the level below, so the low is put there too, and
-// the nodes that it gets there come later. It gives how many nodes wait for this at most, this one among them.
+// the nodes that it gets there come later. It gives how many nodes wait more for this at most, this one among them, and whether
+// the one whose place it takes waited.
 fn put_node(
     levels: &mut Levels,
     alloc: Global,
     level: usize,
     low: &SortKey,
     node: Node,
-) -> Result<usize, AllocError>
+) -> Result<NewWaits, AllocError>
     requires level { level < 256 }
     ensures loaded { OnOk result (HasLoaded levels.old levels.new level low.now node) }
-    ensures few { IfOk result (λ made. count_lows (waiting_of levels.new) ≤ count_lows (waiting_of levels.old) + made) }
-    ensures made { IfOk result (λ made. made ≤ 513) }
+    ensures few { IfOk result (λ waits. count_lows (waiting_of levels.new) + one_if waits.replaced ≤ count_lows (waiting_of levels.old) + waits.more) }
+    ensures made { IfOk result (λ waits. waits.more ≤ 513) }
     ensures most { count_lows (waiting_of levels.new) ≤ count_lows (waiting_of levels.old) + 513 }
 {
     let raised = raise_to(levels, alloc, level, node.number)?;
     let made = put_lows(levels, alloc, level, low, node.number)?;
     let _height = levels.height();
+    let replaced = waits_there(levels, level, low);
+    let more = raised + made + node.forced as usize;
     levels.set(level, low, node);
-    Ok(raised + made + 1)
+    Ok(NewWaits { more, replaced })
 }
 
 impl DbTree {
     /// Puts a node as its image at `at` shows it. No name in it is below the low. Where that image is not to be kept as its last one, the
     /// node waits to be logged. Where the levels had no such low, other nodes stand there that wait to be logged, until their images
-    /// come; it gives how many nodes wait more at most.
+    /// come. It gives how many nodes wait more at most, and whether one that waited gave its place to this one.
     pub fn load_node(
         &mut self,
         alloc: Global,
@@ -202,11 +218,11 @@ impl DbTree {
         low: &SortKey,
         at: Lsn,
         keeps: bool,
-    ) -> Result<usize, AllocError>
+    ) -> Result<NewWaits, AllocError>
         ensures cells { self.new.cells ≡ self.old.cells }
         ensures loaded { OnOk result (IsLoaded self.old.levels self.new.levels (image.now.level - 1) low.now (node_read image.now.number at keeps)) }
-        ensures few { IfOk result (λ made. count_in self.new ≤ count_in self.old + made) }
-        ensures made { IfOk result (λ made. made ≤ 513) }
+        ensures few { IfOk result (λ waits. count_in self.new + one_if waits.replaced ≤ count_in self.old + waits.more) }
+        ensures made { IfOk result (λ waits. waits.more ≤ 513) }
         ensures most { count_in self.new ≤ count_in self.old + 513 }
     {
         let node = shown_node(image, at, keeps);

@@ -195,11 +195,11 @@ placed_found : (held : List File) → placed (log_in held) ≡ placed (found_log
 placed_found [] = refl
 placed_found (file ∷ held) = refl
 
--- no node's number is above this one, which a node may have; no more nodes wait than entries leave, and the trees fit the log
+-- no node's number is above this one, which a node may have; no more nodes wait than the entries leave that were redone, and the trees fit the log
 pub record IsNodeBound (r : Recovered Trees) (bound : ℕ) : Type 0 where
-  pub is : bound ≡ r.last_node + numbers_for (r.entries + 1)
+  pub is : bound ≡ r.last_node + numbers_for (r.redone + 1)
   pub within : bound ≤ last_number
-  pub waits : waits_within r.trees ≤ waiting_for r.entries
+  pub waits : waits_within r.trees ≤ waiting_for r.redone
   pub fits : FitWhatWasRead r
 
 bound_is : (sum bound : ℕ) → Some bound ≡ cond (nat_lt last_number sum) None (Some sum) → (bound ≡ sum) × (bound ≤ last_number)
@@ -209,16 +209,16 @@ bound_is sum bound h = by_test (nat_lt last_number sum) refl h
     by_test true test h = cc
     by_test false test h = let is : bound ≡ sum = cc in (is, grind (arith, nat_tests))
 
-pub bound_found : (r : Recovered Trees) (bound : ℕ) → FitWhatWasRead r → waits_within r.trees ≤ waiting_for r.entries →
-    Some bound ≡ cond (nat_lt last_number (r.last_node + numbers_for (r.entries + 1))) None (Some (r.last_node + numbers_for (r.entries + 1))) → IsNodeBound r bound
-bound_found r bound fits waits h = let both = bound_is (r.last_node + numbers_for (r.entries + 1)) bound h in record { is = both.0; within = both.1; waits = waits; fits = fits }
+pub bound_found : (r : Recovered Trees) (bound : ℕ) → FitWhatWasRead r → waits_within r.trees ≤ waiting_for r.redone →
+    Some bound ≡ cond (nat_lt last_number (r.last_node + numbers_for (r.redone + 1))) None (Some (r.last_node + numbers_for (r.redone + 1))) → IsNodeBound r bound
+bound_found r bound fits waits h = let both = bound_is (r.last_node + numbers_for (r.redone + 1)) bound h in record { is = both.0; within = both.1; waits = waits; fits = fits }
 
 -- it is that of the files
 bound_held : (observable : Bool) (reads : Files) (r : Recovered Trees) (w : WasRead observable reads r) (bound : ℕ) → IsNodeBound r bound → bound ≡ node_bound w.held (meaning_read r)
-bound_held observable reads r w bound is = is.is ∙ ap (λ (n : ℕ). r.last_node + numbers_for (n + 1)) w.is.entries_are
+bound_held observable reads r w bound is = is.is ∙ ap (λ (n : ℕ). r.last_node + numbers_for (n + 1)) w.is.redone_are
 
 -- files whose nodes' numbers may pass the last one
-pub no_numbers : (reads : Files) (r : Recovered Trees) → WasRead true reads r → None ≡ cond (nat_lt last_number (r.last_node + numbers_for (r.entries + 1))) None (Some (r.last_node + numbers_for (r.entries + 1))) →
+pub no_numbers : (reads : Files) (r : Recovered Trees) → WasRead true reads r → None ≡ cond (nat_lt last_number (r.last_node + numbers_for (r.redone + 1))) None (Some (r.last_node + numbers_for (r.redone + 1))) →
     HasNoNumbers reads
 no_numbers reads r w h = record {
   held = w.held;
@@ -226,9 +226,9 @@ no_numbers reads r w h = record {
   meaning = meaning_read r;
   reads = w.is.meaning_is;
   indexed = w.is.indexed;
-  past = subst (λ (n : ℕ). last_number < r.last_node + numbers_for (n + 1)) w.is.entries_are (by_test (nat_lt last_number (r.last_node + numbers_for (r.entries + 1))) refl h);
+  past = subst (λ (n : ℕ). last_number < r.last_node + numbers_for (n + 1)) w.is.redone_are (by_test (nat_lt last_number (r.last_node + numbers_for (r.redone + 1))) refl h);
 } where
-  by_test : (b : Bool) → nat_lt last_number (r.last_node + numbers_for (r.entries + 1)) ≡ b → None ≡ cond b None (Some (r.last_node + numbers_for (r.entries + 1))) → last_number < r.last_node + numbers_for (r.entries + 1)
+  by_test : (b : Bool) → nat_lt last_number (r.last_node + numbers_for (r.redone + 1)) ≡ b → None ≡ cond b None (Some (r.last_node + numbers_for (r.redone + 1))) → last_number < r.last_node + numbers_for (r.redone + 1)
   by_test true test h = grind (arith, nat_tests)
   by_test false test h = cc
 
@@ -413,7 +413,7 @@ module _ {D : Type 0} where
       let file = file_is engine is.ready.works in
       let end : (end_of engine.trees.log).file ≡ end_file_in w.held = ap (λ (end : LogPos). end.file) is.ready.end ∙ starts_in w.held r.tail w.is.tail_is in
       let waits = is.begun.waits in
-      let few = subst (λ (n : ℕ). waits_within r.trees ≤ waiting_for n) w.is.entries_are is.bound_is.waits in
+      let few = subst (λ (n : ℕ). waits_within r.trees ≤ waiting_for n) w.is.redone_are is.bound_is.waits in
       let node : engine.kept.last_node ≡ node_bound w.held (meaning_read r) = ap (λ (k : Kept). k.last_node) is.begun.kept ∙ bound_held observable reads r w bound is.bound_is in
       record { file = omega (arith, file, end, waits, few); node = omega (arith, node) }
 

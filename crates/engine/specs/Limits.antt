@@ -26,8 +26,8 @@ most_logged (change ∷ changes) = most_entries (most_changed (change ∷ change
 abbrev pub numbers_for : ℕ → ℕ
 numbers_for changes = changes * 66
 
--- how many nodes wait at most for their images once a log of so many entries was read: for each entry two for each number that its change may
--- allocate, and as many for the catalog
+-- how many nodes wait at most for their images once a log was read of which so many entries count: for each entry two for each number that its
+-- change may allocate, and as many for the catalog
 abbrev pub waiting_for : ℕ → ℕ
 waiting_for entries = numbers_for (entries + 1) * 2
 

@@ -1,6 +1,6 @@
 -- Opening an environment.
 use Rattle.std.specs.List.{AllByRecursion}
-use Rattle.std.specs.Prelude.{ℕ, ◌≡◌, ◌≤◌, ◌<◌, ◌⊎◌, ◌==◌, ◌+◌, nat_lt, ◌∷◌, [], ◌++◌, take, length, map, max, Bool, true, false, Option, IsSome, None, Some, Ok, option_map, List, if◌then◌else◌}
+use Rattle.std.specs.Prelude.{ℕ, ◌≡◌, ◌≤◌, ◌<◌, ◌⊎◌, ◌==◌, ◌+◌, nat_lt, ◌∷◌, [], ◌++◌, take, map, max, Bool, true, false, Option, IsSome, None, Some, Ok, option_map, List, if◌then◌else◌}
 use Rattle.recovery_je.specs.declared.recover_err.RecoverErr.{RecoverErr}
 use Rattle.recovery_je.specs.declared.recover_err.RecoverErr.TheVariants.{Disk as NoDisk, Memory as NoMemory, Corrupt, WrongIndex as WrongIndexRead}
 use Rattle.je_order.specs.Counts.{HasRisen}
@@ -26,7 +26,7 @@ use Rattle.db_names.specs.declared.db_names.DbNames.{DbNames}
 use Rattle.index_map.specs.declared.index_map.IndexMap.{IndexMap}
 use Rattle.recovery_je.specs.Answer.{HasFiles, IsRecoveredFrom}
 use Rattle.recovery_je.specs.Indexing.{IsIndexCheck}
-use Rattle.recovery_je.specs.Putting.{HasReadAgain}
+use Rattle.recovery_je.specs.Putting.{HasReadAgain, count_redone}
 use Rattle.recovery_je.specs.declared.recovered.Recovered.{Recovered}
 use Rattle.in_tree.specs.declared.trees.Trees.{Trees}
 use Rattle.tree_images.specs.Forest.{ForestFits}
@@ -49,13 +49,18 @@ error_of_recovery NoMemory = Memory
 error_of_recovery (Corrupt corruption) = Unreadable corruption
 error_of_recovery (WrongIndexRead name) = WrongIndex name
 
--- no node's number is above this one once the files are opened: each of their entries may have allocated some, and so may the catalog
+-- how many entries of files count for the nodes that opening them makes, and that wait then for their images: those from the redo LSN of the
+-- last checkpoint on; all, where there is no checkpoint, or one of them is a delta
+abbrev pub redone_in : List (ℕ × List ℕ) → ℕ
+redone_in held = count_redone (placed (log_in held))
+
+-- no node's number is above this one once the files are opened: each entry that is redone may have allocated some, and so may the catalog
 abbrev pub node_bound : List (ℕ × List ℕ) → Meaning → ℕ
-node_bound held meaning = meaning.last_node + numbers_for (length (placed (log_in held)) + 1)
+node_bound held meaning = meaning.last_node + numbers_for (redone_in held + 1)
 
 -- how far the log of files and its trees reach at most once they are opened
 abbrev pub reach_in : List (ℕ × List ℕ) → Meaning → Reach
-reach_in held meaning = record { file = end_file_in held + waiting_for (length (placed (log_in held))); node = node_bound held meaning }
+reach_in held meaning = record { file = end_file_in held + waiting_for (redone_in held); node = node_bound held meaning }
 
 -- the files can be opened, but their nodes' numbers may pass the last one
 pub record HasNoNumbers (files : Files) : Type 0 where
@@ -80,7 +85,7 @@ meaning_read r = record { store = r.opening; last_txn = r.last_txn; last_node = 
 
 -- the log of a disk with these files was read
 abbrev pub WasRead : Bool → Files → Recovered Trees → Type 0
-WasRead observable reads r = HasFiles observable reads (IsRecoveredFrom (meaning_read r) (has_tree_in r.trees) (stored_within r.trees) r.databases r.records r.entries r.tail
+WasRead observable reads r = HasFiles observable reads (IsRecoveredFrom (meaning_read r) (has_tree_in r.trees) (stored_within r.trees) r.databases r.records r.redone r.tail
     (HasReadAgain formed_within nodes_within stored_within last_number_of fits_within r.trees r.redo))
 
 -- the trees that were made fit the log, where no LSN of it is of the life that begins

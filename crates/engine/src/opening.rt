@@ -57,7 +57,7 @@ pub struct Stopped<D> {
     pub disk: D,
 }
 
-// How many nodes may wait at most in trees that were made of so many entries.
+// How many nodes may wait at most in trees that were made of a log, where so many of its entries count for that.
 fn most_waiting(entries: u64) -> u64
     ensures { result ≤ waiting_for entries }
 {
@@ -66,8 +66,8 @@ fn most_waiting(entries: u64) -> u64
         .saturating_mul(NUMBERS_FOR_CHANGE * 2)
 }
 
-// Mounts the disk and reads the log that it has. More nodes do not wait than its entries leave; were it so, this would run out
-// of memory.
+// Mounts the disk and reads the log that it has. More nodes do not wait than the entries leave that were redone; were it so, this
+// would run out of memory.
 fn read_disk<D: Disk>(
     alloc: Global,
     disk: &mut D,
@@ -78,21 +78,21 @@ fn read_disk<D: Disk>(
     ensures same { D.observable ≡ true → now (D.history disk.new) ≡ now (D.history disk.old) }
     ensures moments { D.observable ≡ true → Passes (D.history disk.old) (D.history disk.new) (λ s. s ≡ now (D.history disk.old)) }
     ensures read { IfOk result (WasRead D.observable (now (D.history disk.old)).reads) }
-    ensures waits { IfOk result (λ read. waits_within read.trees ≤ waiting_for read.entries) }
+    ensures waits { IfOk result (λ read. waits_within read.trees ≤ waiting_for read.redone) }
     ensures none_out { OnOk result (D.sync_out disk.new ≡ None) }
     ensures stops { IfErr result (λ error. StopsBy D.observable (now (D.history disk.old)).reads (D.faults disk.old) (D.faults disk.new) error) }
     ensures never_falls { D.faults disk.old ≤ D.faults disk.new }
 {
     let trees = LoadedTrees::new(alloc, fanout, 0);
     let read = recover_disk(alloc, disk, trees)?;
-    if most_waiting(read.entries) < read.trees.waits() {
+    if most_waiting(read.redone) < read.trees.waits() {
         return Err(OpenErr::Memory);
     }
     Ok(read)
 }
 
-// A number that no node's number is above, once files are opened with so many entries, whose last node number is
-// this one; None where it would pass the last one.
+// A number that no node's number is above, once files are opened of which so many entries count for new nodes, and whose
+// last node number is this one; None where it would pass the last one.
 fn node_bound(last: u64, entries: u64) -> Option<u64>
     ensures { result ≡ (if nat_lt last_number (last + numbers_for (entries + 1)) then None else Some (last + numbers_for (entries + 1))) }
 {
@@ -193,7 +193,7 @@ fn begin<D: Disk>(
         last_db,
         checkpoint,
         redo,
-        entries: _,
+        redone: _,
         tail: _,
     } = read;
     let kept = Kept {
@@ -228,7 +228,7 @@ fn go_on<D: Disk>(
     requires none_out { D.sync_out disk ≡ None }
     requires small { IfSome read.tail (λ last. last.file.0 ≤ LAST_FILE) }
     requires file_max { file_max ≤ 1073741824 }
-    requires waits { waits_within read.trees ≤ waiting_for read.entries }
+    requires waits { waits_within read.trees ≤ waiting_for read.redone }
     ensures opened { (reads : Reads) → WasRead D.observable reads read → (D.observable ≡ true → (now (D.history disk)).reads ≡ reads)
         → IfOk result (λ opened. IsOpened file_max D.observable reads (now (D.history (disk_of opened.engine))) opened.engine opened.opening) }
     ensures crash { D.observable ≡ true → (reads : Reads) → WasRead D.observable reads read → (now (D.history disk)).reads ≡ reads
@@ -246,7 +246,7 @@ fn go_on<D: Disk>(
     ensures stopped_faults { IfErr result (λ stopped. D.faults disk ≤ D.faults stopped.disk) }
     ensures left_alone { IfErr result (λ stopped. (old : History) → Passes old (D.history disk) (λ s. s ≡ now old) → now (D.history disk) ≡ now old → IsLeftAlone stopped.error old (D.history stopped.disk)) }
 {
-    let Some(last_node) = node_bound(read.last_node, read.entries) else {
+    let Some(last_node) = node_bound(read.last_node, read.redone) else {
         return Err(Stopped {
             error: OpenErr::IdsEnded,
             disk,

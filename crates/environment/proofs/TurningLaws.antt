@@ -32,14 +32,14 @@ use Rattle.sessions.specs.declared.all_sessions.Sessions.{Sessions}
 use Rattle.sessions.specs.AtStanding.{AreSessionsAt, owing}
 use Rattle.standing_laws.specs.Right.{AreRight}
 use Rattle.engine.specs.declared.kept.Kept.{Kept}
-use Rattle.engine.specs.Limits.{IsBoundedBy, IsWithin}
+use Rattle.engine.specs.Limits.{IsBoundedBy, IsWithin, Reach}
 use Rattle.engine.proofs.GuardedCalls.{guarded_along}
 use Rattle.serial_replay.specs.Reached.{IsReached}
 use Rattle.serial_replay.proofs.Attempts.{reached_goes-on}
 use Rattle.environment.specs.declared.environment.Environment.{Environment}
 use Rattle.environment.specs.declared.written.OwnNames.{OwnNames}
 use Rattle.environment.specs.declared.written.Written.{Written}
-use Rattle.environment.specs.Limits.{reach_behind}
+use Rattle.environment.specs.Limits.{IsBoundedAt, IsBoundedUnless, is_idle_step, reach_behind}
 use Rattle.environment.specs.Steps.{IsLogStep, RecoversWith, StandsAt}
 use Rattle.environment.specs.Turning.{Grew, HasStayed, TurnsSafely, TurnsTo}
 use Rattle.environment.specs.Valid.{AreBare, IsValidWith, fitting, owed_by, KnowsDatabases}
@@ -53,6 +53,11 @@ right_marked st begun right = right
 
 sessions_marked : (s : Sessions) (st : Standing) (begun : Bool) → AreSessionsAt s st → AreSessionsAt s (record st { in_checkpoint = begun })
 sessions_marked s st begun at = at
+
+-- none is a limit at each event
+pub unless_none : (idle : Bool) (after : Reach) → IsBoundedUnless idle after None
+unless_none true after = refl
+unless_none false after = inl refl
 
 commits_many : (owed : ℕ) → length (commit_sizes owed) ≡ owed
 commits_many zero = refl
@@ -177,7 +182,7 @@ module _ {D : Type 0} (observable : Bool) (history : D → History) (sync_out re
       turned : (limit : Option Answer) (step : Step) (answer : Answer) → IsLimited (log_limit limit) step st.in_checkpoint answer → IsTurned st.fault limit step st.in_checkpoint answer
       turned limit step answer is = subst (λ (f : Option Cause). IsTurned f limit step st.in_checkpoint answer) (sym none) is
 
-      pub done_appended : (limit : Option Answer) (line : ℕ) (step : Step) (answer : Answer) (begun : Bool) → AreRight st → AreBare st → IsReached st → IsBoundedBy (reach_behind (reach_of old) st (Turn line step answer)) limit →
+      pub done_appended : (limit : Option Answer) (line : ℕ) (step : Step) (answer : Answer) (begun : Bool) → AreRight st → AreBare st → IsReached st → IsBoundedAt (reach_of old) st (Turn line step answer) limit →
           IsLimited (log_limit limit) step st.in_checkpoint answer → after_turn step st answer ≡ record st { in_checkpoint = begun } → HasAppended old new st begun →
           HasDone most observable (state_of new) old new st (Turn line step answer)
       done_appended limit line step answer begun right bare reached bounded answers path h = record {
@@ -191,7 +196,7 @@ module _ {D : Type 0} (observable : Bool) (history : D → History) (sync_out re
           HasDone most observable (state_of new) old new st (Turn line step DiskFault)
       done_fault line step reached answers path h = record {
         limit = None;
-        bounded = inl refl;
+        bounded = unless_none (is_idle_step st (Turn line step DiskFault)) (reach_behind (reach_of old) st (Turn line step DiskFault));
         answered = turned None step DiskFault answers;
         here = subst (IsAt most observable (state_of new) new) (sym path) (record { at = at_fault h; right = λ calm. absurd (none-some Disk (sym calm)); bare = λ calm. absurd (none-some Disk (sym calm)); reached = subst IsReached path (reached_goes-on None st (Turn line step DiskFault) reached (turned None step DiskFault answers)) });
       }
@@ -229,7 +234,7 @@ module _ {D : Type 0} (observable : Bool) (history : D → History) (sync_out re
   Turned most old new st line step (Err error) = HasNotTurned most old new st
 
   module _ (most : ℕ) (old new : Environment D) (stays : HasStayed old new) (st : Standing) (at : StandsAt most observable history old st) (none : st.fault ≡ None) (right : AreRight st) (bare : AreBare st) (reached : IsReached st) (line : ℕ) where
-    pub turned_appended : (limit : Option Answer) (step : Step) (answer : Answer) (begun : Bool) → is_disk_fault answer ≡ false → IsBoundedBy (reach_behind (reach_of old) st (Turn line step answer)) limit →
+    pub turned_appended : (limit : Option Answer) (step : Step) (answer : Answer) (begun : Bool) → is_disk_fault answer ≡ false → IsBoundedAt (reach_of old) st (Turn line step answer) limit →
         IsLimited (log_limit limit) step st.in_checkpoint answer → after_turn step st answer ≡ record st { in_checkpoint = begun } → HasAppended old new st begun → HasTurned most old new st line step answer
     turned_appended limit step answer begun quiet bounded answers path h = record {
       done = done_appended old new stays most st at none limit line step answer begun right bare reached bounded answers path h;

@@ -36,8 +36,7 @@ use Rattle.sessions.specs.AtStanding.{AreSessionsAt, owing}
 use Rattle.standing_laws.specs.Right.{AreRight}
 use Rattle.serial_replay.specs.Reached.{IsReached}
 use Rattle.environment.specs.declared.environment.Environment.{Environment}
-use Rattle.engine.specs.Limits.{IsBoundedBy}
-use Rattle.environment.specs.Limits.{reach_behind}
+use Rattle.environment.specs.Limits.{IsBoundedAt, IsBoundedUnless, appends_nothing, reach_behind}
 use Rattle.environment.specs.Steps.{StandsAt}
 use Rattle.environment.specs.Turning.{BeginsTo, FinishesTo, FlushesTo, Grew, HasStayed, HasStopped, IsFinishOf, IsStill, StepsTo, start_entry}
 use Rattle.environment.specs.Valid.{AreBare, IsValidWith, active_number, fitting}
@@ -46,7 +45,7 @@ use Rattle.engine.proofs.GuardLaws.{guarded_quiet}
 use Rattle.environment.proofs.Bases.{begun_with}
 use Rattle.environment.proofs.EndingLaws.{room_unchanged}
 use Rattle.environment.proofs.TurnedLogs.{image_neutral, recovers_end, recovers_neutral, tries_end, tries_neutral, valid_end, valid_neutral}
-use Rattle.environment.proofs.TurningLaws.{HasAppended, HasNotAppended, Turned, full_is_bounded, turned_appended, turned_fault, turned_not, valid_moved}
+use Rattle.environment.proofs.TurningLaws.{HasAppended, HasNotAppended, Turned, full_is_bounded, turned_appended, turned_fault, turned_not, unless_none, valid_moved}
 
 module _ {D : Type 0} (observable : Bool) (history : D → History) (sync_out read_out : D → Option ℕ) (read_of : D → ℕ) (faults : D → ℕ) where
   module _ (most : ℕ) (old new : Environment D) (stays : HasStayed old new) (st : Standing) (at : StandsAt most observable history old st) (none : st.fault ≡ None) (right : AreRight st) (bare : AreBare st) (reached : IsReached st) (line : ℕ) where
@@ -145,7 +144,7 @@ module _ {D : Type 0} (observable : Bool) (history : D → History) (sync_out re
     abbrev To : Step → Result Answer AllocError → Type 0
     To step result = Turned observable history sync_out read_out read_of faults most old new st line step result
 
-    ok : (limit : Option Answer) (step : Step) (answer : Answer) (begun : Bool) → is_disk_fault answer ≡ false → IsBoundedBy (reach_behind (reach_of old) st (Turn line step answer)) limit →
+    ok : (limit : Option Answer) (step : Step) (answer : Answer) (begun : Bool) → is_disk_fault answer ≡ false → IsBoundedAt (reach_of old) st (Turn line step answer) limit →
         IsLimited (log_limit limit) step st.in_checkpoint answer → after_turn step st answer ≡ record st { in_checkpoint = begun } → Appended begun → To step (Ok answer)
     ok limit step answer begun quiet bounded answers path h =
         turned_appended observable history sync_out read_out read_of faults most old new stays st at none right bare reached line limit step answer begun quiet bounded answers path h
@@ -153,8 +152,14 @@ module _ {D : Type 0} (observable : Bool) (history : D → History) (sync_out re
     fault : (step : Step) → IsLimited (log_limit None) step st.in_checkpoint DiskFault → after_turn step st DiskFault ≡ faulted st → NotAppended → To step (Ok DiskFault)
     fault step answers path h = turned_fault observable history sync_out read_out read_of faults most old new stays st at none right bare reached line step answers path h
 
-    bounded : (step : Step) (entry : Entry) → IsFullFor log_old (entry ∷ []) (owing st) → IsBoundedBy (reach_behind (reach_of old) st (Turn line step LogFull)) (Some LogFull)
-    bounded step entry full = full_is_bounded observable history sync_out read_out read_of faults old new stays most st at none line step entry full
+    -- no limit was met; or the log has no room, for a step that logs an entry
+    free : (step : Step) (answer : Answer) → IsBoundedAt (reach_of old) st (Turn line step answer) None
+    free step answer = unless_none (appends_nothing step st.in_checkpoint) (reach_behind (reach_of old) st (Turn line step answer))
+
+    bounded : (step : Step) (entry : Entry) → appends_nothing step st.in_checkpoint ≡ false → IsFullFor log_old (entry ∷ []) (owing st) → IsBoundedAt (reach_of old) st (Turn line step LogFull) (Some LogFull)
+    bounded step entry logs full =
+        subst (λ (idle : Bool). IsBoundedUnless idle (reach_behind (reach_of old) st (Turn line step LogFull)) (Some LogFull)) (sym logs)
+        (full_is_bounded observable history sync_out read_out read_of faults old new stays most st at none line step entry full)
 
     -- where there was no memory
     not_done : (step : Step) (error : AllocError) → Got [] × IsStill old new → To step (Err error)
@@ -164,10 +169,10 @@ module _ {D : Type 0} (observable : Bool) (history : D → History) (sync_out re
     -- ---- a beginning
 
     begun : (answer : Answer) → BeginsTo observable history sync_out read_out read_of faults (owing st) old new (Ok answer) → To Begin (Ok answer)
-    begun Done h = ok None Begin Done true refl (inl refl) (by_under_way (λ b. IsStepped Begin b Done) false h.none_before (inl refl)) refl
+    begun Done h = ok None Begin Done true refl (free Begin Done) (by_under_way (λ b. IsStepped Begin b Done) false h.none_before (inl refl)) refl
         (appended (start_entry old ∷ []) true (refl, tt) (omega arith) h.grew (inr h.room) h.fault h.since h.under_way)
-    begun InCheckpoint h = ok None Begin InCheckpoint st.in_checkpoint refl (inl refl) (by_under_way (λ b. IsStepped Begin b InCheckpoint) true h.0 refl) refl (idle_appended h.1)
-    begun LogFull h = ok (Some LogFull) Begin LogFull st.in_checkpoint refl (bounded Begin (start_entry old) h.0) refl refl (none_appended h.1 h.3)
+    begun InCheckpoint h = ok None Begin InCheckpoint st.in_checkpoint refl (free Begin InCheckpoint) (by_under_way (λ b. IsStepped Begin b InCheckpoint) true h.0 refl) refl (idle_appended h.1)
+    begun LogFull h = ok (Some LogFull) Begin LogFull st.in_checkpoint refl (bounded Begin (start_entry old) (by_under_way (λ b. appends_nothing Begin b ≡ false) false h.2 refl) h.0) refl refl (none_appended h.1 h.3)
     begun DiskFault h = fault Begin (by_under_way (λ b. IsStepped Begin b DiskFault) false h.1 (inr refl)) refl (neutral_failed (start_entry old) h.0.0 refl h.0.1 h.0.2 h.2)
     begun answer h = absurd h
 
@@ -178,12 +183,12 @@ module _ {D : Type 0} (observable : Bool) (history : D → History) (sync_out re
     -- ---- a flush
 
     flushed : (answer : Answer) → FlushesTo observable history sync_out read_out read_of faults (owing st) old new (Ok answer) → To Flush (Ok answer)
-    flushed (Flushed node) h = let has = h.0.1 in ok None Flush (Flushed node) st.in_checkpoint refl (inl refl) (by_under_way (λ b. IsStepped Flush b (Flushed node)) true h.0.0 (inl (node, refl))) refl
+    flushed (Flushed node) h = let has = h.0.1 in ok None Flush (Flushed node) st.in_checkpoint refl (free Flush (Flushed node)) (by_under_way (λ b. IsStepped Flush b (Flushed node)) true h.0.0 (inl (node, refl))) refl
         (still_appended (has.image ∷ []) (image_neutral has.image has.is_image, tt) (omega arith) has.grew (inr has.room) h.1)
-    flushed Nothing h = ok None Flush Nothing st.in_checkpoint refl (inl refl) (by_under_way (λ b. IsStepped Flush b Nothing) true h.0.0 (inr (inl refl))) refl
+    flushed Nothing h = ok None Flush Nothing st.in_checkpoint refl (free Flush Nothing) (by_under_way (λ b. IsStepped Flush b Nothing) true h.0.0 (inr (inl refl))) refl
         (none_appended (same_trees h.0.1.0) h.1)
-    flushed NoCheckpoint h = ok None Flush NoCheckpoint st.in_checkpoint refl (inl refl) (by_under_way (λ b. IsStepped Flush b NoCheckpoint) false h.0 refl) refl (idle_appended h.1)
-    flushed LogFull h = ok (Some LogFull) Flush LogFull st.in_checkpoint refl (bounded Flush h.0.1.1.0 h.0.1.1.2) refl refl (none_appended h.0.1.2 h.1)
+    flushed NoCheckpoint h = ok None Flush NoCheckpoint st.in_checkpoint refl (free Flush NoCheckpoint) (by_under_way (λ b. IsStepped Flush b NoCheckpoint) false h.0 refl) refl (idle_appended h.1)
+    flushed LogFull h = ok (Some LogFull) Flush LogFull st.in_checkpoint refl (bounded Flush h.0.1.1.0 (by_under_way (λ b. appends_nothing Flush b ≡ false) true h.0.0 refl) h.0.1.1.2) refl refl (none_appended h.0.1.2 h.1)
     flushed DiskFault h = let has = h.0.1.1 in
         fault Flush (by_under_way (λ b. IsStepped Flush b DiskFault) true h.0.0 (inr (inr refl))) refl (neutral_failed has.0 has.1 (image_neutral has.0 has.2) has.3 has.4 h.1)
     flushed answer h = absurd h
@@ -248,14 +253,14 @@ module _ {D : Type 0} (observable : Bool) (history : D → History) (sync_out re
 
     finished : (answer : Answer) → FinishesTo observable history sync_out read_out read_of faults (owing st) old new (Ok answer) → To FinishStep (Ok answer)
     finished Done h = let has = h.by.finishes in
-        ok None FinishStep Done false refl (inl refl) (by_under_way (λ b. IsStepped FinishStep b Done) true (some_under_way h.by.checkpoint h.by.is_under_way) (inr (inl refl))) refl
+        ok None FinishStep Done false refl (free FinishStep Done) (by_under_way (λ b. IsStepped FinishStep b Done) true (some_under_way h.by.checkpoint h.by.is_under_way) (inr (inl refl))) refl
         (end_appended h.by.finish h.by.checkpoint h.redo has.1.0 false h.by.is_finish has.1.1 has.1.2 has.2 h.fault h.since h.ended)
     finished (NodesLeft count) h = let has = h.0.finishes in
-        ok None FinishStep (NodesLeft count) st.in_checkpoint refl (inl refl) (by_under_way (λ b. IsStepped FinishStep b (NodesLeft count)) true (some_under_way h.0.checkpoint h.0.is_under_way) (inl (count, refl))) refl
+        ok None FinishStep (NodesLeft count) st.in_checkpoint refl (free FinishStep (NodesLeft count)) (by_under_way (λ b. IsStepped FinishStep b (NodesLeft count)) true (some_under_way h.0.checkpoint h.0.is_under_way) (inl (count, refl))) refl
         (none_appended (same_trees has.0) h.1)
-    finished NoCheckpoint h = ok None FinishStep NoCheckpoint st.in_checkpoint refl (inl refl) (by_under_way (λ b. IsStepped FinishStep b NoCheckpoint) false h.0 refl) refl (idle_appended h.1)
+    finished NoCheckpoint h = ok None FinishStep NoCheckpoint st.in_checkpoint refl (free FinishStep NoCheckpoint) (by_under_way (λ b. IsStepped FinishStep b NoCheckpoint) false h.0 refl) refl (idle_appended h.1)
     finished LogFull h = let has = h.0.finishes in
-        ok (Some LogFull) FinishStep LogFull st.in_checkpoint refl (bounded FinishStep has.1.0 (subst (λ (k : ℕ). IsFullFor log_old (has.1.0 ∷ []) k) h.0.is_finish.owed_is has.1.2)) refl refl (none_appended has.2 h.1)
+        ok (Some LogFull) FinishStep LogFull st.in_checkpoint refl (bounded FinishStep has.1.0 (by_under_way (λ b. appends_nothing FinishStep b ≡ false) true (some_under_way h.0.checkpoint h.0.is_under_way) refl) (subst (λ (k : ℕ). IsFullFor log_old (has.1.0 ∷ []) k) h.0.is_finish.owed_is has.1.2)) refl refl (none_appended has.2 h.1)
     finished DiskFault h = let has = h.0.finishes.1 in
         fault FinishStep (by_under_way (λ b. IsStepped FinishStep b DiskFault) true (some_under_way h.0.checkpoint h.0.is_under_way) (inr (inr refl))) refl
         (end_failed h.0.finish h.0.checkpoint has.2.0 has.0 has.1 h.0.is_finish has.2.1 has.3 has.4 h.1)
@@ -268,7 +273,7 @@ module _ {D : Type 0} (observable : Bool) (history : D → History) (sync_out re
     -- ---- a step
 
     synced : (result : Result Answer AllocError) → (result ≡ Ok Done) × (new ≡ old) → To Sync result
-    synced result h = subst (To Sync) (sym h.0) (ok None Sync Done st.in_checkpoint refl (inl refl) refl refl (idle_appended h.1))
+    synced result h = subst (To Sync) (sym h.0) (ok None Sync Done st.in_checkpoint refl (free Sync Done) refl refl (idle_appended h.1))
 
     pub step_turned : (step : Step) (result : Result Answer AllocError) → StepsTo observable history sync_out read_out read_of faults (owing st) old new step result → To step result
     step_turned Begin result h = begins result h
@@ -296,7 +301,7 @@ module _ {D : Type 0} (observable : Bool) (history : D → History) (sync_out re
       HasDone most observable (now (history (disk_of e))) e e st (Turn line step (Invalid first))
   invalid_done e first some most st line step here = record {
     limit = None;
-    bounded = inl refl;
+    bounded = unless_none (appends_nothing step st.in_checkpoint) (reach_behind (reach_of e) st (Turn line step (Invalid first)));
     answered = subst (λ (f : Option Cause). IsTurned f None step st.in_checkpoint (Invalid first)) (sym (sym here.at.fault ∙ some)) refl;
     here = subst (IsAt most observable (now (history (disk_of e))) e) (sym (invalid_stays step st first)) here;
   }

@@ -1,5 +1,5 @@
 -- What events write to the log, and the limits that this meets.
-use Rattle.std.specs.Prelude.{ℕ, ◌+◌, [], ◌∷◌, List, Option, None, Some, if◌then◌else◌}
+use Rattle.std.specs.Prelude.{ℕ, ◌≡◌, ◌+◌, [], ◌∷◌, List, Option, None, Some, Bool, true, false, not, if◌then◌else◌}
 use Rattle.store_model.specs.declared.answer.Answer.{Answer}
 use Rattle.store_model.specs.declared.call.Call.{Call}
 use Rattle.store_model.specs.declared.call.Call.TheVariants.{Create, CreateIndex, Remove, Rename, Truncate, Get, GetBoth, Put, Delete, Count, Cur, CPutCur, CDel, CPut}
@@ -7,6 +7,8 @@ use Rattle.store_model.specs.declared.change.Change.{Change}
 use Rattle.store_model.specs.declared.event.Event.{Event}
 use Rattle.store_model.specs.declared.event.Event.TheVariants.{Call as Called, Resume, Turn}
 use Rattle.store_model.specs.declared.need.Need.{Need}
+use Rattle.store_model.specs.declared.step.Step.{Step}
+use Rattle.store_model.specs.declared.step.Step.TheVariants.{Begin as BeginStep, Flush, Finish, Sync as SyncStep}
 use Rattle.store_model.specs.Evaluation.{evaluation}
 use Rattle.je_answers.specs.declared.active.Active.{Active}
 use Rattle.je_answers.specs.declared.wait.Wait.{Wait}
@@ -87,10 +89,31 @@ abbrev pub reach_behind : Reach → Standing → Event → Reach
 reach_behind reach st (Turn line step answer) = record { file = reach.file + 1; node = reach.node }
 reach_behind reach st event = reach_after reach (written_by st event)
 
+-- whether a step of maintenance logs nothing: a sync, a beginning where a checkpoint is under way, and any other where none is
+abbrev pub appends_nothing : Step → Bool → Bool
+appends_nothing BeginStep in_checkpoint = in_checkpoint
+appends_nothing Flush in_checkpoint = not in_checkpoint
+appends_nothing Finish in_checkpoint = not in_checkpoint
+appends_nothing SyncStep in_checkpoint = true
+
+-- an event that is such a step
+abbrev pub is_idle_step : Standing → Event → Bool
+is_idle_step st (Turn line step answer) = appends_nothing step st.in_checkpoint
+is_idle_step st event = false
+
+-- the limit that is met where a log and its trees would reach so far: none for a step that logs nothing
+abbrev pub IsBoundedUnless : Bool → Reach → Option Answer → Type 0
+IsBoundedUnless true after limit = limit ≡ None
+IsBoundedUnless false after limit = IsBoundedBy after limit
+
+-- the limit of an event, where they reach so far before it
+abbrev pub IsBoundedAt : Reach → Standing → Event → Option Answer → Type 0
+IsBoundedAt reach st event limit = IsBoundedUnless (is_idle_step st event) (reach_behind reach st event) limit
+
 -- the limits of events, one after another, where a log and its trees reach so far before them
 abbrev pub AreBounded : Reach → Standing → List Event → List (Option Answer) → Type 0
 AreBounded reach st (event ∷ events) (limit ∷ limits) =
-    IsBoundedBy (reach_behind reach st event) limit × AreBounded (reach_behind reach st event) (after_event st event) events limits
+    IsBoundedAt reach st event limit × AreBounded (reach_behind reach st event) (after_event st event) events limits
 AreBounded reach st events limits = Unit {0}
 
 -- ---- the Commits that are owed

@@ -24,7 +24,7 @@ use Rattle.log_buffer.specs.Buffer.{end_of, has_failed}
 use Rattle.txn_core.specs.Known.{committed}
 use Rattle.txn_core.specs.Planning.{makes_index, row_by}
 use Rattle.engine.specs.Guarded.{IsGuardedLog}
-use Rattle.engine.specs.Limits.{IsBoundedBy, IsWithin, Reach, limit_by}
+use Rattle.engine.specs.Limits.{IsWithin, Reach, limit_by}
 use Rattle.engine.specs.Opening.{StartsAt, reach_in}
 use Rattle.engine.specs.Whole.{CanGoOn as EngineCanGoOn, disk_of as disk_below}
 use Rattle.sessions.specs.declared.all_sessions.Sessions.{Sessions}
@@ -33,7 +33,7 @@ use Rattle.standing_laws.specs.Right.{AreRight}
 use Rattle.environment.specs.Valid.{AreAt, AreBare, owed_by, fitting}
 use Rattle.environment.specs.declared.environment.Environment.{Environment}
 use Rattle.environment.specs.declared.outcome.Outcome.{Outcome}
-use Rattle.environment.specs.Limits.{reach_behind}
+use Rattle.environment.specs.Limits.{IsBoundedAt}
 
 module _ {D : Type 0} where
   -- the disk below
@@ -84,7 +84,7 @@ module _ {D : Type 0} where
   -- an event took place that the model may have, and the environment is where the model then stands
   pub record HasDone (most : ℕ) (observable : Bool) (state : State) (old new : Environment D) (st : Standing) (event : Event) : Type 0 where
     pub limit : Option Answer
-    pub bounded : IsBoundedBy (reach_behind (reach_of old) st event) limit
+    pub bounded : IsBoundedAt (reach_of old) st event limit
     pub answered : IsAnswered limit st event
     pub here : IsAt most observable state new (after_event st event)
 

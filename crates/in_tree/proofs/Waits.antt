@@ -87,6 +87,14 @@ tree_waits_more old new db tree next more there has within most =
     let was : count_waiting (shape_in tree) ≡ count_waiting (shapes_of old db) = ap (λ (t : Option DbTree). count_waiting (shape_of t)) there ∙ sym (ap count_waiting (shapes_at old db within)) in
     omega (arith, all, was, most)
 
+-- a tree more by so many and less by so many
+pub tree_waits_net : (old new : Forest) (db : ℕ) (tree next : DbTree) (more fewer : ℕ) → Some tree ≡ get nat_cmp old db → Replaces old new db (Some next) → db < 4294967296 →
+    count_waiting (shape_in next) + fewer ≤ count_waiting (shape_in tree) + more → waits_in new + fewer ≤ waits_in old + more
+tree_waits_net old new db tree next more fewer there has within most =
+    let all = forest_waits old new db (Some next) has within in
+    let was : count_waiting (shape_in tree) ≡ count_waiting (shapes_of old db) = ap (λ (t : Option DbTree). count_waiting (shape_of t)) there ∙ sym (ap count_waiting (shapes_at old db within)) in
+    omega (arith, all, was, most)
+
 none_at : (forest : Forest) → ((d : ℕ) → get nat_cmp forest d ≡ None) → (d : ℕ) → count_waiting (shapes_of forest d) ≡ 0
 none_at forest none d = ap (λ (t : Option DbTree). count_waiting (cond (nat_lt d 4294967296) (shape_of t) new_shape)) (none d) ∙ by_test (nat_lt d 4294967296)
   where

@@ -1,5 +1,6 @@
 // The trees of an environment while its log is read again.
-ghost use Rattle.std.specs.Prelude.{◌≡◌, ◌≤◌, ℕ, min, max, [], false, map, OnOk};
+ghost use Rattle.std.specs.Prelude.{◌≡◌, ◌≤◌, ◌+◌, ◌-◌, ℕ, min, max, [], false, map, OnOk};
+ghost use Rattle.db_tree.specs.Splits.{one_if};
 ghost use Rattle.record_map.specs.Cells.{IsRising};
 ghost use Rattle.record_tree.specs.Stored.{AreStoredStill};
 ghost use Rattle.in_tree.specs.Stored.{committed_cell};
@@ -8,6 +9,7 @@ ghost use Rattle.in_tree.specs.Whole.{has_tree_in, last_number_of, seen_in, stor
 
 use crate::trees::LAST_NODE;
 use crate::{Trees, forest, loading, stored};
+use db_tree::NewWaits;
 use je_lsn::Lsn;
 use je_order::{Name, Octets, copy_of};
 use node_core::Node;
@@ -24,6 +26,15 @@ const MOST_TO_COME: u64 = 513;
 
 // How many nodes wait at most that a redo splits or makes.
 const MOST_SPLIT: u64 = 128;
+
+// At least as many as the nodes that wait behind a load, where at most so many did before it.
+fn waits_behind(before: u64, waits: &NewWaits) -> u64
+    requires before { before ≤ 0x7fffffffffffffff }
+    requires more { waits.now.more ≤ 513 }
+    ensures { result ≡ before + waits.now.more - one_if waits.now.replaced }
+{
+    (before + waits.more as u64).saturating_sub(waits.replaced as u64)
+}
 
 /// The trees of an environment while its log is read again, seen as these trees: no transaction has changed anything, so
 /// each record in them is committed. Nodes that were split wait to be logged.
@@ -156,8 +167,8 @@ impl Loads for LoadedTrees {
             return Err(LoadErr::Memory);
         }
         match loading::load_node(&mut self.trees.forest, alloc, node, low, at, keeps) {
-            Ok(more) => {
-                self.waits += more as u64;
+            Ok(waits) => {
+                self.waits = waits_behind(self.waits, &waits);
                 Ok(())
             }
             Err(_) => {

@@ -5,6 +5,7 @@ ghost use Rattle.record_tree.specs.Stored.{stored_at, HasStored, AreStoredStill}
 ghost use Rattle.tree_nodes.specs.Levels.{AreParts};
 ghost use Rattle.db_tree.specs.Loading.{IsLoaded};
 ghost use Rattle.db_tree.specs.Shapes.{count_in};
+ghost use Rattle.db_tree.specs.Splits.{one_if};
 ghost use Rattle.in_tree.specs.Forest.{is_there, IsStepIn};
 ghost use Rattle.in_tree.specs.Loaded.{AreAllParts, nodes_of};
 ghost use Rattle.in_tree.specs.LoadedNodes.{IsEnsured, HasLoadedIn};
@@ -12,7 +13,7 @@ ghost use Rattle.in_tree.specs.Stored.{stored_of, IsQuiet};
 ghost use Rattle.in_tree.specs.Waits.{waits_in};
 
 use crate::forest;
-use db_tree::DbTree;
+use db_tree::{DbTree, NewWaits};
 use je_lsn::Lsn;
 use je_order::{Name, copy_of};
 use node_core::Node as Image;
@@ -69,7 +70,7 @@ fn ensure_tree(
     forest::make(trees, alloc, db, number)
 }
 
-// Puts a node of a tree. It gives how many nodes wait more at most.
+// Puts a node of a tree. It gives how many nodes wait more at most, and whether one that waited gave its place to this one.
 fn put_in(
     tree: &mut DbTree,
     alloc: Global,
@@ -77,12 +78,12 @@ fn put_in(
     low: &SortKey,
     at: Lsn,
     keeps: bool,
-) -> Result<usize, AllocError>
+) -> Result<NewWaits, AllocError>
     ensures loaded { OnOk result (IsLoaded tree.old.levels tree.new.levels (image.now.level - 1) low.now (node_read image.now.number at keeps)) }
     ensures parts { AreParts tree.new.levels }
     ensures cells { tree.new.cells ≡ tree.old.cells }
-    ensures few { IfOk result (λ made. count_in tree.new ≤ count_in tree.old + made) }
-    ensures made { IfOk result (λ made. made ≤ 513) }
+    ensures few { IfOk result (λ waits. count_in tree.new + one_if waits.replaced ≤ count_in tree.old + waits.more) }
+    ensures made { IfOk result (λ waits. waits.more ≤ 513) }
     ensures most { count_in tree.new ≤ count_in tree.old + 513 }
 {
     let made = tree.load_node(alloc, image, low, at, keeps);
@@ -90,7 +91,8 @@ fn put_in(
     made
 }
 
-// Puts a node of a database that has a tree. It gives how many nodes wait more at most.
+// Puts a node of a database that has a tree. It gives how many nodes wait more at most, and whether one that waited gave its
+// place to this one.
 fn put_image(
     trees: &mut BTreeMap<u32, DbTree>,
     alloc: Global,
@@ -99,14 +101,14 @@ fn put_image(
     low: &SortKey,
     at: Lsn,
     keeps: bool,
-) -> Result<usize, AllocError>
+) -> Result<NewWaits, AllocError>
     requires { is_there trees.old db ≡ true }
     ensures loaded { OnOk result (IsStepIn db (HasLoadedIn (image.now.level - 1) low.now (node_read image.now.number at keeps)) trees.old trees.new) }
     ensures parts { AreAllParts trees.old → AreAllParts trees.new }
     ensures stored { AreStoredStill (stored_of trees.old) (stored_of trees.new) }
     ensures quiet { IsQuiet trees.old → IsQuiet trees.new }
-    ensures few { IfOk result (λ more. more ≤ 513) }
-    ensures waits { IfOk result (λ more. waits_in trees.new ≤ waits_in trees.old + more) }
+    ensures few { IfOk result (λ waits. waits.more ≤ 513) }
+    ensures waits { IfOk result (λ waits. waits_in trees.new + one_if waits.replaced ≤ waits_in trees.old + waits.more) }
     ensures most { waits_in trees.new ≤ waits_in trees.old + 513 }
 {
     match trees.get_mut(&db) {
@@ -115,8 +117,9 @@ fn put_image(
     }
 }
 
-// Puts a node as its image at `at` shows it. No name in it is below `low`. It gives how many nodes wait more at most: those that are
-// still to come for it, and the node where that image is not to be kept as its last one.
+// Puts a node as its image at `at` shows it. No name in it is below `low`. It gives how many nodes wait more at most, those that are
+// still to come for it, and the node where that image is not to be kept as its last one; and whether one that waited gave its place
+// to this one.
 pub(crate) fn load_node(
     trees: &mut BTreeMap<u32, DbTree>,
     alloc: Global,
@@ -124,13 +127,13 @@ pub(crate) fn load_node(
     low: &Name,
     at: Lsn,
     keeps: bool,
-) -> Result<usize, AllocError>
+) -> Result<NewWaits, AllocError>
     ensures nodes { OnOk result (HasPutNode (nodes_of trees.old) (nodes_of trees.new) image.now.db (image.now.level - 1) low.now (node_read image.now.number at keeps)) }
     ensures parts { AreAllParts trees.old → AreAllParts trees.new }
     ensures stored { AreStoredStill (stored_of trees.old) (stored_of trees.new) }
     ensures quiet { IsQuiet trees.old → IsQuiet trees.new }
-    ensures few { IfOk result (λ more. more ≤ 513) }
-    ensures waits { IfOk result (λ more. waits_in trees.new ≤ waits_in trees.old + more) }
+    ensures few { IfOk result (λ waits. waits.more ≤ 513) }
+    ensures waits { IfOk result (λ waits. waits_in trees.new + one_if waits.replaced ≤ waits_in trees.old + waits.more) }
     ensures most { waits_in trees.new ≤ waits_in trees.old + 513 }
 {
     let copy = copy_of(low)?;

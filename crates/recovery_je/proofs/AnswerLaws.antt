@@ -39,6 +39,7 @@ use Rattle.recovery_je.specs.declared.read_err.ReadErr.TheVariants.{Memory as Re
 use Rattle.recovery_je.specs.declared.recover_err.RecoverErr.{RecoverErr}
 use Rattle.recovery_je.specs.declared.recover_err.RecoverErr.TheVariants.{Disk, Memory, Corrupt, WrongIndex}
 use Rattle.recovery_je.specs.Files.{IsReading, AreRead, AreSound}
+use Rattle.recovery_je.specs.Putting.{count_redone}
 use Rattle.recovery_je.specs.Recovering.{HasTrees, IsMeant, IsFoundBy}
 use Rattle.log_replay.specs.Indexed.{wrong_index}
 use Rattle.recovery_je.specs.Indexing.{IsIndexCheck}
@@ -109,23 +110,23 @@ by_entries observable reads files es tail all =
     ap (λ (o : Option Corruption). unless o (meaning_in (map (λ file. file.0) all.held) (placed (log_in all.held)))) none
     ∙ ap₂ meaning_in are_of.numbers (sym all.entries_are)
 
-pub recovered : (observable : Bool) (reads : Files) (files : List FileNo) (es : List Placed) (tail : Option LastFile) (meaning : Meaning) (has : ℕ → Bool) (stored : AllStored) (databases records entries : ℕ) (fits : List Placed → Type 0) →
-    AreRisingNumbers files → IsReading observable reads files [] es tail → entries ≡ length es → IsMeant (map (λ f. f.0) files) es meaning has stored databases records → fits es → IsIndexCheck meaning.store None →
-    IsReadingOf observable reads files (IsRecoveredFrom meaning has stored databases records entries tail fits)
-recovered observable reads files es tail meaning has stored databases records entries fits rising all count meant fit indexed =
+pub recovered : (observable : Bool) (reads : Files) (files : List FileNo) (es : List Placed) (tail : Option LastFile) (meaning : Meaning) (has : ℕ → Bool) (stored : AllStored) (databases records counted : ℕ) (fits : List Placed → Type 0) →
+    AreRisingNumbers files → IsReading observable reads files [] es tail → counted ≡ count_redone es → IsMeant (map (λ f. f.0) files) es meaning has stored databases records → fits es → IsIndexCheck meaning.store None →
+    IsReadingOf observable reads files (IsRecoveredFrom meaning has stored databases records counted tail fits)
+recovered observable reads files es tail meaning has stored databases records counted fits rising all count meant fit indexed =
     let c = last_checkpoint es in
     let each : AllByRecursion (λ (p : Placed). IsEntry p.1) es = subst (AllByRecursion (λ (p : Placed). IsEntry p.1)) (sym all.entries_are) (all_entries all.held all.bytes) in
     let right = read_trees_are_right (map (λ f. f.0) files) es c.at c.roots meant.walk each meant.walked in
     let are_of : AreOf observable reads files all.held = subst (λ (l : List FileNo). AreOf observable reads l all.held) (sym (all.parts ∙ append-nil all.done)) all.are_of in
     let trees : HasTrees (restarted es) has stored = subst (λ (rows : List LoggedChange). HasTrees (behind rows (redone c.redo es)) has stored) right.rows meant.trees in
-    all_read observable reads files es tail (IsRecoveredFrom meaning has stored databases records entries tail fits) rising all (record {
+    all_read observable reads files es tail (IsRecoveredFrom meaning has stored databases records counted tail fits) rising all (record {
       bytes = all.bytes;
       rising = subst IsStrictlyIncreasing (sym are_of.numbers) rising;
       meaning_is = by_entries observable reads files es tail all ∙ meant.meaning_is;
       trees = subst (λ (l : List Placed). HasTrees (restarted l) has stored) all.entries_are trees;
       databases_are = meant.databases_are;
       records_are = meant.records_are;
-      entries_are = count ∙ ap (λ (l : List Placed). length l) all.entries_are;
+      redone_are = count ∙ ap count_redone all.entries_are;
       tail_is = all.last;
       fit = subst fits all.entries_are fit;
       indexed = indexed;

@@ -27,6 +27,7 @@ use Rattle.recovery_je.specs.declared.recover_err.RecoverErr.{RecoverErr}
 use Rattle.recovery_je.specs.declared.recover_err.RecoverErr.TheVariants.{Disk, Memory, Corrupt, WrongIndex}
 use Rattle.log_replay.specs.Indexed.{wrong_index}
 use Rattle.recovery_je.specs.Indexing.{IsIndexCheck}
+use Rattle.recovery_je.specs.Putting.{count_redone}
 use Rattle.recovery_je.specs.Recovering.{HasTrees}
 
 -- ---- errors
@@ -67,9 +68,9 @@ pub record HasCauseOf {T : Type 0} (before after : ℕ) (result : Result T Recov
 
 -- ---- answers
 
--- what a log of so many entries means, as an environment that was recovered
-abbrev pub recovered_with : {T : Type 0} → Meant T → ℕ → Option LastFile → Recovered T
-recovered_with meant entries tail = record {
+-- what a log means, as an environment that was recovered
+abbrev pub recovered_with : {T : Type 0} → Meant T → Option LastFile → Recovered T
+recovered_with meant tail = record {
   trees = meant.settled.trees;
   opening = meant.settled.opening;
   databases = meant.settled.databases;
@@ -79,7 +80,7 @@ recovered_with meant entries tail = record {
   last_db = meant.last_db;
   checkpoint = meant.checkpoint;
   redo = meant.redo;
-  entries = entries;
+  redone = meant.redone;
   tail = tail;
 }
 
@@ -104,15 +105,15 @@ pub record HasWrongIndex (name : List ℕ) (held : List (ℕ × List ℕ)) : Typ
   pub reads : reading_of held ≡ Ok meaning
   pub wrong : wrong_index meaning.store ≡ Some name
 
--- files with so many entries mean this, and the environment has these trees, of which more is said of the files' entries
-pub record IsRecoveredFrom (meaning : Meaning) (has : ℕ → Bool) (stored : AllStored) (databases records entries : ℕ) (tail : Option LastFile) (fits : List Placed → Type 0) (held : List (ℕ × List ℕ)) : Type 0 where
+-- files mean this, with so many entries that count for nodes that were made, and the environment has these trees, of which more is said of the files' entries
+pub record IsRecoveredFrom (meaning : Meaning) (has : ℕ → Bool) (stored : AllStored) (databases records redone : ℕ) (tail : Option LastFile) (fits : List Placed → Type 0) (held : List (ℕ × List ℕ)) : Type 0 where
   pub bytes : AllByRecursion (λ file. AreBytes file.1) held
   pub rising : IsStrictlyIncreasing (map (λ file. file.0) held)
   pub meaning_is : reading_of held ≡ Ok meaning
   pub trees : HasTrees (restarted (placed (log_in held))) has stored
   pub databases_are : databases ≡ length meaning.store.databases
   pub records_are : records ≡ record_count meaning.store
-  pub entries_are : entries ≡ length (placed (log_in held))
+  pub redone_are : redone ≡ count_redone (placed (log_in held))
   pub tail_is : IsTailOf held tail
   pub fit : fits (placed (log_in held))
   pub indexed : IsIndexCheck meaning.store None

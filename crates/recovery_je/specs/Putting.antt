@@ -1,6 +1,6 @@
 -- Nodes that are put while trees are read, and what the trees fit while a log is read again.
-use Rattle.std.specs.Prelude.{◌≡◌, ◌≤◌, ◌<◌, ℕ, zero, suc, Bool, true, false, List, [], ◌∷◌, Option, None, Some, not, ◌==◌}
-use Rattle.std.specs.List.{AllByRecursion, flat_map, list_all}
+use Rattle.std.specs.Prelude.{◌≡◌, ◌≤◌, ◌<◌, ℕ, zero, suc, Bool, true, false, List, [], ◌∷◌, Option, None, Some, not, ◌==◌, nat_le, length, if◌then◌else◌}
+use Rattle.std.specs.List.{AllByRecursion, flat_map, list_all, count_by}
 use Rattle.std.specs.Map.{lookup}
 use Rattle.je_order.specs.declared.name.Name.{Name}
 use Rattle.log_entry.specs.declared.root.Root.{Root}
@@ -21,6 +21,15 @@ use Rattle.recovery_je.specs.Redoing.{waits}
 -- whether each entry is whole: none is a delta
 abbrev pub are_whole : List Placed → Bool
 are_whole es = list_all (λ p. not (is_delta p.1)) es
+
+-- how many entries of a log count for the nodes that are made when it is read, and that wait: those from an LSN on; all of them where one is a
+-- delta, since then each node that is read waits
+abbrev pub count_from : ℕ → List Placed → ℕ
+count_from r es = if are_whole es then count_by (λ p. nat_le r p.0) es else length es
+
+-- those from the last checkpoint's redo LSN on
+abbrev pub count_redone : List Placed → ℕ
+count_redone es = count_from (last_checkpoint es).redo es
 
 -- nodes were put, with numbers up to the greatest one that was read
 pub record HasPut {T : Type 0} (nodes : T → AllNodes) (put : Bool → ℕ → AllNodes → AllNodes → Type 0) (old new : Walking T) : Type 0 where

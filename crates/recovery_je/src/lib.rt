@@ -22,6 +22,7 @@ pub mod recover_err;
 pub mod recovered;
 mod recovering;
 pub mod recovery;
+mod redo_count;
 mod redoing;
 mod roots;
 mod settling;

@@ -25,8 +25,9 @@ pub struct Recovered<T: Loads> {
     pub checkpoint: u64,
     /// The LSN from which on entries were redone: that of the last checkpoint that ended, 0 where none did.
     pub redo: Lsn,
-    /// How many entries the log has.
-    pub entries: u64,
+    /// How many entries count for the nodes that were made: those that stand at that LSN or behind it; all of the log's, where one is
+    /// a delta, since then each node that was read waits to be logged.
+    pub redone: u64,
     /// The last file; None where there is no file.
     pub tail: Option<LastFile>,
 }

@@ -11,7 +11,7 @@ ghost use Rattle.log_meaning.specs.Checkpoint.{behind};
 ghost use Rattle.log_meaning.specs.Meaning.{most};
 ghost use Rattle.log_meaning.specs.Reading.{redo_corruption as redo_corruption_of, unless, meaning_in};
 ghost use Rattle.recovery_je.specs.Indexing.{IsIndexCheck};
-ghost use Rattle.recovery_je.specs.Putting.{AreRootsPut, HasReadAgain};
+ghost use Rattle.recovery_je.specs.Putting.{AreRootsPut, HasReadAgain, count_redone};
 ghost use Rattle.recovery_je.specs.Recovering.{HoldsChanges, HoldsRedo, IsWalked, IsMeant, IsFoundBy};
 
 use crate::checkpoint_end::{CheckpointEnd, last_end, or_none};
@@ -19,6 +19,7 @@ use crate::gaps::{end_corruption, gap_corruption};
 use crate::numbers::Numbers;
 use crate::placed_entry::PlacedEntry;
 use crate::read_err::ReadErr;
+use crate::redo_count::count_from;
 use crate::redoing::{Redoing, ensure_tree, take_all};
 use crate::roots::{Walked, read_roots};
 use crate::settling::{Settled, settle};
@@ -32,8 +33,8 @@ use std::alloc::Global;
 /// The number of the catalog.
 const CATALOG: u32 = 0;
 
-/// What a log means: its environment, the numbers that were allocated last, and the number and the
-/// redo LSN of the last checkpoint.
+/// What a log means: its environment, the numbers that were allocated last, the number and the redo LSN of
+/// the last checkpoint, and how many entries count for the nodes that were made.
 #[derive(Drop)]
 pub(crate) struct Meant<T: Loads> {
     pub(crate) settled: Settled<T>,
@@ -42,6 +43,7 @@ pub(crate) struct Meant<T: Loads> {
     pub(crate) last_db: u32,
     pub(crate) checkpoint: u64,
     pub(crate) redo: Lsn,
+    pub(crate) redone: u64,
 }
 
 // Redoes the entries from the redo LSN on over the trees of the roots, of which a redo began.
@@ -137,6 +139,7 @@ pub(crate) fn recover_entries<T: Loads + Drop>(
     requires entries { AllByRecursion (λ p. IsEntry p.1) entries.items }
     ensures meant { IfOk result (λ m. IsMeant (map (λ f. f.0) files.now) entries.items (record { store = m.settled.opening; last_txn = m.last_txn; last_node = m.last_node; last_db = m.last_db; checkpoint = m.checkpoint }) (T.has_tree m.settled.trees) (T.stored m.settled.trees) m.settled.databases m.settled.records) }
     ensures fits { IfOk result (λ m. HasReadAgain T.well_formed T.nodes T.stored T.last_number T.fits m.settled.trees m.redo entries.items) }
+    ensures redone { IfOk result (λ m. m.redone ≡ count_redone entries.items) }
     ensures index { IfOk result (λ m. IsIndexCheck m.settled.opening m.settled.wrong_index) }
     ensures found { IfErr result (λ e. IsFoundBy e (λ c. meaning_in (map (λ f. f.0) files.now) entries.items ≡ Err c)) }
 {
@@ -149,6 +152,7 @@ pub(crate) fn recover_entries<T: Loads + Drop>(
         numbers: in_trees,
     } = walked;
     let numbers = Numbers::of(&entries, end.redo);
+    let redone = count_from(&entries, end.redo);
     let from = redo_begin(files, end.redo);
     let last_node = end.last_node.max(in_trees.node.max(numbers.node));
     trees.begin_redo(last_node, from);
@@ -162,5 +166,6 @@ pub(crate) fn recover_entries<T: Loads + Drop>(
         last_db: end.last_db.max(roots_db.max(in_trees.db.max(numbers.db))),
         checkpoint: end.number,
         redo: end.redo,
+        redone,
     })
 }

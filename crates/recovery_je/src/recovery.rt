@@ -19,13 +19,12 @@ use log_replay::LastFile;
 use record_tree::Loads;
 use std::alloc::Global;
 
-// What a log of so many entries means, if each index has the pairs of its primary's records.
+// What a log means, if each index has the pairs of its primary's records.
 fn check_index<T: Loads + Drop>(
     meant: Meant<T>,
-    entries: u64,
     tail: Option<LastFile>,
 ) -> Result<Recovered<T>, RecoverErr>
-    ensures recovered { IfOk result (λ r. (meant.settled.wrong_index ≡ None) × (r ≡ recovered_with meant entries tail)) }
+    ensures recovered { IfOk result (λ r. (meant.settled.wrong_index ≡ None) × (r ≡ recovered_with meant tail)) }
     ensures wrong { IfErr result (λ e. IsFirstWrong meant.settled.wrong_index e) }
 {
     let Meant {
@@ -35,6 +34,7 @@ fn check_index<T: Loads + Drop>(
         last_db,
         checkpoint,
         redo,
+        redone,
     } = meant;
     let Settled {
         trees,
@@ -57,7 +57,7 @@ fn check_index<T: Loads + Drop>(
         last_db,
         checkpoint,
         redo,
-        entries,
+        redone,
         tail,
     })
 }
@@ -72,7 +72,7 @@ fn recover_files<T: Loads + Drop>(
     requires files { AreRisingNumbers files.now }
     requires empty { (d : ℕ) → T.has_tree trees d ≡ false }
     requires sound { AreSound read }
-    ensures recovered { (observable : Bool) (reads : Files) → AreRead observable reads files.now read → IfOk result (λ r. IsReadingOf observable reads files.now (IsRecoveredFrom (record { store = r.opening; last_txn = r.last_txn; last_node = r.last_node; last_db = r.last_db; checkpoint = r.checkpoint }) (T.has_tree r.trees) (T.stored r.trees) r.databases r.records r.entries r.tail (HasReadAgain T.well_formed T.nodes T.stored T.last_number T.fits r.trees r.redo))) }
+    ensures recovered { (observable : Bool) (reads : Files) → AreRead observable reads files.now read → IfOk result (λ r. IsReadingOf observable reads files.now (IsRecoveredFrom (record { store = r.opening; last_txn = r.last_txn; last_node = r.last_node; last_db = r.last_db; checkpoint = r.checkpoint }) (T.has_tree r.trees) (T.stored r.trees) r.databases r.records r.redone r.tail (HasReadAgain T.well_formed T.nodes T.stored T.last_number T.fits r.trees r.redo))) }
     ensures corrupt { (observable : Bool) (reads : Files) → AreRead observable reads files.now read → IfErr result (λ e. IsCorruptBy e (λ corruption. IsReadingOf observable reads files.now (λ held. reading_of held ≡ Err corruption))) }
     ensures index { (observable : Bool) (reads : Files) → AreRead observable reads files.now read → IfErr result (λ e. IsIndexBy e (λ name. IsReadingOf observable reads files.now (HasWrongIndex name))) }
     ensures other { IfErr result IsNoDiskErr }
@@ -83,9 +83,8 @@ fn recover_files<T: Loads + Drop>(
             Err(RecoverErr::Corrupt(corruption))
         }
         FilesRead::All(entries, tail) => {
-            let count = entries.len() as u64;
             let meant = recover_entries(alloc, files, entries, trees)?;
-            check_index(meant, count, tail)
+            check_index(meant, tail)
         }
     }
 }
@@ -104,7 +103,7 @@ pub fn recover<D: Disk, T: Loads + Drop>(
 ) -> Result<Recovered<T>, RecoverErr>
     requires files { AreRisingNumbers files.now }
     requires empty { (d : ℕ) → T.has_tree trees d ≡ false }
-    ensures recovered { IfOk result (λ r. IsReadingOf D.observable (now (D.history disk.old)).reads files.now (IsRecoveredFrom (record { store = r.opening; last_txn = r.last_txn; last_node = r.last_node; last_db = r.last_db; checkpoint = r.checkpoint }) (T.has_tree r.trees) (T.stored r.trees) r.databases r.records r.entries r.tail (HasReadAgain T.well_formed T.nodes T.stored T.last_number T.fits r.trees r.redo))) }
+    ensures recovered { IfOk result (λ r. IsReadingOf D.observable (now (D.history disk.old)).reads files.now (IsRecoveredFrom (record { store = r.opening; last_txn = r.last_txn; last_node = r.last_node; last_db = r.last_db; checkpoint = r.checkpoint }) (T.has_tree r.trees) (T.stored r.trees) r.databases r.records r.redone r.tail (HasReadAgain T.well_formed T.nodes T.stored T.last_number T.fits r.trees r.redo))) }
     ensures corrupt { IfErr result (λ e. IsCorruptBy e (λ corruption. IsReadingOf D.observable (now (D.history disk.old)).reads files.now (λ held. reading_of held ≡ Err corruption))) }
     ensures index { IfErr result (λ e. IsIndexBy e (λ name. IsReadingOf D.observable (now (D.history disk.old)).reads files.now (HasWrongIndex name))) }
     ensures same { D.observable ≡ true → now (D.history disk.new) ≡ now (D.history disk.old) }
@@ -137,7 +136,7 @@ pub fn recover_disk<D: Disk, T: Loads + Drop>(
     trees: T,
 ) -> Result<Recovered<T>, RecoverErr>
     requires { (d : ℕ) → T.has_tree trees d ≡ false }
-    ensures recovered { IfOk result (λ r. HasFiles D.observable (now (D.history disk.old)).reads (IsRecoveredFrom (record { store = r.opening; last_txn = r.last_txn; last_node = r.last_node; last_db = r.last_db; checkpoint = r.checkpoint }) (T.has_tree r.trees) (T.stored r.trees) r.databases r.records r.entries r.tail (HasReadAgain T.well_formed T.nodes T.stored T.last_number T.fits r.trees r.redo))) }
+    ensures recovered { IfOk result (λ r. HasFiles D.observable (now (D.history disk.old)).reads (IsRecoveredFrom (record { store = r.opening; last_txn = r.last_txn; last_node = r.last_node; last_db = r.last_db; checkpoint = r.checkpoint }) (T.has_tree r.trees) (T.stored r.trees) r.databases r.records r.redone r.tail (HasReadAgain T.well_formed T.nodes T.stored T.last_number T.fits r.trees r.redo))) }
     ensures corrupt { IfErr result (λ e. IsCorruptBy e (λ corruption. HasFiles D.observable (now (D.history disk.old)).reads (λ held. reading_of held ≡ Err corruption))) }
     ensures index { IfErr result (λ e. IsIndexBy e (λ name. HasFiles D.observable (now (D.history disk.old)).reads (HasWrongIndex name))) }
     ensures same { D.observable ≡ true → now (D.history disk.new) ≡ now (D.history disk.old) }

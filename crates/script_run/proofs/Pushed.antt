@@ -15,7 +15,7 @@ use Rattle.je_answers.specs.After.{AnswersAsModel, after_event, after_events}
 use Rattle.je_answers.specs.Journal.{AreResumedInOrder, AreSyncedAtOnce, IsInOrder, IsSyncedAtOnce, has_answer}
 use Rattle.engine.specs.Limits.{IsBoundedBy, IsWithin, Reach, last_number, reach_after}
 use Rattle.engine.proofs.Counts.{rose_earlier, rose_later}
-use Rattle.environment.specs.Limits.{AreBounded, reach_behind, written_by}
+use Rattle.environment.specs.Limits.{AreBounded, IsBoundedAt, IsBoundedUnless, is_idle_step, reach_behind, written_by}
 use Rattle.script_run.specs.Events.{AreSyncedBefore, reach_by}
 use Rattle.script_run.specs.Maintenance.{AreStepsInPlace, IsStepInPlace, last_after}
 use Rattle.script_run.specs.UnderWay.{IsCaused}
@@ -84,6 +84,11 @@ bounded_later early late limit within bounded =
     below : (last near far : ℕ) → last < near → near ≤ far → last < far
     below last near far past later = omega (arith, past, later)
 
+-- the same of an event's
+at_later : (idle : Bool) (early late : Reach) (limit : Option Answer) → IsWithin early late → IsBoundedUnless idle early limit → IsBoundedUnless idle late limit
+at_later true early late limit within none = none
+at_later false early late limit within bounded = bounded_later early late limit within bounded
+
 -- the limits of a journal come also where a log reaches farther
 pub bounded_far : (early late : Reach) (st : Standing) (events : List Event) (limits : List (Option Answer)) → IsWithin early late → AreBounded early st events limits → AreBounded late st events limits
 bounded_far early late st [] [] within b = tt
@@ -91,13 +96,13 @@ bounded_far early late st [] (limit ∷ limits) within b = tt
 bounded_far early late st (event ∷ events) [] within b = tt
 bounded_far early late st (event ∷ events) (limit ∷ limits) within b =
     let behind = behind_within early late st event within in (
-      bounded_later (reach_behind early st event) (reach_behind late st event) limit behind b.0,
+      at_later (is_idle_step st event) (reach_behind early st event) (reach_behind late st event) limit behind b.0,
       bounded_far (reach_behind early st event) (reach_behind late st event) (after_event st event) events limits behind b.1,
     )
 
 -- the limits of a journal, and that of one event more
 bounded_more : (first : Reach) (st : Standing) (limits : List (Option Answer)) (journal : List Event) (limit : Option Answer) (event : Event) → AnswersAsModel st limits journal → AreBounded first st journal limits →
-    IsBoundedBy (reach_behind (reach_by first st journal) (after_events st journal) event) limit → AreBounded first st (journal ++ event ∷ []) (limits ++ limit ∷ [])
+    IsBoundedAt (reach_by first st journal) (after_events st journal) event limit → AreBounded first st (journal ++ event ∷ []) (limits ++ limit ∷ [])
 bounded_more first st [] [] limit event answers b o = (o, tt)
 bounded_more first st (l ∷ limits) (e ∷ events) limit event answers b o =
     (b.0, bounded_more (reach_behind first st e) (after_event st e) limits events limit event answers.1 b.1 o)
@@ -105,11 +110,11 @@ bounded_more first st [] (e ∷ events) limit event answers b o = absurd answers
 bounded_more first st (l ∷ limits) [] limit event answers b o = absurd answers
 
 pub bounded_push : (first near : Reach) (st : Standing) (limits : List (Option Answer)) (journal : List Event) (limit : Option Answer) (event : Event) → AnswersAsModel st limits journal → AreBounded first st journal limits →
-    IsWithin near (reach_by first st journal) → IsBoundedBy (reach_behind near (after_events st journal) event) limit → AreBounded first st (journal ++ event ∷ []) (limits ++ limit ∷ [])
+    IsWithin near (reach_by first st journal) → IsBoundedAt near (after_events st journal) event limit → AreBounded first st (journal ++ event ∷ []) (limits ++ limit ∷ [])
 bounded_push first near st limits journal limit event answers b within o =
     let now = after_events st journal in
     let behind = behind_within near (reach_by first st journal) now event within in
-    bounded_more first st limits journal limit event answers b (bounded_later (reach_behind near now event) (reach_behind (reach_by first st journal) now event) limit behind o)
+    bounded_more first st limits journal limit event answers b (at_later (is_idle_step now event) (reach_behind near now event) (reach_behind (reach_by first st journal) now event) limit behind o)
 
 -- ---- order
 

@@ -1,7 +1,7 @@
 use Rattle.std.proofs.Common.{◌+◌}
-use Rattle.std.proofs.Math.Nat.{le_refl}
+use Rattle.db_tree.specs.Splits.{one_if}
 use Rattle.db_tree.specs.Waiting.{waiting_of, count_lows}
-use Rattle.db_tree.proofs.LoadingLaws.{more_then, loaded, set_few, few_three, both_few}
+use Rattle.db_tree.proofs.LoadingLaws.{more_then, loaded, set_few, set_net, few_three, both_few, net_three}
 use Rattle.db_tree.proofs.loading.put_node.Goals as goal
 
 pub returns-clause-loaded : goal.returns-clause-loaded
@@ -12,10 +12,9 @@ returns-clause-loaded c =
 
 pub returns-clause-few : goal.returns-clause-few
 returns-clause-few c =
-    few_three (count_lows (waiting_of c.args.levels.now)) (count_lows (waiting_of c.raise_to.new.levels)) (count_lows (waiting_of c.put_lows.new.levels)) (count_lows (waiting_of c.set.new.self)) c.in_ok-raised.raised c.in_ok-made.made
-    (c.in_ok-raised.raised + c.in_ok-made.made + 1) c.in_ok-raised.ensures.few c.in_ok-made.ensures.few
-    (set_few c.put_lows.new.levels c.set.new.self c.args.level c.args.low.now c.args.node c.height-height.ensures.parts c.set.ensures.parts c.in_ok-made.ensures.here c.set.ensures.put)
-    (le_refl (c.in_ok-raised.raised + c.in_ok-made.made + 1))
+    net_three (count_lows (waiting_of c.args.levels.now)) (count_lows (waiting_of c.raise_to.new.levels)) (count_lows (waiting_of c.put_lows.new.levels)) (count_lows (waiting_of c.set.new.self)) c.in_ok-raised.raised c.in_ok-made.made
+    (one_if c.args.node.forced) (one_if c.waits_there-replaced.result) c.in_ok-raised.ensures.few c.in_ok-made.ensures.few
+    (set_net c.put_lows.new.levels c.set.new.self c.args.level c.args.low.now c.args.node c.waits_there-replaced.result c.height-height.ensures.parts c.set.ensures.parts c.in_ok-made.ensures.here c.set.ensures.put c.waits_there-replaced.ensures)
 
 pub returns-clause-most : goal.returns-clause-most
 returns-clause-most c =

@@ -7,7 +7,7 @@ use Rattle.log_meaning.specs.Checkpoint.{Checkpoint, no_checkpoint, last_checkpo
 use Rattle.log_meaning.specs.Meaning.{most, node_number, db_number}
 use Rattle.log_meaning.specs.Reading.{meaning_in, redo_corruption}
 use Rattle.recovery_je.specs.Recovering.{IsWalked, IsWrong}
-use Rattle.recovery_je.specs.Putting.{AreRootsPut}
+use Rattle.recovery_je.specs.Putting.{AreRootsPut, count_from}
 use Rattle.recovery_je.proofs.ReadAgain.{are_read}
 use Rattle.recovery_je.proofs.MeaningLaws.{meant, found_wrong, handed_on, same_stored}
 use Rattle.recovery_je.proofs.recovering.recover_entries.Goals as goal
@@ -52,6 +52,14 @@ returns-clause-meant g c =
     ∙ ap (λ (n : ℕ). max n c.max-3.result) (c.greatest_db-roots_db.ensures ∙ ap (most (λ (r : Root). r.db)) c.as_slice.ensures)
     ∙ ap (λ (n : ℕ). max (most (λ (r : Root). r.db) e.roots) n) (c.max-3.ensures ∙ ap (λ (n : ℕ). max c.in_ok-walked.walked.numbers.db n)
     (c.of-numbers.ensures.db ∙ ap (λ (l : List Placed). most (λ (p : Placed). db_number p.1) (from e.redo l)) c.deref-3.ensures.value))))
+
+pub returns-clause-redone : goal.returns-clause-redone
+returns-clause-redone g c =
+    let es = c.args.entries.items in
+    let e : Checkpoint = record { at = c.end.inside.at; number = c.end.inside.number; redo = c.end.inside.redo; last_txn = c.end.inside.last_txn; last_node = c.end.inside.last_node; last_db = c.end.inside.last_db; roots = c.end.inside.roots } in
+    let found_end : c.in_ok-end.end ≡ last_end es = c.in_ok-end.ensures ∙ ap last_end c.deref.ensures.value in
+    let at : e ≡ last_checkpoint es = c.end.view_is ∙ c.or_none-end.ensures ∙ ap (λ (o : Option Checkpoint). unwrap_or o no_checkpoint) found_end in
+    c.count_from-redone.ensures ∙ ap (λ (l : List Placed). count_from e.redo l) c.deref-4.ensures.value ∙ ap (λ (k : Checkpoint). count_from k.redo es) at
 
 pub returns-clause-fits : goal.returns-clause-fits
 returns-clause-fits g c =

@@ -1,4 +1,4 @@
-use Rattle.std.proofs.Common.{◌≡◌, ◌∙◌, sym, subst, map, arith, Err, Option, None, List, ℕ}
+use Rattle.std.proofs.Common.{◌≡◌, ◌∙◌, sym, subst, map, Err, Option, None, List, ℕ}
 use Rattle.log_meaning.specs.Reading.{reading_of, meaning_in}
 use Rattle.recovery_je.specs.declared.recovered.Recovered.{Recovered}
 use Rattle.recovery_je.specs.Files.{AreRead}
@@ -27,16 +27,16 @@ returns-in_err-meant-in-All-clause-index g c observable reads read =
 pub returns-in_ok-meant-in-All-clause-recovered : goal.returns-in_ok-meant-in-All-clause-recovered
 returns-in_ok-meant-in-All-clause-recovered g c observable reads read =
     let made = c.in_ok-meant-in-All.meant in
-    ok_weaker (λ r. (made.settled.wrong_index ≡ None) × (r ≡ recovered_with made c.len-count.result c.in-All.tail)) _ c.check_index.result
+    ok_weaker (λ r. (made.settled.wrong_index ≡ None) × (r ≡ recovered_with made c.in-All.tail)) _ c.check_index.result
     (λ r is. subst
     (λ (x : Recovered _). IsReadingOf observable reads c.args.files.now
     (IsRecoveredFrom (record { store = x.opening; last_txn = x.last_txn; last_node = x.last_node; last_db = x.last_db; checkpoint = x.checkpoint }) (g.T.Loads.has_tree x.trees) (g.T.Loads.stored x.trees) x.databases x.records
-    x.entries x.tail (HasReadAgain g.T.Loads.well_formed g.T.Loads.nodes g.T.Loads.stored g.T.Loads.last_number g.T.Loads.fits x.trees x.redo))) (sym is.1)
+    x.redone x.tail (HasReadAgain g.T.Loads.well_formed g.T.Loads.nodes g.T.Loads.stored g.T.Loads.last_number g.T.Loads.fits x.trees x.redo))) (sym is.1)
     (recovered observable reads c.args.files.now c.in-All.entries.items c.in-All.tail
     (record { store = made.settled.opening; last_txn = made.last_txn; last_node = made.last_node; last_db = made.last_db; checkpoint = made.checkpoint })
-    (g.T.Loads.has_tree made.settled.trees) (g.T.Loads.stored made.settled.trees) made.settled.databases made.settled.records c.len-count.result
+    (g.T.Loads.has_tree made.settled.trees) (g.T.Loads.stored made.settled.trees) made.settled.databases made.settled.records made.redone
     (HasReadAgain g.T.Loads.well_formed g.T.Loads.nodes g.T.Loads.stored g.T.Loads.last_number g.T.Loads.fits made.settled.trees made.redo) c.requires.files
-    (subst (AreRead observable reads c.args.files.now) c.in-All.is read) (omega (arith, c.len-count.ensures, c.in-All.entries.ok.0)) c.in_ok-meant-in-All.ensures.meant c.in_ok-meant-in-All.ensures.fits
+    (subst (AreRead observable reads c.args.files.now) c.in-All.is read) c.in_ok-meant-in-All.ensures.redone c.in_ok-meant-in-All.ensures.meant c.in_ok-meant-in-All.ensures.fits
     (subst (λ (o : Option (List ℕ)). IsIndexCheck made.settled.opening o) is.0 c.in_ok-meant-in-All.ensures.index)))
     c.check_index.ensures.recovered
 
