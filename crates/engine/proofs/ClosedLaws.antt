@@ -1,7 +1,7 @@
 -- A guarded run that was closed, and one that begins.
 use Rattle.std.proofs.Common.{◌≡◌, ℕ, ◌≤◌, Bool, true, false, true≢false, List, [], Option, None, length, refl, ap, sym, ◌∙◌, subst, arith, inl}
 use Rattle.std.proofs.lemmas.List.{append-nil, take_all}
-use Rattle.je_disk.specs.States.{Files, State}
+use Rattle.je_disk.specs.States.{Files, State, synced_crash_states}
 use Rattle.je_disk.specs.Moments.{History, now}
 use Rattle.je_disk.proofs.MomentLaws.{passes_none}
 use Rattle.store_model.specs.declared.change.Change.{Change}
@@ -14,7 +14,7 @@ use Rattle.je_answers.specs.After.{after_events}
 use Rattle.je_answers.specs.Journal.{has_answer, is_disk_fault}
 use Rattle.log_file.specs.Log.{Log, entries_of}
 use Rattle.log_buffer.specs.declared.buffer.LogBuffer.{LogBuffer}
-use Rattle.log_buffer.specs.Buffer.{first_of, has_failed}
+use Rattle.log_buffer.specs.Buffer.{first_of, has_failed, file_max_of}
 use Rattle.log_buffer.specs.Crash.{HoldPrefixes, Holds, IsKeptSince, KeepsRead, KeptThrough}
 use Rattle.log_buffer.specs.Log.{HasLog}
 use Rattle.log_buffer.proofs.ChanceMatches.{past_is_held}
@@ -29,6 +29,7 @@ use Rattle.engine.specs.Files.{MeanStore}
 use Rattle.engine.specs.Guarded.{CoversSync, IsGuardedLog, IsKeeping, IsRead}
 use Rattle.engine.proofs.GuardLaws.{keeping_read, one_log}
 use Rattle.engine.proofs.SafeLaws.{as_many, files_on, goes_on, grown_same, none_more, past_on, read_on, safe}
+use Rattle.engine.proofs.LengthLaws.{sizes_found}
 
 module _ {D : Type 0} where
   -- a run that was closed; one whose buffer has failed was let go
@@ -92,8 +93,9 @@ module _ {D : Type 0} where
   -- where the model stands at a log's store, of which a crash keeps all
   pub guarded_none : (first : ℕ) (p : Alone) (log : Log) (history : History) (buffer : LogBuffer D) → p.fault ≡ None → p.commits ≡ 0 → p.begun ≡ None →
       HasLog true (now history) buffer log → Holds log [] (length (entries_of log)) None (first_of buffer) (now history) → RecoversLog first p.store (length (placed log)) [] log →
+      (now history).crash_states ≡ synced_crash_states (now history).reads →
       IsGuardedLog (alone p) log history history buffer []
-  guarded_none first p log history buffer none commits out has holds recovers =
+  guarded_none first p log history buffer none commits out has holds recovers stable =
       let count : ℕ = length (entries_of log) in
       let keeping : IsKeeping (now history) buffer log count None = record { has = has; holds = holds } in
       let keeps : KeepsRead log [] count (now history) = keeping_read (now history) buffer log count None keeping in
@@ -117,4 +119,6 @@ module _ {D : Type 0} where
         faultless = λ valid. refl;
         files = λ k lo hi. let at : k ≡ history.moment = omega (arith, lo, hi) in stay_same (now history).reads (history.state_at k).reads (ap (λ n. (history.state_at n).reads) at);
         past = past;
+        most = file_max_of buffer;
+        sizes = λ valid. record { max = refl; sizes = sizes_found (file_max_of buffer) log (now history).reads (now history).crash_states has.is_log holds.kept.keeps stable };
       }

@@ -20,6 +20,7 @@ use Rattle.log_buffer.proofs.BufferLog.{log_kept}
 use Rattle.log_buffer.proofs.Prefixes.{observed_prefixes}
 use Rattle.log_trees.specs.Placed.{placed}
 use Rattle.log_meaning.specs.Recovery.{commits_in}
+use Rattle.engine.specs.Lengths.{KeepsSizes}
 use Rattle.engine.specs.Guarded.{CoversSync, IsKeeping, IsGuardedLog}
 use Rattle.engine.specs.Syncs.{is_sync}
 use Rattle.engine.proofs.Begun.{stays_out}
@@ -70,8 +71,9 @@ module _ {D : Type 0} where
       (has_failed longer ≡ false → (after_event (after_events st journal) event).fault ≡ None) →
       ((after_event (after_events st journal) event).fault ≡ None → ((after_events st journal).fault ≡ None) × (answers_some is_disk_fault event ≡ false)) →
       (has_answer is_disk_fault journal ≡ true → new.moment ≤ old.moment) →
+      ((after_event (after_events st journal) event).fault ≡ None → KeepsSizes g.most (now start).reads longer log) →
       IsGuardedLog st log start new longer (journal ++ event ∷ [])
-  guarded_same st log start old new buffer longer journal event begun least g none through rises keeps durable works covers stops quiet still =
+  guarded_same st log start old new buffer longer journal event begun least g none through rises keeps durable works covers stops quiet still sizes =
       let all : List Event = journal ++ event ∷ [] in
       let attempts : attempts_of st all ≡ g.kept.logged ++ g.kept.cut =
       attempts-push st journal event ∙ ap (λ (l : List (List Change)). attempts_of st journal ++ l) none ∙ append-nil (attempts_of st journal) ∙ g.kept.attempts in
@@ -84,6 +86,7 @@ module _ {D : Type 0} where
       (λ ok. subst (λ (s : Standing). s.fault ≡ None) (sym stands) (stops ok))
       (λ fault. quiet (subst (λ (s : Standing). s.fault ≡ None) stands fault))
       still
+      (λ fault. sizes (subst (λ (s : Standing). s.fault ≡ None) stands fault))
 
   -- where no fault came before, time goes on
   pub goes_freely : (st : Standing) (log : Log) (start : History) (old new : History) (buffer : LogBuffer D) (journal : List Event) → IsGuardedLog st log start old buffer journal →
@@ -103,3 +106,4 @@ module _ {D : Type 0} where
       (λ ok. fault ∙ g.stops ok)
       (λ valid. (sym fault ∙ valid, calm))
       (λ before. omega arith)
+      (λ valid. g.sizes (sym fault ∙ valid))

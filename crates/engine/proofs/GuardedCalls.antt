@@ -15,6 +15,7 @@ use Rattle.log_buffer.specs.Log.{HasLog}
 use Rattle.engine.specs.Crash.{AreSafeEvents, Follows}
 use Rattle.engine.specs.Guarded.{IsGuardedLog, IsKeeping, IsRead}
 use Rattle.engine.proofs.GuardLaws.{keeping_unchanged}
+use Rattle.engine.proofs.LengthLaws.{sizes_other}
 use Rattle.engine.proofs.SafeLaws.{IsGrownFrom, grown_by}
 
 module _ {D : Type 0} where
@@ -53,6 +54,8 @@ module _ {D : Type 0} where
         faultless = g.faultless;
         files = subst (λ (h : History). (k : ℕ) → start.moment ≤ k → k ≤ h.moment → FilesStay (now start).reads (h.state_at k).reads) alike g.files;
         past = subst (λ (h : History). (k : ℕ) → start.moment ≤ k → k ≤ h.moment → HoldPrefixes log (h.state_at k).reads) alike g.past;
+        most = g.most;
+        sizes = λ valid. sizes_other g.most (now start).reads buffer other log same.kept.max (g.sizes valid);
       }
 
   -- a buffer's log, longer

@@ -34,6 +34,8 @@ use Rattle.txn_log.specs.Own.{OwnChange}
 use Rattle.txn_log.specs.Buffers.{HasAdded, HasFailed, HasGiven, MayAddChanges, MayCommit}
 use Rattle.txn_log.proofs.BufferLaws.{changes_are_recovered, commit_is_recovered, tried_changes_are_recovered, tried_commit_decided, tried_commit_is_recovered}
 use Rattle.engine.specs.Guarded.{IsGuardedLog, IsKeeping, CoversSync}
+use Rattle.engine.specs.Lengths.{KeepsSizes}
+use Rattle.engine.proofs.LengthLaws.{sizes_more}
 use Rattle.engine.proofs.GuardLaws.{goes_freely, guarded_quiet, keeping_read, one_log}
 use Rattle.engine.proofs.GuardedCalls.{grown_longer, guarded_along}
 use Rattle.engine.proofs.ObservedLaws.{as_observed, of_observed}
@@ -96,8 +98,9 @@ module _ {D : Type 0} where
       ((after_event (after_events st journal) event).fault ≡ None → CoversSync (after_events st journal).begun g.base grown g.begun) →
       ((after_event (after_events st journal) event).fault ≡ None → cut ≡ []) →
       (has_failed other ≡ false → (after_event (after_events st journal) event).fault ≡ None) →
+      ((after_event (after_events st journal) event).fault ≡ None → KeepsSizes g.most (now start).reads other grown) →
       IsGuardedLog st grown start new other (journal ++ event ∷ [])
-  guarded_event st log start old new buffer other journal event more grown logged cut g is grows before through keeps works covers whole stops =
+  guarded_event st log start old new buffer other journal event more grown logged cut g is grows before through keeps works covers whole stops sizes =
       let then_ : after_events st (journal ++ event ∷ []) ≡ after_event (after_events st journal) event = after_events-append st journal (event ∷ []) in
       let out : (after_events st (journal ++ event ∷ [])).begun ≡ (after_events st journal).begun =
       ap (λ (s : Standing). s.begun) then_ ∙ stays_out (after_events st journal) event is.other in
@@ -112,6 +115,7 @@ module _ {D : Type 0} where
       (λ ok. ap (λ (s : Standing). s.fault) then_ ∙ stops ok)
       (λ fault. (before, (works (sym (ap (λ (s : Standing). s.fault) then_) ∙ fault)).1))
       (goes_freely st log start old new buffer journal g before)
+      (λ fault. sizes (sym (ap (λ (s : Standing). s.fault) then_) ∙ fault))
 
   -- an event that logs nothing
   pub guarded_idle : (history_of : D → History) (st : Standing) (log : Log) (start : History) (buffer other : LogBuffer D) (journal : List Event) (event : Event) → is_sync event ≡ false → IsUnchanged buffer other →
@@ -149,6 +153,7 @@ module _ {D : Type 0} where
         (λ fault. (kept, by.calm))
         (λ fault. covers_grown (after_events st journal).begun g.base log (longer buffer entries log) g.begun (grown_longer (now (history (disk_of buffer))) buffer log g.base entries keeping.has) (g.covers by.before))
         (λ fault. refl) (λ ok. by.after)
+        (λ fault. sizes_more g.most (now start).reads buffer other log entries grew.max keeping.has.is_log keeping.has.ends (g.sizes by.before))
 
     -- an event behind whose first entries the disk failed; the log recovers all that was attempted, or all but these
     pub guarded_tried : (st : Standing) (log : Log) (start : History) (buffer other : LogBuffer D) (journal : List Event) (event : Event) (more : List (List Change)) (front : List Entry) →
@@ -191,7 +196,7 @@ module _ {D : Type 0} where
             by.before through
             (passes_now old new (KeepsRead grown [] g.least) (read_through grown [] g.least old new through)
             (read_with_all log [] (end_of buffer) (file_max_of buffer) g.least front (now old) (ends_in log (end_of buffer) (last_of buffer) keeping.has.is_log keeping.has.ends) g.kept.keeps))
-            (λ fault. absurd (by.after fault)) (λ fault. absurd (by.after fault)) (λ fault. absurd (by.after fault)) (λ ok. (let failed = tried.failed in absurd cc))
+            (λ fault. absurd (by.after fault)) (λ fault. absurd (by.after fault)) (λ fault. absurd (by.after fault)) (λ ok. (let failed = tried.failed in absurd cc)) (λ fault. absurd (by.after fault))
 
         by_recovered : RecoversLog g.kept.first st.store g.base g.kept.logged grown ⊎ RecoversLog g.kept.first st.store g.base (g.kept.logged ++ more) grown →
             IsGuardedLog st grown start new other (journal ++ event ∷ [])

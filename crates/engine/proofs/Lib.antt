@@ -28,6 +28,8 @@ pub mod TransactionGrowth
 pub mod StepLaws
 -- Where an environment stands after a sync, and after a fault of the disk.
 pub mod SyncedStanding
+-- How long the files of a log get.
+pub mod LengthLaws
 -- A run whose disk was safe so far, one event later.
 pub mod SafeLaws
 -- A guarded run goes on by one event.

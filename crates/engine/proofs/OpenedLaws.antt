@@ -444,7 +444,7 @@ module _ {D : Type 0} where
         here = here.here;
         reach = here.reach;
         stable = stable;
-        guarded = (found_log 0 w.held, guarded_none (first_of_found 0 w.held) p (found_log 0 w.held) history engine.trees.log refl refl refl is.ready.has holds (opened_log true reads r w).recovers);
+        guarded = (found_log 0 w.held, guarded_none (first_of_found 0 w.held) p (found_log 0 w.held) history engine.trees.log refl refl refl is.ready.has holds (opened_log true reads r w).recovers stable);
       }
 
   kept_under : (r : Recovered Trees) (bound : ℕ) (buffer : LogBuffer D) (engine : Engine D) → HasBegun buffer r bound engine → engine.kept ≡ kept_at_start r bound (end_of engine.trees.log) engine.kept.checkpoints engine.kept.indexes engine.kept.names

@@ -36,6 +36,7 @@ use Rattle.crash_recovery.specs.Recovery.{IsImageRecovered, RecoversLog, IsState
 use Rattle.crash_recovery.proofs.Commits.{commits_stay, kept_are_within}
 use Rattle.crash_recovery.proofs.ImageStores.{states_recover, wider_image, wider_is_recovered, written_recover}
 use Rattle.engine.specs.Crash.{Follows, IsSafe, IsSafeEvent, AreSafeEvents, IsSafeBehind}
+use Rattle.engine.specs.Lengths.{KeepsSizes}
 use Rattle.engine.specs.Guarded.{CoversSync, IsKeeping, IsGuardedLog, IsRead}
 
 -- ---- entries
@@ -308,8 +309,9 @@ module _ {D : Type 0} where
       (has_failed longer ≡ false → (after_events st (journal ++ event ∷ [])).fault ≡ None) →
       ((after_events st (journal ++ event ∷ [])).fault ≡ None → ((after_events st journal).fault ≡ None) × (answers_some is_disk_fault event ≡ false)) →
       (has_answer is_disk_fault journal ≡ true → new.moment ≤ old.moment) →
+      ((after_events st (journal ++ event ∷ [])).fault ≡ None → KeepsSizes g.most (now start).reads longer grown) →
       IsGuardedLog st grown start new longer (journal ++ event ∷ [])
-  guarded_by st log grown start old new buffer longer journal event begun least logged cut g recovers grows attempts through synced rises keeps durable read works covers whole stops quiet still =
+  guarded_by st log grown start old new buffer longer journal event begun least logged cut g recovers grows attempts through synced rises keeps durable read works covers whole stops quiet still sizes =
       let all : List Event = journal ++ event ∷ [] in
       let first : ℕ = g.kept.first in
       let from : g.base ≤ g.least = g.kept.from in
@@ -338,6 +340,8 @@ module _ {D : Type 0} where
         faultless = λ fault. let before_it = quiet fault in none-push is_disk_fault journal event (g.faultless before_it.0) before_it.1;
         files = files_on grown g.least start old new g.since.later g.files through;
         past = past;
+        most = g.most;
+        sizes = sizes;
       }
 
   -- the same where the event says that no more commits are written than a crash keeps
@@ -357,11 +361,12 @@ module _ {D : Type 0} where
       (has_failed longer ≡ false → (after_events st (journal ++ event ∷ [])).fault ≡ None) →
       ((after_events st (journal ++ event ∷ [])).fault ≡ None → ((after_events st journal).fault ≡ None) × (answers_some is_disk_fault event ≡ false)) →
       (has_answer is_disk_fault journal ≡ true → new.moment ≤ old.moment) →
+      ((after_events st (journal ++ event ∷ [])).fault ≡ None → KeepsSizes g.most (now start).reads longer grown) →
       IsGuardedLog st grown start new longer (journal ++ event ∷ [])
-  guarded_on st log grown start old new buffer longer journal event begun least logged cut g recovers grows attempts through synced rises keeps written works covers whole stops quiet still =
+  guarded_on st log grown start old new buffer longer journal event begun least logged cut g recovers grows attempts through synced rises keeps written works covers whole stops quiet still sizes =
       let from : g.base ≤ g.least = g.kept.from in
       let low = durable-written event in
       guarded_by st log grown start old new buffer longer journal event begun least logged cut g recovers grows attempts through synced rises keeps (omega (arith, low, written))
       (read_event g.base grown g.least least (now new) journal event (omega (arith, from, rises)) rises keeps written
       (read_on g.base log grown g.least (now old) (now new) journal grows (stay_now grown [] g.least old new through) g.kept.read))
-      works covers whole stops quiet still
+      works covers whole stops quiet still sizes

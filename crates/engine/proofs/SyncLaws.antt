@@ -14,12 +14,13 @@ use Rattle.je_answers.specs.Journal.{attempts_of, commits_of}
 use Rattle.je_answers.proofs.Commits.{commits-make_the_store, attempts-go_on}
 use Rattle.log_file.specs.Log.{Log, entries_of}
 use Rattle.log_buffer.specs.declared.buffer.LogBuffer.{LogBuffer}
-use Rattle.log_buffer.specs.Buffer.{has_failed}
+use Rattle.log_buffer.specs.Buffer.{file_max_of, has_failed}
 use Rattle.log_buffer.specs.Crash.{KeepsRead, KeptThrough}
 use Rattle.log_buffer.proofs.Staying.{read_through}
 use Rattle.crash_recovery.proofs.Commits.{all_are_committed}
 use Rattle.engine.specs.Guarded.{CoversSync, IsKeeping, IsGuardedLog}
 use Rattle.engine.proofs.GuardLaws.{goes_freely, guarded_same, keeping_read}
+use Rattle.engine.proofs.LengthLaws.{sizes_other}
 
 -- the last moment, where time may have stood still
 pub passes_now : (old new : History) (P : State → Type 0) → Passes old new P → P (now old) → P (now new)
@@ -55,16 +56,17 @@ module _ {D : Type 0} where
 
   -- a sync began, of all that was committed so far
   pub begun_safely : (st : Standing) (log : Log) (start : History) (old new : History) (buffer longer : LogBuffer D) (journal : List Event) → (after_events st journal).fault ≡ None →
-      (g : IsGuardedLog st log start old buffer journal) → KeptThrough old new log [] g.least →
+      (g : IsGuardedLog st log start old buffer journal) → KeptThrough old new log [] g.least → file_max_of longer ≡ file_max_of buffer →
       IsKeeping (now new) longer log g.least (Some (length (entries_of log))) →
       IsGuardedLog st log start new longer (journal ++ SyncBegin Done ∷ [])
-  begun_safely st log start old new buffer longer journal none g through keeping =
+  begun_safely st log start old new buffer longer journal none g through max keeping =
       let few = commits_attempted st journal g.none_before in
       let all = ap (λ (l : List (List Change)). length l) (all_logged st log start old buffer journal g none) in
       let committed = (all_are_committed g.kept.first st.store g.base g.kept.logged log g.kept.recovers).1 in
       guarded_same st log start old new buffer longer journal (SyncBegin Done) (Some (length (entries_of log))) g.least g refl through (omega arith)
       (keeping_read (now new) longer log g.least (Some (length (entries_of log))) keeping) (omega arith)
       (λ fault. keeping) (λ fault. (omega arith, omega (arith, few, all, committed))) (λ ok. none) (λ fault. (none, refl)) (goes_freely st log start old new buffer journal g none)
+      (λ fault. sizes_other g.most (now start).reads buffer longer log max (g.sizes none))
 
   -- a sync could not begin
   pub not_begun_safely : (st : Standing) (log : Log) (start : History) (old new : History) (buffer longer : LogBuffer D) (journal : List Event) → (after_events st journal).fault ≡ None →
@@ -73,21 +75,22 @@ module _ {D : Type 0} where
   not_begun_safely st log start old new buffer longer journal none g through failed =
       guarded_same st log start old new buffer longer journal (SyncBegin DiskFault) None g.least g refl through (omega arith)
       (passes_now old new (KeepsRead log [] g.least) (read_through log [] g.least old new through) g.kept.keeps) (omega arith)
-      (λ fault. absurd cc) (λ fault. absurd cc) (λ ok. absurd cc) (λ fault. absurd cc) (goes_freely st log start old new buffer journal g none)
+      (λ fault. absurd cc) (λ fault. absurd cc) (λ ok. absurd cc) (λ fault. absurd cc) (goes_freely st log start old new buffer journal g none) (λ fault. absurd cc)
 
   -- a sync ended, and made durable what was committed as it began, whatever was logged since
   pub ended_safely : (st : Standing) (log : Log) (start : History) (commits entries : ℕ) (old new : History) (buffer longer : LogBuffer D) (journal : List Event) → (after_events st journal).fault ≡ None →
       (after_events st journal).begun ≡ Some commits →
-      (g : IsGuardedLog st log start old buffer journal) → g.begun ≡ Some entries → KeptThrough old new log [] g.least → g.least ≤ entries →
+      (g : IsGuardedLog st log start old buffer journal) → g.begun ≡ Some entries → KeptThrough old new log [] g.least → g.least ≤ entries → file_max_of longer ≡ file_max_of buffer →
       IsKeeping (now new) longer log entries None →
       IsGuardedLog st log start new longer (journal ++ SyncEnd (Durable commits) ∷ [])
-  ended_safely st log start commits entries old new buffer longer journal none began g is through rises keeping =
+  ended_safely st log start commits entries old new buffer longer journal none began g is through rises max keeping =
       let covered : CoversSync (Some commits) g.base log (Some entries) =
       subst (λ (n : Option ℕ). CoversSync n g.base log (Some entries)) began (subst (λ (b : Option ℕ). CoversSync (after_events st journal).begun g.base log b) is (g.covers none)) in
       let few = covered.1 in
       guarded_same st log start old new buffer longer journal (SyncEnd (Durable commits)) None entries g refl through
       rises (keeping_read (now new) longer log entries None keeping) (omega (arith, few))
       (λ fault. keeping) (λ fault. tt) (λ ok. none) (λ fault. (none, refl)) (goes_freely st log start old new buffer journal g none)
+      (λ fault. sizes_other g.most (now start).reads buffer longer log max (g.sizes none))
 
   -- the disk failed as it ended
   pub not_ended_safely : (st : Standing) (log : Log) (start : History) (old new : History) (buffer longer : LogBuffer D) (journal : List Event) → (after_events st journal).fault ≡ None →
@@ -96,4 +99,4 @@ module _ {D : Type 0} where
   not_ended_safely st log start old new buffer longer journal none g through failed =
       guarded_same st log start old new buffer longer journal (SyncEnd DiskFault) None g.least g refl through (omega arith)
       (passes_now old new (KeepsRead log [] g.least) (read_through log [] g.least old new through) g.kept.keeps) (omega arith)
-      (λ fault. absurd cc) (λ fault. absurd cc) (λ ok. absurd cc) (λ fault. absurd cc) (goes_freely st log start old new buffer journal g none)
+      (λ fault. absurd cc) (λ fault. absurd cc) (λ ok. absurd cc) (λ fault. absurd cc) (goes_freely st log start old new buffer journal g none) (λ fault. absurd cc)

@@ -31,6 +31,7 @@ use Rattle.txn_log.specs.Buffers.{HasGiven}
 use Rattle.txn_log.specs.Gives.{GivesRecordsWith}
 use Rattle.engine.specs.Guarded.{CoversSync, IsGuardedLog, IsKeeping, IsRead}
 use Rattle.engine.proofs.GuardLaws.{goes_freely, guarded_same, keeping_read}
+use Rattle.engine.proofs.LengthLaws.{sizes_other}
 use Rattle.engine.proofs.ObservedLaws.{as_observed, of_observed}
 use Rattle.engine.proofs.SafeLaws.{as_many, attempts-push, grown_same, guarded_by, written-push}
 use Rattle.engine.proofs.SyncLaws.{commits_attempted, passes_now}
@@ -83,6 +84,7 @@ module _ {D : Type 0} where
         (grew.crash observed log [] g.least g.begun has keeping.holds) g.kept.synced (omega arith) keeps (omega arith) read
         (λ fault. kept) (λ fault. subst (λ (t : Standing). CoversSync t.begun g.base log g.begun) (sym then_) (g.covers none)) (λ fault. g.all none) (λ ok. ap (λ (s : Standing). s.fault) then_ ∙ none) (λ fault. (none, refl))
         (goes_freely st log start old new buffer journal g none)
+        (λ fault. sizes_other g.most (now start).reads buffer other log grew.max (g.sizes none))
 
     -- the disk failed meanwhile
     pub not_written_safely : (st : Standing) (log : Log) (start : History) (buffer other : LogBuffer D) (journal : List Event) → observable ≡ true → (after_events st journal).fault ≡ None →
@@ -96,7 +98,7 @@ module _ {D : Type 0} where
         let failed = tried.failed in
         guarded_same st log start old new buffer other journal (WriteOut DiskFault) g.begun g.least g refl through (omega arith)
         (passes_now old new (KeepsRead log [] g.least) (read_through log [] g.least old new through) g.kept.keeps) (omega arith)
-        (λ fault. absurd cc) (λ fault. absurd cc) (λ ok. absurd cc) (λ fault. absurd cc) (goes_freely st log start old new buffer journal g none)
+        (λ fault. absurd cc) (λ fault. absurd cc) (λ ok. absurd cc) (λ fault. absurd cc) (goes_freely st log start old new buffer journal g none) (λ fault. absurd cc)
 
     -- where the log got nothing it gives what it did
     pub given_on : (buffer other : LogBuffer D) (log : Log) (rows : Rows) (last_txn last_db : ℕ) (is_active : ℕ → Bool) (own : ℕ → List OwnChange) → Grew observable history sync_out read_out read_of buffer other [] →

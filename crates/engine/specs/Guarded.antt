@@ -18,6 +18,7 @@ use Rattle.log_trees.specs.Placed.{placed}
 use Rattle.log_meaning.specs.Recovery.{commits_in}
 use Rattle.crash_recovery.specs.Recovery.{RecoversLog}
 use Rattle.engine.specs.Crash.{AreSafeEvents, Follows, IsSafe}
+use Rattle.engine.specs.Lengths.{KeepsSizes}
 
 -- what the disk reads holds at least so many of a log's entries: a crash keeps them, or they were written
 abbrev pub HoldsRead : Log → ℕ → ℕ → State → Type 0
@@ -57,7 +58,8 @@ module _ {D : Type 0} where
     pub has : HasLog true state buffer log
     pub holds : Holds log [] least begun (first_of buffer) state
 
-  -- A run under way whose disk was safe at each moment of it, and the log that it has now. What the disk read at each moment was a prefix of that log. A buffer that works has met no fault, and has the log.
+  -- A run under way whose disk was safe at each moment of it, and the log that it has now. What the disk read at each moment was a prefix of that log. A buffer that works
+  -- has met no fault, and has the log, each file of which is as long as it may be, beside what it was as the run began.
   pub record IsGuardedLog (st : Standing) (log : Log) (start : History) (history : History) (buffer : LogBuffer D) (journal : List Event) : Type 0 where
     pub since : Follows start history
     pub begins : IsSafe st start.moment start start.moment [] []
@@ -74,6 +76,8 @@ module _ {D : Type 0} where
     pub faultless : (after_events st journal).fault ≡ None → has_answer is_disk_fault journal ≡ false
     pub files : (k : ℕ) → start.moment ≤ k → k ≤ history.moment → FilesStay (now start).reads (history.state_at k).reads
     pub past : (k : ℕ) → start.moment ≤ k → k ≤ history.moment → HoldPrefixes log (history.state_at k).reads
+    pub most : ℕ
+    pub sizes : (after_events st journal).fault ≡ None → KeepsSizes most (now start).reads buffer log
 
   -- a buffer that works has this log, and a crash keeps at least so many of its entries
   abbrev pub KeepsIfWorks : Bool → State → LogBuffer D → Log → ℕ → Type 0

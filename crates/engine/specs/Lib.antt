@@ -7,5 +7,6 @@ pub mod Steps
 pub mod Files
 pub mod Opening
 pub mod Crash
+pub mod Lengths
 pub mod Guarded
 pub mod Whole

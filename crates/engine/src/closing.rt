@@ -7,7 +7,7 @@ ghost use Rattle.je_answers.specs.Standing.{Standing};
 ghost use Rattle.je_answers.specs.After.{after_events};
 ghost use Rattle.log_buffer.specs.Buffer.{disk_of as disk_below, has_failed};
 ghost use Rattle.log_buffer.specs.Crash.{KeepsRead, KeptThrough};
-ghost use Rattle.log_buffer.specs.Log.{HasLog};
+ghost use Rattle.log_buffer.specs.Log.{HasLog, ReadAs};
 ghost use Rattle.log_file.specs.Log.{Log, entries_of};
 ghost use Rattle.engine.specs.Crash.{ImagesMean, IsSafeRun};
 ghost use Rattle.engine.specs.Files.{MeanStore};
@@ -34,6 +34,7 @@ pub struct Closed<D> {
 pub fn close_log<D: Disk>(log: LogBuffer<D>) -> (D, bool)
     ensures crash { D.observable ≡ true → (held : Log) (least : ℕ) → KeepsIfWorks (has_failed log) (now (D.history (disk_below log))) log held least → KeptThrough (D.history (disk_below log)) (D.history result.0) held [] least }
     ensures kept { D.observable ≡ true → (held : Log) → HasLog D.observable (now (D.history (disk_below log))) log held → has_failed log ≡ false → result.1 ≡ false → KeepsRead held [] (length (entries_of held)) (now (D.history result.0)) }
+    ensures whole { (held : Log) → HasLog D.observable (now (D.history (disk_below log))) log held → has_failed log ≡ false → result.1 ≡ false → ReadAs D.observable (now (D.history result.0)).reads held }
     ensures still { has_failed log ≡ true → result.0 ≡ disk_below log }
     ensures cause { result.1 ≡ true → HasRisen (D.faults (disk_below log)) (D.faults result.0) }
     ensures never_falls { D.faults (disk_below log) ≤ D.faults result.0 }

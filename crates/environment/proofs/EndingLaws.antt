@@ -485,6 +485,8 @@ module _ {D : Type 0} where
         stops = λ ok. h.stops (sym same.failed ∙ ok);
         faultless = h.faultless;
         files = h.files;
+        most = h.most;
+        sizes = λ none. absurd (none-some first (sym none ∙ fault));
       }
 
   pub ended_safely : (history_of : D → History) (st : Standing) (log : Log) (start : History) (buffer other : LogBuffer D) (journal : List Event) (session : ℕ) → IsUnchanged buffer other →

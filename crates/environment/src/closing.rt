@@ -7,6 +7,7 @@ ghost use Rattle.je_answers.specs.Standing.{Standing};
 ghost use Rattle.je_answers.specs.After.{after_events};
 ghost use Rattle.engine.specs.Crash.{ImagesMean, IsSafeRun};
 ghost use Rattle.engine.specs.Files.{MeanStore};
+ghost use Rattle.engine.specs.Lengths.{AreLengthsWithin};
 ghost use Rattle.environment.specs.Whole.{IsAt, IsGuarded, disk_of};
 
 use crate::environment::Environment;
@@ -32,6 +33,9 @@ impl<D: Disk> Environment<D> {
             → (after_events st journal).fault ≡ None → ImagesMean start.moment (D.history result.disk) (D.history result.disk).moment (after_events st journal).store }
         ensures files { D.observable ≡ true → result.failed ≡ false → (most : ℕ) (st : Standing) → IsAt most D.observable (now (D.history (disk_of self))) self st → st.fault ≡ None
             → MeanStore (now (D.history result.disk)).reads st.store }
+        ensures lengths { D.observable ≡ true → result.failed ≡ false → (most : ℕ) (st : Standing) (start : History) (journal : List Event)
+            → IsAt most D.observable (now (D.history (disk_of self))) self (after_events st journal) → IsGuarded most st start (D.history (disk_of self)) self journal
+            → (after_events st journal).fault ≡ None → AreLengthsWithin most (now start).reads (now (D.history result.disk)).reads }
         ensures cause { result.failed ≡ true → HasRisen (D.faults (disk_of self)) (D.faults result.disk) }
         ensures never_falls { D.faults (disk_of self) ≤ D.faults result.disk }
     {

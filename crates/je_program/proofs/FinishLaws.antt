@@ -20,7 +20,7 @@ use Rattle.engine.proofs.Counts.{rose_earlier, rose_later}
 use Rattle.je_program.specs.Program.{cause_closed, ClosesBy, ClosesRun, EndsBy, RunsIf, is_before_disk}
 use Rattle.script_run.specs.UnderWay.{IsCaused}
 use Rattle.script_run.proofs.FaultLaws.{or_false}
-use Rattle.je_program.specs.Run.{cause_of_journal, cause_of_room, cause_of_answer}
+use Rattle.je_program.specs.Run.{cause_of_journal, cause_of_room, cause_of_answer, is_run_through}
 
 -- the cause that room gives is no disk fault
 room_is_none : (events : List Event) → cause_of_room events ≢ Disk
@@ -40,15 +40,13 @@ fault_of_cause journal h =
     absurd (room_is_none journal (sym (cond-false (has_answer is_disk_fault journal) Disk (cause_of_room journal) e) ∙ h)))
     (cases_Bool (has_answer is_disk_fault journal))
 
-pub no_fault_of_cause : (journal : List Event) → cause_of_journal journal ≡ Done → has_answer is_disk_fault journal ≡ false
+pub no_fault_of_cause : (journal : List Event) → is_run_through (cause_of_journal journal) ≡ true → has_answer is_disk_fault journal ≡ false
 no_fault_of_cause journal h =
     ⊎_elim
     (λ (e : has_answer is_disk_fault journal ≡ true).
-    absurd (disk_is_not_done (sym (cond-true (has_answer is_disk_fault journal) Disk (cause_of_room journal) e) ∙ h)))
+    absurd (true≢false (sym h ∙ ap is_run_through (cond-true (has_answer is_disk_fault journal) Disk (cause_of_room journal) e))))
     (λ (e : has_answer is_disk_fault journal ≡ false). e)
-    (cases_Bool (has_answer is_disk_fault journal)) where
-      disk_is_not_done : Disk ≡ Done → ⊥
-      disk_is_not_done e = cc
+    (cases_Bool (has_answer is_disk_fault journal))
 
 -- without a disk fault, what follows a commit at once acknowledges it: a sync each, and a write-out one that asks for no sync
 synced_by : (durability : Durability) (commit : ℕ) (later : List Event) → has_answer is_disk_fault later ≡ false → IsSyncedBy commit later →
@@ -101,20 +99,18 @@ closes_run before mid after journal memory_ended old new caused closes later mem
   not_memory true old is memory = (let e : Disk ≡ Memory = sym is ∙ memory refl in cc)
   not_memory false old is memory = refl
 
--- where a run is done, its journal has no disk fault
+-- where a script was run through, its journal has no disk fault
 pub done_without_fault : (mid after : ℕ) (journal : List Event) (memory_ended : Bool) (old new : Cause) → ClosesBy mid after old new →
-    (memory_ended ≡ true → old ≡ Memory) → (memory_ended ≡ false → old ≡ cause_of_journal journal) → new ≡ Done → has_answer is_disk_fault journal ≡ false
+    (memory_ended ≡ true → old ≡ Memory) → (memory_ended ≡ false → old ≡ cause_of_journal journal) → is_run_through new ≡ true → has_answer is_disk_fault journal ≡ false
 done_without_fault mid after journal memory_ended old new closes memory ends done =
     ⊎_elim
-    (λ (same : new ≡ old). no_fault_of_cause journal (sym (ends (not_memory memory_ended old (sym same ∙ done) memory)) ∙ sym same ∙ done))
-    (λ (c : (new ≡ Disk) × HasRisen mid after × (old ≢ Memory)). absurd (disk_not_done (sym c.0 ∙ done)))
+    (λ (same : new ≡ old).
+    no_fault_of_cause journal (ap is_run_through (sym (ends (not_memory memory_ended old (ap is_run_through (sym same) ∙ done) memory))) ∙ ap is_run_through (sym same) ∙ done))
+    (λ (c : (new ≡ Disk) × HasRisen mid after × (old ≢ Memory)). absurd (true≢false (sym done ∙ ap is_run_through c.0)))
     closes where
-      not_memory : (memory_ended : Bool) (old : Cause) → old ≡ Done → (memory_ended ≡ true → old ≡ Memory) → memory_ended ≡ false
-      not_memory true old is memory = (let e : Done ≡ Memory = sym is ∙ memory refl in cc)
+      not_memory : (memory_ended : Bool) (old : Cause) → is_run_through old ≡ true → (memory_ended ≡ true → old ≡ Memory) → memory_ended ≡ false
+      not_memory true old is memory = absurd (true≢false (sym is ∙ ap is_run_through (memory refl)))
       not_memory false old is memory = refl
-
-      disk_not_done : Disk ≡ Done → ⊥
-      disk_not_done e = cc
 
 -- a run ends so, and not otherwise
 abbrev pub IsRanCause : Cause → Type 0
@@ -178,20 +174,16 @@ pub ends_by : (journal : List Event) (memory_ended : Bool) (cause : Cause) → (
 ends_by journal true cause memory ends other = absurd (other (memory refl))
 ends_by journal false cause memory ends other = ends refl
 
--- where a run is done, each commit is acknowledged
-pub done_acknowledged : (st : Standing) (journal : List Event) (cause : Cause) → cause ≡ Done → EndsBy journal cause → AreSyncedAtOnce st journal → AllAcknowledged st journal
+-- where a script was run through, each commit is acknowledged
+pub done_acknowledged : (st : Standing) (journal : List Event) (cause : Cause) → is_run_through cause ≡ true → EndsBy journal cause → AreSyncedAtOnce st journal → AllAcknowledged st journal
 done_acknowledged st journal cause done ends settled =
     ⊎_elim
-    (λ (e : cause ≡ cause_of_journal journal). all_acknowledged st journal (no_fault_of_cause journal (sym e ∙ done)) settled)
-    (λ (e : cause ≡ Disk). absurd (disk_not_done (sym e ∙ done)))
-    ends where
-      disk_not_done : Disk ≡ Done → ⊥
-      disk_not_done e = cc
+    (λ (e : cause ≡ cause_of_journal journal). all_acknowledged st journal (no_fault_of_cause journal (ap is_run_through (sym e) ∙ done)) settled)
+    (λ (e : cause ≡ Disk). absurd (true≢false (sym done ∙ ap is_run_through e)))
+    ends
 
-pub done_is_no_memory : (cause : Cause) → cause ≡ Done → cause ≢ Memory
-done_is_no_memory cause done = λ e. done_not_memory (sym done ∙ e) where
-  done_not_memory : Done ≡ Memory → ⊥
-  done_not_memory e = cc
+pub done_is_no_memory : (cause : Cause) → is_run_through cause ≡ true → cause ≢ Memory
+done_is_no_memory cause done = λ e. absurd (true≢false (sym done ∙ ap is_run_through e))
 
 -- where memory did not run out, no call found none
 pub memory_left : (memory_ended : Bool) (cause : Cause) → (memory_ended ≡ true → cause ≡ Memory) → cause ≢ Memory → memory_ended ≡ false
@@ -206,8 +198,34 @@ closes_by before after false cause rose = inl refl
 closes_by before after true Memory rose = inl refl
 closes_by before after true cause rose = inr (refl, rose refl, λ e. cc)
 
--- where all was done, the disk did not fail
-pub closed_well : (failed : Bool) (cause : Cause) → cause_closed failed cause ≡ Done → failed ≡ false
+-- where a script was run through, the disk did not fail
+pub closed_well : (failed : Bool) (cause : Cause) → is_run_through (cause_closed failed cause) ≡ true → failed ≡ false
 closed_well false cause done = refl
-closed_well true Memory done = cc
-closed_well true cause done = cc
+closed_well true Memory done = absurd (true≢false (sym done))
+closed_well true cause done = absurd (true≢false (sym done))
+
+-- where a script was run through, or no fault was counted, the journal has no disk fault, and closing met none
+pub ended_well : (before mid after : ℕ) (journal : List Event) (memory_ended : Bool) (old new : Cause) (failed : Bool) → IsCaused before mid journal → mid ≤ after → (failed ≡ true → HasRisen mid after) →
+    (memory_ended ≡ true → old ≡ Memory) → (memory_ended ≡ false → old ≡ cause_of_journal journal) → new ≡ cause_closed failed old → (is_run_through new ≡ true) ⊎ (HasRisen before after → ⊥) →
+    (has_answer is_disk_fault journal ≡ false) × (failed ≡ false)
+ended_well before mid after journal memory_ended old new failed caused later rose memory ends closed (inl done) = (
+  done_without_fault mid after journal memory_ended old new (subst (λ (why : Cause). ClosesBy mid after old why) (sym closed) (closes_by mid after failed old rose)) memory ends done,
+  closed_well failed old (ap is_run_through (sym closed) ∙ done),
+)
+ended_well before mid after journal memory_ended old new failed caused later rose memory ends closed (inr quiet) = (
+  by_answer (cases_Bool (has_answer is_disk_fault journal)),
+  by_failed (cases_Bool failed),
+)
+  where
+    by_answer : (has_answer is_disk_fault journal ≡ true) ⊎ (has_answer is_disk_fault journal ≡ false) → has_answer is_disk_fault journal ≡ false
+    by_answer (inl fault) = absurd (quiet (rose_later before mid after (caused.fault fault) later))
+    by_answer (inr none) = none
+
+    by_failed : (failed ≡ true) ⊎ (failed ≡ false) → failed ≡ false
+    by_failed (inl yes) = absurd (quiet (rose_earlier before mid after caused.never_falls (rose yes) later))
+    by_failed (inr no) = no
+
+-- the same since an earlier count
+pub well_since : (before mid after : ℕ) (cause : Cause) → before ≤ mid → mid ≤ after → (is_run_through cause ≡ true) ⊎ (HasRisen before after → ⊥) → (is_run_through cause ≡ true) ⊎ (HasRisen mid after → ⊥)
+well_since before mid after cause earlier later (inl done) = inl done
+well_since before mid after cause earlier later (inr quiet) = inr (λ rose. quiet (rose_earlier before mid after earlier rose later))

@@ -25,6 +25,7 @@ use Rattle.engine.specs.declared.open_err.OpenErr.{OpenErr}
 use Rattle.engine.specs.declared.open_err.OpenErr.TheVariants.{Disk as NoDisk, Memory as NoMemory, IdsEnded as NoNumbers, Unreadable as CannotRead, WrongIndex as FoundWrong}
 use Rattle.engine.specs.Files.{MeanStore}
 use Rattle.environment.specs.Limits.{AreBounded}
+use Rattle.engine.specs.Lengths.{AreLengthsWithin}
 use Rattle.engine.specs.Opening.{StartsAt, reach_in}
 use Rattle.txn_core.specs.Totals.{totals_of}
 use Rattle.je_program.specs.Crash.{IsSafeProgram}
@@ -35,7 +36,7 @@ use Rattle.serial_replay.specs.Laws.{StaysIndexed}
 use Rattle.script_run.specs.Events.{final_store}
 use Rattle.script_run.specs.Maintenance.{AreStepsInPlace}
 use Rattle.script_run.specs.Lines.{AreFirstLines, of_maintenance, of_session}
-use Rattle.je_program.specs.Run.{cause_of_journal, status_of, unwritten_status_of}
+use Rattle.je_program.specs.Run.{cause_of_journal, is_run_through, status_of, unwritten_status_of}
 
 -- the input was a script, and was read to its end
 abbrev pub ReadsPlan : Option (List ℕ) → Option (List ℕ) → RunPlan → Type 0
@@ -94,15 +95,16 @@ RunsIf cause opened = opened ≡ false
 abbrev pub EndsBy : List Event → Cause → Type 0
 EndsBy journal cause = (cause ≡ cause_of_journal journal) ⊎ (cause ≡ Disk)
 
--- A run from one history of the disk to another, with log files of at most so many bytes. It begins where the files at entry are opened: each event
+-- A run from one history of the disk to another, and from one count of its faults to another, with log files of at most so many bytes. It begins where the files at entry are opened: each event
 -- of the journal answers what the model lets it from there on, within the limits of the log; its transactions are as their levels promise, and after no
 -- event do any wait in a cycle; each index has the pairs of its primary's records, and each transaction sees it so; each commit is followed at once by what its durability asks
 -- for; the calls that waited go on in the order in which they began to wait, before the next line; each step of maintenance was given by a line, and a
 -- sync that a line asks for has made all commits so far durable where it is done. A session ends behind the
 -- last line, or where it was stopped since a call of it found no memory. At every moment the disk is safe. Unless memory ran out none was stopped, and at
--- the end no call may go on and no transaction is under way. Where all was done, each commit is acknowledged and the files mean the final store. What is
--- counted is how much that holds.
-pub record IsRunOf (file_max : ℕ) (observable : Bool) (old new : History) (opening : Store) (counted : Totals) (journal : List Event) (cause : Cause) (st : Standing) : Type 0 where
+-- the end no call may go on and no transaction is under way. Where the script was run through, each commit is acknowledged and the files mean the final
+-- store. There, and at any end if the disk met no fault, each file has at most so many bytes, or one entry behind its header, or no more than it had at
+-- entry. What is counted is how much the final store holds.
+pub record IsRunOf (file_max : ℕ) (observable : Bool) (old new : History) (before after : ℕ) (opening : Store) (counted : Totals) (journal : List Event) (cause : Cause) (st : Standing) : Type 0 where
   pub starts : StartsAt observable (now old).reads opening st
   pub limits : List (Option Answer)
   pub answers : AnswersAsModel st limits journal
@@ -118,9 +120,10 @@ pub record IsRunOf (file_max : ℕ) (observable : Bool) (old new : History) (ope
   pub none_stopped : cause ≢ Memory → (session : ℕ) → slice_index_or stopped session false ≡ false
   pub ended : cause ≢ Memory → (after_events st journal).actives ≡ []
   pub rests : cause ≢ Memory → first_ready (after_events st journal) ≡ None
-  pub acknowledged : cause ≡ Done → AllAcknowledged st journal
+  pub acknowledged : is_run_through cause ≡ true → AllAcknowledged st journal
   pub safe : observable ≡ true → IsSafeProgram old new st journal cause
-  pub files : cause ≡ Done → observable ≡ true → MeanStore (now new).reads (final_store st journal)
+  pub files : is_run_through cause ≡ true → observable ≡ true → MeanStore (now new).reads (final_store st journal)
+  pub lengths : (is_run_through cause ≡ true) ⊎ (HasRisen before after → ⊥) → observable ≡ true → AreLengthsWithin file_max (now old).reads (now new).reads
   pub totals : counted ≡ totals_of (final_store st journal)
 
 -- an LSN as it is printed: its file and its offset there, in hexadecimal digits

@@ -1,5 +1,5 @@
 -- How a run ends.
-use Rattle.std.specs.Prelude.{ℕ, [], ◌∷◌, List, Option, Some, if◌then◌else◌}
+use Rattle.std.specs.Prelude.{ℕ, [], ◌∷◌, List, Option, Some, Bool, true, false, if◌then◌else◌}
 use Rattle.store_model.specs.declared.answer.Answer.{Answer}
 use Rattle.store_model.specs.declared.answer.Answer.TheVariants.{LogFull, IdsEnded}
 use Rattle.store_model.specs.declared.event.Event.{Event}
@@ -22,6 +22,13 @@ cause_of_room (event ∷ events) = cause_of_answer (answer_of event) (cause_of_r
 -- how a run with this journal ends, if there was memory for all of it and closing met no fault
 abbrev pub cause_of_journal : List Event → Cause
 cause_of_journal journal = if has_answer is_disk_fault journal then Disk else cause_of_room journal
+
+-- whether a script was run to its end and the disk met no fault: all was done, or some calls found no room in the log or no number
+abbrev pub is_run_through : Cause → Bool
+is_run_through Done = true
+is_run_through NoRoom = true
+is_run_through NoNumbers = true
+is_run_through cause = false
 
 -- the process status of each cause
 abbrev pub status_of : Cause → ℕ

@@ -92,15 +92,16 @@ pub fn run_je<D: Disk, S: Source, K: Sink>(
     // each commit is followed at once by its sync or its write-out, as its durability asks; the calls that waited go on
     // in the order in which they began to wait, before the next line; a step of maintenance is taken where a line asks
     // for it, and a sync among them has made all commits so far durable; each index has the pairs of its primary's
-    // records, and each transaction sees it so; where all was done, each commit that waits is
+    // records, and each transaction sees it so; where the script was run through, each commit that waits is
     // acknowledged, and the files mean the opening store changed by the commits in order. Over an observable disk, at
     // each moment from the end of the opening's own sync on, what the disk reads means the opening store changed by the
     // first of the attempted commits, at least the written ones, and each image of the disk in which no checksum matches
     // by chance means it changed by at least the synced ones. Behind a disk fault the disk stands still. Each file stays.
-    // Where all was done, each image at the end means the final store.
+    // Where the script was run through, each image at the end means the final store. There, and at any end if the disk
+    // met no fault, each file is as long as its bound lets it be, or one entry behind a header, or no longer than at entry.
     ensures runs { RunsIf result.cause result.opened }
     ensures given { result.opened ≡ true → (plan : RunPlan) × IsGivenTo (S.left input.old) (S.left input.new) result.journal.items result.cause plan }
-    ensures run { result.opened ≡ true → (file_max : ℕ) × (st : Standing) × (file_max_in (map string_bytes args.now) ≡ Some file_max) × IsRunOf file_max D.observable (D.history disk) (D.history result.disk) result.opening result.totals result.journal.items result.cause st }
+    ensures run { result.opened ≡ true → (file_max : ℕ) × (st : Standing) × (file_max_in (map string_bytes args.now) ≡ Some file_max) × IsRunOf file_max D.observable (D.history disk) (D.history result.disk) (D.faults disk) (D.faults result.disk) result.opening result.totals result.journal.items result.cause st }
     ensures unopened { result.opened ≡ false → (result.opening ≡ no_databases) × (result.journal.items ≡ []) }
     ensures ends { result.opened ≡ true → result.cause ≢ Why.Memory → EndsBy result.journal.items result.cause }
     ensures faults { has_answer is_disk_fault result.journal.items ≡ true → HasRisen (D.faults disk) (D.faults result.disk) }

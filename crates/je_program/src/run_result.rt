@@ -4,6 +4,7 @@ ghost use Rattle.std.specs.List.{list_all};
 ghost use Rattle.store_model.specs.declared.plan.RunPlan.{RunPlan};
 ghost use Rattle.script_text.specs.Grammar.{is_line};
 ghost use Rattle.command_line.specs.Arguments.{file_max_in, is_taken};
+ghost use Rattle.je_order.specs.Counts.{HasRisen};
 ghost use Rattle.je_disk.specs.Moments.{History, now};
 ghost use Rattle.environment.specs.Whole.{disk_of};
 ghost use Rattle.log_replay.specs.declared.corruption.Corruption.{Corruption as Wrong};
@@ -18,10 +19,11 @@ ghost use Rattle.je_program.specs.declared.cause.Cause.{Cause as Why};
 ghost use Rattle.engine.specs.Crash.{ImagesMean, IsSafeRun, KeepsEntry};
 ghost use Rattle.je_program.specs.Untouched.{LeavesUnreadable};
 ghost use Rattle.engine.specs.Files.{HasCorruption, HasWrongIndex, MeanStore};
+ghost use Rattle.engine.specs.Lengths.{AreLengthsWithin};
 ghost use Rattle.engine.specs.Opening.{HasNoNumbers};
 ghost use Rattle.txn_core.specs.Totals.{totals_of};
 ghost use Rattle.je_program.specs.Program.{ClosesRun, EndsBy, IsGivenTo, IsRunOf, IsStopped, ReadsPlan, RunsIf, is_before_disk, cause_closed, cause_of_opening};
-ghost use Rattle.je_program.specs.Run.{cause_of_journal};
+ghost use Rattle.je_program.specs.Run.{cause_of_journal, is_run_through};
 
 use crate::cause::Cause;
 use crate::ending::journal_cause;
@@ -118,11 +120,13 @@ fn finish<D: Disk>(running: Running<D>, opening: Opening) -> RunResult<D>
     ensures ends { running.memory_ended ≡ false → EndsBy running.recorded.journal.items result.cause }
     ensures caused { (before : ℕ) → IsCaused before (D.faults (disk_of running.recorded.environment)) running.recorded.journal.items → ClosesRun before (D.faults result.disk) running.recorded.journal.items result.cause }
     ensures crash { D.observable ≡ true → (p : Beginning) → IsUnderWay D.observable D.history D.faults p Nothing running.recorded → IsSafeRun p.st p.start (D.history result.disk) running.recorded.journal.items }
-    ensures crash_end { D.observable ≡ true → (p : Beginning) → IsUnderWay D.observable D.history D.faults p Nothing running.recorded → p.st.fault ≡ None → result.cause ≡ Why.Done
+    ensures crash_end { D.observable ≡ true → (p : Beginning) → IsUnderWay D.observable D.history D.faults p Nothing running.recorded → p.st.fault ≡ None → is_run_through result.cause ≡ true
         → ImagesMean p.start.moment (D.history result.disk) (D.history result.disk).moment (final_store p.st running.recorded.journal.items) }
     ensures totals { (p : Beginning) → IsUnderWay D.observable D.history D.faults p Nothing running.recorded → result.totals ≡ totals_of (final_store p.st running.recorded.journal.items) }
-    ensures files { (p : Beginning) → IsUnderWay D.observable D.history D.faults p Nothing running.recorded → p.st.fault ≡ None → result.cause ≡ Why.Done → D.observable ≡ true
+    ensures files { (p : Beginning) → IsUnderWay D.observable D.history D.faults p Nothing running.recorded → p.st.fault ≡ None → is_run_through result.cause ≡ true → D.observable ≡ true
         → MeanStore (now (D.history result.disk)).reads (final_store p.st running.recorded.journal.items) }
+    ensures lengths { (p : Beginning) → IsUnderWay D.observable D.history D.faults p Nothing running.recorded → p.st.fault ≡ None
+        → (is_run_through result.cause ≡ true) ⊎ (HasRisen p.faults (D.faults result.disk) → ⊥) → D.observable ≡ true → AreLengthsWithin p.most (now p.start).reads (now (D.history result.disk)).reads }
 {
     let Running {
         recorded,
@@ -163,7 +167,7 @@ pub fn run_plan<D: Disk>(alloc: Global, disk: D, config: Config, plan: RunPlan) 
     requires lines { list_all is_line plan.lines ≡ true }
     ensures runs { RunsIf result.cause result.opened }
     ensures after_reading { is_before_disk result.cause ≡ false }
-    ensures run { result.opened ≡ true → (st : Standing) × IsRunOf config.file_max D.observable (D.history disk) (D.history result.disk) result.opening result.totals result.journal.items result.cause st }
+    ensures run { result.opened ≡ true → (st : Standing) × IsRunOf config.file_max D.observable (D.history disk) (D.history result.disk) (D.faults disk) (D.faults result.disk) result.opening result.totals result.journal.items result.cause st }
     ensures crash_unopened { D.observable ≡ true → result.opened ≡ false → KeepsEntry (D.history disk) (D.history result.disk) }
     ensures unopened { result.opened ≡ false → (result.opening ≡ no_databases) × (result.journal.items ≡ []) }
     ensures unreadable { (corruption : Wrong) → result.cause ≡ Why.Unreadable corruption → D.observable ≡ true → HasCorruption (now (D.history disk)).reads corruption }
@@ -207,7 +211,7 @@ pub fn run_unprinted<D: Disk, S: Source>(
     ensures given { result.opened ≡ true → (plan : RunPlan) × IsGivenTo (S.left input.old) (S.left input.new) result.journal.items result.cause plan }
     ensures untouched { is_before_disk result.cause ≡ true → result.disk ≡ disk }
     ensures runs { RunsIf result.cause result.opened }
-    ensures run { result.opened ≡ true → (file_max : ℕ) × (st : Standing) × (file_max_in (map string_bytes args.now) ≡ Some file_max) × IsRunOf file_max D.observable (D.history disk) (D.history result.disk) result.opening result.totals result.journal.items result.cause st }
+    ensures run { result.opened ≡ true → (file_max : ℕ) × (st : Standing) × (file_max_in (map string_bytes args.now) ≡ Some file_max) × IsRunOf file_max D.observable (D.history disk) (D.history result.disk) (D.faults disk) (D.faults result.disk) result.opening result.totals result.journal.items result.cause st }
     ensures crash_unopened { D.observable ≡ true → result.opened ≡ false → KeepsEntry (D.history disk) (D.history result.disk) }
     ensures unopened { result.opened ≡ false → (result.opening ≡ no_databases) × (result.journal.items ≡ []) }
     ensures unreadable { (corruption : Wrong) → result.cause ≡ Why.Unreadable corruption → D.observable ≡ true → HasCorruption (now (D.history disk)).reads corruption }

@@ -6,12 +6,13 @@ use Rattle.store_model.specs.declared.store.Store.{Store}
 use Rattle.je_answers.specs.Journal.{lines_of}
 use Rattle.environment.specs.Whole.{disk_of}
 use Rattle.engine.specs.Crash.{KeepsEntry}
+use Rattle.engine.proofs.LengthLaws.{entry_lengths, lengths_kept}
 use Rattle.engine.specs.Opening.{reach_in}
 use Rattle.je_program.specs.Crash.{IsSafeProgram}
 use Rattle.je_program.specs.Program.{EndsBy, ClosesRun, IsRunOf, RunsIf, cause_of_opening, is_before_disk}
 use Rattle.script_run.specs.Lines.{AreFirstLines, of_maintenance, of_session}
 use Rattle.je_program.proofs.BeginLaws.{beginning, begins, opened_as_one, starts_valid}
-use Rattle.je_program.proofs.FinishLaws.{done_acknowledged, done_is_no_memory, ran_cause, runs_if, ran_after_reading, ran_not_unreadable, ran_not_wrong, ends_by, memory_left}
+use Rattle.je_program.proofs.FinishLaws.{done_acknowledged, done_is_no_memory, ran_cause, runs_if, ran_after_reading, ran_not_unreadable, ran_not_wrong, ends_by, memory_left, well_since}
 use Rattle.script_run.proofs.Pushed.{bounded_far, caused_earlier, synced_all}
 use Rattle.je_program.specs.declared.cause.Cause.{Cause}
 use Rattle.je_program.specs.Untouched.{LeavesUnreadable}
@@ -55,6 +56,8 @@ returns-in-Ok-clause-run g c = λ is_opened.
     let totals = f.result.totals in
     let old = history c.args.disk in
     let new = history f.result.disk in
+    let before = faults c.args.disk in
+    let after = faults f.result.disk in
     let one = opened_as_one most observable (now old).reads opening (history (disk_of environment)) environment c.in-Ok.ensures.opened c.in-Ok.ensures.crash in
     let st = one.st in
     let p = beginning observable history faults most environment st in
@@ -70,7 +73,7 @@ returns-in-Ok-clause-run g c = λ is_opened.
       indexed = run_fronts_indexed observable (now old).reads opening st under.running.limits journal one.starts under.running.answers;
       ends = λ done. f.ensures.crash_end observed p under valid done;
     } in
-    let run : IsRunOf most observable old new opening totals journal cause st = record {
+    let run : IsRunOf most observable old new before after opening totals journal cause st = record {
       starts = one.starts;
       limits = under.running.limits;
       answers = under.running.answers;
@@ -90,11 +93,14 @@ returns-in-Ok-clause-run g c = λ is_opened.
           (ends_by journal ran.result.memory_ended cause f.ensures.memory f.ensures.ends (done_is_no_memory cause done)) synced;
       safe = safe;
       files = λ done observed. f.ensures.files p under valid done observed;
+      lengths = λ well observed. lengths_kept most (now old).reads (now p.start).reads (now new).reads
+          (entry_lengths old p.start (c.in-Ok.ensures.entry observed))
+          (f.ensures.lengths p under valid (well_since before p.faults after cause c.in-Ok.ensures.faults (f.ensures.caused p.faults under.running.caused).never_falls well) observed);
       totals = f.ensures.totals p under;
     } in (
       st,
-      subst (λ (s : Store). IsRunOf most observable old new s totals f.result.journal.items cause st) (sym f.ensures.opening)
-          (subst (λ (j : List Event). IsRunOf most observable old new opening totals j cause st) (sym f.ensures.journal) run),
+      subst (λ (s : Store). IsRunOf most observable old new before after s totals f.result.journal.items cause st) (sym f.ensures.opening)
+          (subst (λ (j : List Event). IsRunOf most observable old new before after opening totals j cause st) (sym f.ensures.journal) run),
     )
 
 pub returns-in-Ok-clause-unreadable : goal.returns-in-Ok-clause-unreadable

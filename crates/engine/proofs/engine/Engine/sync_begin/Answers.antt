@@ -64,7 +64,7 @@ returns-in-Ok-clause-crash g c = λ observed most st start journal none is.
     let has = as_observed g.D.Disk.observable (state (disk_of old)) old log observed keeping.has in (
       log,
       begun_safely st log start (g.D.Disk.history (disk_of old)) (g.D.Disk.history (disk_of new)) old new journal none guarded
-          (c.sync_begin.ensures.crash observed log [] guarded.least guarded.begun has keeping.holds)
+          (c.sync_begin.ensures.crash observed log [] guarded.least guarded.begun has keeping.holds) c.sync_begin.ensures.file_max
           (record {
             has = of_observed g.D.Disk.observable (state (disk_of new)) new log observed (c.in-Ok.ensures.log log has);
             holds = c.in-Ok.ensures.holds observed log [] guarded.least guarded.begun has keeping.holds;

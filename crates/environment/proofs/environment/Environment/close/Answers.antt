@@ -1,4 +1,4 @@
-use Rattle.std.proofs.Common.{false, None, ap, sym, subst, ◌≡◌}
+use Rattle.std.proofs.Common.{false, None, ap, sym, subst, ◌≡◌, ◌∙◌, ℕ}
 use Rattle.je_disk.specs.Moments.{now}
 use Rattle.je_answers.specs.After.{after_events}
 use Rattle.log_file.specs.Log.{Log}
@@ -7,8 +7,10 @@ use Rattle.log_buffer.specs.Buffer.{disk_of, has_failed}
 use Rattle.log_buffer.specs.Log.{HasLog}
 use Rattle.engine.specs.Guarded.{IsGuardedLog}
 use Rattle.engine.proofs.GuardLaws.{keeping_any}
-use Rattle.engine.proofs.ObservedLaws.{of_observed}
+use Rattle.engine.proofs.ObservedLaws.{of_observed, as_observed}
 use Rattle.engine.proofs.ClosedLaws.{closed_safely, files_mean, run_images}
+use Rattle.engine.specs.Lengths.{AreLengthsWithin}
+use Rattle.engine.proofs.LengthLaws.{lengths_read}
 use Rattle.environment.proofs.environment.Environment.close.Goals as goal
 
 pub returns-clause-crash : goal.returns-clause-crash
@@ -43,3 +45,19 @@ returns-clause-files g c = λ observed done most st here none.
     files_mean v.log (now (g.D.Disk.history c.close_log-disk.result.0)) st.store v.recovers
     (c.close_log-disk.ensures.kept observed v.log (subst (λ (b : LogBuffer g.row.D.Denot). HasLog g.D.Disk.observable (now (g.D.Disk.history (disk_of b))) b v.log) same v.has)
     (subst (λ (b : LogBuffer g.row.D.Denot). has_failed b ≡ false) same v.works) done)
+
+pub returns-clause-lengths : goal.returns-clause-lengths
+returns-clause-lengths g c = λ observed done most st start journal here is none.
+    let history = g.D.Disk.history in
+    let old = c.args.self.engine.trees.log in
+    let buffer = c.into_parts-log.result.0 in
+    let same : old ≡ buffer = sym c.into_parts-log.ensures.log in
+    let log : Log = is.0 in
+    let guarded = is.1 in
+    let after = now (history c.close_log-disk.result.0) in
+    let has = subst (λ (b : LogBuffer g.row.D.Denot). HasLog g.D.Disk.observable (now (history (disk_of b))) b log) same (as_observed g.D.Disk.observable (now (history (disk_of old))) old log observed (guarded.works none).has) in
+    let works = subst (λ (b : LogBuffer g.row.D.Denot). has_failed b ≡ false) same (here.at.valid none).works in
+    let sizes = guarded.sizes none in
+    let bound : guarded.most ≡ most = sym sizes.max ∙ here.at.file_max in
+    subst (λ (m : ℕ). AreLengthsWithin m (now start).reads after.reads) bound
+    (lengths_read guarded.most (now start).reads after.reads log sizes.sizes (c.close_log-disk.ensures.whole log has works done observed))

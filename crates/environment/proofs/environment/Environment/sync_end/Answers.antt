@@ -55,7 +55,7 @@ returns-in-Ok-clause-crash g c = λ observed most st start journal here none out
     let holds : Holds log [] guarded.least (Some covered.0) (first_of old) (state (disk_of old)) = subst (λ (b : Option ℕ). Holds log [] guarded.least b (first_of old) (state (disk_of old))) covered.1 keeping.holds in (
       log,
       ended_safely st log start c.args.begun covered.0 (g.D.Disk.history (disk_of old)) (g.D.Disk.history (disk_of new)) old new journal none out guarded covered.1
-          (c.sync_end.ensures.crash observed log [] guarded.least covered.0 has holds) holds.job.no_less
+          (c.sync_end.ensures.crash observed log [] guarded.least covered.0 has holds) holds.job.no_less c.sync_end.ensures.kept.max
           (record {
             has = of_observed g.D.Disk.observable (state (disk_of new)) new log observed (c.in-Ok.ensures.log log has);
             holds = c.in-Ok.ensures.holds observed log [] guarded.least covered.0 has holds;
