@@ -124,12 +124,12 @@ queues_before st a call g = all_got a.txn (granted_part a.txn (needs_in st a cal
 abbrev pub locks_before : Standing → Active → Call → Target → LockState
 locks_before st a call g = record { at = queues_before st a call g; pending = st.locks.pending }
 
--- a call that did not get a lock: it is not available, or the call waits; of each cycle that its wait closes the greatest transaction is a victim
+-- a call that did not get a lock: it is not available, or the call waits; of each cycle that its wait closes, the first one first, the greatest transaction is a victim
 abbrev pub IsWaiting : Bool → Standing → Active → ℕ → Call → Target → Need → TxnId → Answer → List Victim → Type 0
 IsWaiting false st a line call g n owner answer victims = (answer ≡ NotAvailable owner) × (victims ≡ [])
 IsWaiting true st a line call g n owner answer victims =
     (found : List (TxnId × List TxnId))
-    × AreVictims (waits_in (lock_of a.txn n.asked) (record_of n) (locks_before st a call g)) found
+    × AreVictims a.txn (waits_in (lock_of a.txn n.asked) (record_of n) (locks_before st a call g)) found
     × (victims ≡ map (told_in (st.waiting ++ asking a line call ∷ [])) found)
     × (answer ≡ waiting_answer (cycle_of a.txn found) (lock_target g n) owner)
 

@@ -1,8 +1,8 @@
 -- Cycles of a relation, and of one that it grows from.
 use Rattle.std.proofs.Common.{◌≡◌, Bool, true, false, not, ◌&&◌, List, [], ◌∷◌, map, ap, sym, ◌∙◌, ◌⊎◌, inl, ⊎_elim}
-use Rattle.std.proofs.lemmas.Bool.{and_parts, and_from, both_ways, false_from_ne_true, false≢true, or_parts, or_cases, true_from_ne_false}
+use Rattle.std.proofs.lemmas.Bool.{and_parts, and_from, both_ways, false_from_ne_true, false≢true, or_parts, or_cases, or_left, true_from_ne_false}
 use Rattle.je_order.specs.declared.txn_id.TxnId.{TxnId}
-use Rattle.waits_for.specs.Cycles.{is_in, leads_by, closes_by, is_cycle_by, names_each_once}
+use Rattle.waits_for.specs.Cycles.{is_in, leads_by, closes_by, is_cycle_by, names_each_once, begins_with, IsFirstCycle}
 use Rattle.je_order.specs.Transactions.{is_same_txn}
 use Rattle.je_order.proofs.TxnIds.{same_is, same_either}
 use Rattle.lock_mgr.specs.Deadlock.{HasNoCycle, others, is_greatest, AreVictims}
@@ -97,23 +97,40 @@ same_cycle R S e list h = within_once R S (λ x y k. sym (e x y) ∙ k) list h
 same_others : (u : TxnId) (R S : Waits) → ((x y : TxnId) → S x y ≡ R x y) → (x y : TxnId) → others u S x y ≡ others u R x y
 same_others u R S e x y = ap (λ b. not (is_same_txn u x) && b) (e x y)
 
-pub same_victims : (R S : Waits) → ((x y : TxnId) → S x y ≡ R x y) → (vs : List (TxnId × List TxnId)) → AreVictims S vs → AreVictims R vs
-same_victims R S e [] h = within_none S R (λ x y k. e x y ∙ k) h
-same_victims R S e (v ∷ vs) h = (same_cycle R S e v.1 h.0, h.1, same_victims (others v.0 R) (others v.0 S) (same_others v.0 R S e) vs h.2)
+-- the first cycle of a relation is that of one with the same edges
+pub same_first : (R S : Waits) (t : TxnId) → ((x y : TxnId) → S x y ≡ R x y) → (list : List TxnId) → IsFirstCycle S t list → IsFirstCycle R t list
+same_first R S t e list f = record { cycle = same_cycle R S e list f.cycle; from = f.from; first = λ other c b. f.first other (same_cycle S R (λ x y. sym (e x y)) other c) b }
+
+pub same_victims : (t : TxnId) (R S : Waits) → ((x y : TxnId) → S x y ≡ R x y) → (vs : List (TxnId × List TxnId)) → AreVictims t S vs → AreVictims t R vs
+same_victims t R S e [] h = within_none S R (λ x y k. e x y ∙ k) h
+same_victims t R S e (v ∷ vs) h = (same_first R S t e v.1 h.0, h.1, same_victims t (others v.0 R) (others v.0 S) (same_others v.0 R S e) vs h.2)
 
 pub same_breaks : (R S : Waits) (t : TxnId) → ((x y : TxnId) → S x y ≡ R x y) → (vs : List (TxnId × List TxnId)) → BreaksAll S t vs → BreaksAll R t vs
 same_breaks R S t e [] h = λ list k. h list (within_cycle S R (λ x y m. e x y ∙ m) list k)
-same_breaks R S t e (v ∷ vs) h = (same_cycle R S e v.1 h.0, h.1, same_breaks (others v.0 R) (others v.0 S) t (same_others v.0 R S e) vs h.2)
+same_breaks R S t e (v ∷ vs) h = (same_first R S t e v.1 h.0, h.1, same_breaks (others v.0 R) (others v.0 S) t (same_others v.0 R S e) vs h.2)
+
+-- the first cycle of the edges that were reached is that of all edges
+begins_in : (t : TxnId) (list : List TxnId) → begins_with t list ≡ true → is_in t list ≡ true
+begins_in t [] h = absurd (false≢true h)
+begins_in t (x ∷ xs) h = or_left (is_same_txn t x) (is_in t xs) h
+
+reached_first : (R E : Waits) (t : TxnId) → IsReach R E t → (list : List TxnId) → IsFirstCycle E t list → IsFirstCycle R t list
+reached_first R E t c list f = record {
+  cycle = within_once R E c.real list f.cycle;
+  from = f.from;
+  first = λ other h b. let p = and_parts (closes_by R other) (names_each_once other) h in
+      f.first other (and_from (closes_by E other) (names_each_once other) (reached_cycle R E t c other p.0 (begins_in t other b)) p.1) b;
+}
 
 -- what breaks the cycles that were reached breaks all, where each cycle goes through the transaction
-pub all_broken : (R E : Waits) (t : TxnId) → IsReach R E t → ((list : List TxnId) → closes_by R list ≡ true → is_in t list ≡ true) → (vs : List (TxnId × List TxnId)) → BreaksAll E t vs → AreVictims R vs
+pub all_broken : (R E : Waits) (t : TxnId) → IsReach R E t → ((list : List TxnId) → closes_by R list ≡ true → is_in t list ≡ true) → (vs : List (TxnId × List TxnId)) → BreaksAll E t vs → AreVictims t R vs
 all_broken R E t c th [] b = λ list. false_from_ne_true (closes_by R list) (λ h. let m = th list h in both_ways (is_in t list) (b list (reached_cycle R E t c list h m)) m)
-all_broken R E t c th (v ∷ vs) b = (within_once R E c.real v.1 b.0, b.1, all_broken (others v.0 R) (others v.0 E) t (reach_others R E t v.0 c) (λ list h. th list (within_cycle R (others v.0 R) (λ x y e. (and_parts (not (is_same_txn v.0 x)) (R x y) e).1) list h)) vs b.2)
+all_broken R E t c th (v ∷ vs) b = (reached_first R E t c v.1 b.0, b.1, all_broken (others v.0 R) (others v.0 E) t (reach_others R E t v.0 c) (λ list h. th list (within_cycle R (others v.0 R) (λ x y e. (and_parts (not (is_same_txn v.0 x)) (R x y) e).1) list h)) vs b.2)
 
 -- once the victims' waits are gone there is no cycle
-pub none_after : (R S : Waits) (vs : List (TxnId × List TxnId)) → IsWithin R S → ((x y : TxnId) → S x y ≡ true → is_in x (map (λ v. v.0) vs) ≡ false) → AreVictims R vs → HasNoCycle S
-none_after R S [] w n h = within_none R S w h
-none_after R S (v ∷ vs) w n h = none_after (others v.0 R) S vs
+pub none_after : (t : TxnId) (R S : Waits) (vs : List (TxnId × List TxnId)) → IsWithin R S → ((x y : TxnId) → S x y ≡ true → is_in x (map (λ v. v.0) vs) ≡ false) → AreVictims t R vs → HasNoCycle S
+none_after t R S [] w n h = within_none R S w h
+none_after t R S (v ∷ vs) w n h = none_after t (others v.0 R) S vs
     (λ x y e. let k = or_parts (is_same_txn x v.0) (is_in x (map (λ u. u.0) vs)) (n x y e) in and_from (not (is_same_txn v.0 x)) (R x y) (ap not (same_either v.0 x ∙ k.0)) (w x y e))
     (λ x y e. (or_parts (is_same_txn x v.0) (is_in x (map (λ u. u.0) vs)) (n x y e)).1) h.2
 

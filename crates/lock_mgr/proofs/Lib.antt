@@ -8,3 +8,5 @@ pub mod NoDeadlockLaws
 pub mod EdgeSearch
 -- The greatest of a list.
 pub mod GreatestTxn
+-- The waits settle the victims.
+pub mod OneChoice

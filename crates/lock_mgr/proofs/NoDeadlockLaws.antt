@@ -117,8 +117,8 @@ waits_less x y (u ∷ us) q h =
     (or_from (is_same_txn x u) (is_in x us) (same_either x u ∙ (found_without x u q.1 p.0 p.1).0) k.0, waits_cancel x y u q k.1)
 
 -- victims are gone
-pub free_victims : (v w : Locks) (vs : List (TxnId × List TxnId)) → IsLockTable w → ((r : RecordId) → locks_at r w ≡ without_waits (map (λ u. u.0) vs) (locks_at r v)) → ((t : TxnId) (r : RecordId) → pending_at t w ≡ Some r → pending_at t v ≡ Some r) → AreVictims (waits v) vs → NoDeadlock w
-free_victims v w vs s l p a = record { sound = s; free = none_after (waits v) (waits w) vs (λ x y h. (less x y h).1) (λ x y h. (less x y h).0) a }
+pub free_victims : (t : TxnId) (v w : Locks) (vs : List (TxnId × List TxnId)) → IsLockTable w → ((r : RecordId) → locks_at r w ≡ without_waits (map (λ u. u.0) vs) (locks_at r v)) → ((t : TxnId) (r : RecordId) → pending_at t w ≡ Some r → pending_at t v ≡ Some r) → AreVictims t (waits v) vs → NoDeadlock w
+free_victims t v w vs s l p a = record { sound = s; free = none_after t (waits v) (waits w) vs (λ x y h. (less x y h).1) (λ x y h. (less x y h).0) a }
   where
     less : (x y : TxnId) → waits w x y ≡ true → (is_in x (map (λ u. u.0) vs) ≡ false) × (waits v x y ≡ true)
     less x y h =
@@ -262,11 +262,11 @@ pub stands : (v : Locks) (x y : TxnId) → waits v x y ≡ true → is_waiting x
 stands v x y h = let k = waits_parts v x y h in ap (λ o. option_map_or (λ r. has_lock x (locks_at r v).1) o false) k.pending ∙ waits_has v x y k.at k.pending h
 
 -- each victim waits
-pub victims_stand : (v : Locks) (R : TxnId → TxnId → Bool) → ((x y : TxnId) → R x y ≡ true → waits v x y ≡ true) → (vs : List (TxnId × List TxnId)) → AreVictims R vs → (t : TxnId) → is_in t (map (λ u. u.0) vs) ≡ true → is_waiting t v ≡ true
-victims_stand v R w [] a t m = absurd (false≢true m)
-victims_stand v R w (u ∷ us) a t m = ⊎_elim
-    (λ h. let z = victim_waits R u.0 u.1 a.0 a.1 in subst (λ (x : TxnId). is_waiting x v ≡ true) (sym (same_is t u.0 h)) (stands v u.0 z.0 (w u.0 z.0 z.1)))
-    (λ h. victims_stand v (others u.0 R) (λ x y e. w x y (and_parts (not (is_same_txn u.0 x)) (R x y) e).1) us a.2 t h)
+pub victims_stand : (from : TxnId) (v : Locks) (R : TxnId → TxnId → Bool) → ((x y : TxnId) → R x y ≡ true → waits v x y ≡ true) → (vs : List (TxnId × List TxnId)) → AreVictims from R vs → (t : TxnId) → is_in t (map (λ u. u.0) vs) ≡ true → is_waiting t v ≡ true
+victims_stand from v R w [] a t m = absurd (false≢true m)
+victims_stand from v R w (u ∷ us) a t m = ⊎_elim
+    (λ h. let z = victim_waits R u.0 u.1 a.0.cycle a.1 in subst (λ (x : TxnId). is_waiting x v ≡ true) (sym (same_is t u.0 h)) (stands v u.0 z.0 (w u.0 z.0 z.1)))
+    (λ h. victims_stand from v (others u.0 R) (λ x y e. w x y (and_parts (not (is_same_txn u.0 x)) (R x y) e).1) us a.2 t h)
     (or_cases (is_same_txn t u.0) (is_in t (map (λ k. k.0) us)) m)
 
 pub put_stands : (v w : Locks) (at : RecordId) (a : Lock) → IsPut v w at a → is_waiting a.txn w ≡ true

@@ -5,7 +5,7 @@ use Rattle.std.specs.declared.option.Option.TheVariants.{None, Some}
 use Rattle.std.specs.List.{list_all, filter}
 use Rattle.std.specs.Prelude.{nat_le}
 use Rattle.je_order.specs.declared.txn_id.TxnId.{TxnId}
-use Rattle.waits_for.specs.Cycles.{is_in, closes_by, is_cycle_by}
+use Rattle.waits_for.specs.Cycles.{is_in, closes_by, IsFirstCycle}
 use Rattle.je_order.specs.Transactions.{is_same_txn}
 use Rattle.lock_table.specs.declared.lock.Lock.{Lock}
 use Rattle.lock_table.specs.declared.record_id.RecordId.{RecordId}
@@ -39,10 +39,10 @@ others u R x y = not (is_same_txn u x) && R x y
 abbrev pub is_greatest : TxnId → List TxnId → Bool
 is_greatest u list = is_in u list && list_all (λ x. nat_le x.0 u.0) list
 
--- victims, one after another: each one's list is a cycle as the waits then stand, it is the greatest there, and its wait goes; at the end there is no cycle left
-abbrev pub AreVictims : (TxnId → TxnId → Bool) → List (TxnId × List TxnId) → Type 0
-AreVictims R [] = HasNoCycle R
-AreVictims R (v ∷ vs) = (is_cycle_by R v.1 ≡ true) × (is_greatest v.0 v.1 ≡ true) × AreVictims (others v.0 R) vs
+-- victims of a transaction's wait, one after another: each one's list is the first cycle from the transaction on as the waits then stand, it is the greatest there, and its wait goes; at the end there is no cycle left
+abbrev pub AreVictims : TxnId → (TxnId → TxnId → Bool) → List (TxnId × List TxnId) → Type 0
+AreVictims t R [] = HasNoCycle R
+AreVictims t R (v ∷ vs) = IsFirstCycle R t v.1 × (is_greatest v.0 v.1 ≡ true) × AreVictims t (others v.0 R) vs
 
 -- the owner that an answer names
 abbrev pub owner_of : Requested → Option TxnId
@@ -76,3 +76,7 @@ taken_back t (Victims owner victims) = map (λ v. v.0) victims
 abbrev pub without_waits : List TxnId → List Lock × List Lock → List Lock × List Lock
 without_waits [] q = q
 without_waits (u ∷ us) q = without_waits us (after_cancel u q)
+
+-- the waits and the asking transaction settle who the victims are, with which cycles and in which order
+abbrev pub VictimsAreSettled : Type 0
+VictimsAreSettled = (t : TxnId) (R : TxnId → TxnId → Bool) (victims others_ : List (TxnId × List TxnId)) → AreVictims t R victims → AreVictims t R others_ → victims ≡ others_

@@ -2,7 +2,7 @@
 use Rattle.std.specs.Prelude.{◌≡◌, ℕ, ◌+◌, Bool, true, false, cond, nat_lt, List, [], ◌∷◌, length, ◌⊎◌}
 use Rattle.std.specs.BTreeSet.{BTreeSet, contains}
 use Rattle.je_order.specs.declared.txn_id.TxnId.{TxnId}
-use Rattle.waits_for.specs.Cycles.{is_in, is_edge, closes_by, is_cycle_by}
+use Rattle.waits_for.specs.Cycles.{is_in, is_edge, closes_by, IsFirstCycle}
 use Rattle.lock_table.specs.declared.record_id.RecordId.{RecordId}
 use Rattle.lock_table.specs.Table.{Locks, waits_for}
 use Rattle.lock_mgr.specs.Deadlock.{others, is_greatest}
@@ -23,7 +23,7 @@ pub record IsReach (R E : TxnId → TxnId → Bool) (t : TxnId) : Type 0 where
 -- victims, one after another, until no cycle through the transaction is left
 abbrev pub BreaksAll : (TxnId → TxnId → Bool) → TxnId → List (TxnId × List TxnId) → Type 0
 BreaksAll E t [] = (list : List TxnId) → closes_by E list ≡ true → is_in t list ≡ false
-BreaksAll E t (v ∷ vs) = (is_cycle_by E v.1 ≡ true) × (is_greatest v.0 v.1 ≡ true) × BreaksAll (others v.0 E) t vs
+BreaksAll E t (v ∷ vs) = IsFirstCycle E t v.1 × (is_greatest v.0 v.1 ≡ true) × BreaksAll (others v.0 E) t vs
 
 -- the greater of two transactions, and of one and a list
 abbrev pub greater : TxnId → TxnId → TxnId

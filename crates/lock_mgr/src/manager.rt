@@ -73,7 +73,7 @@ impl LockMgr {
         requires { is_waiting txn self.old ≡ false }
         ensures owner { IfOk result (λ answer. owner_of answer ≡ blocker (lock_of txn asked) (locks_at at.now self.old).0) }
         ensures waits { IfOk result (λ answer. is_some (victims_in answer) ≡ (is_some (owner_of answer) && wait)) }
-        ensures victims { IfOk result (λ answer. IfSome (victims_in answer) (AreVictims (waits_with (lock_of txn asked) at.now self.old))) }
+        ensures victims { IfOk result (λ answer. IfSome (victims_in answer) (AreVictims txn (waits_with (lock_of txn asked) at.now self.old))) }
         ensures locks { IfOk result (λ answer. (r : RecordId) → locks_at r self.new ≡ without_waits (taken_back txn answer) (if is_record at.now r then after_ask (lock_of txn asked) (locks_at r self.old) else locks_at r self.old)) }
         ensures pending { IfOk result (λ answer. (t : TxnId) → is_in t (taken_back txn answer) ≡ false → pending_at t self.new ≡ (if is_same_txn txn t then option_map_or (λ _. Some at.now) (owner_of answer) None else pending_at t self.old)) }
         ensures gone { IfOk result (λ answer. (t : TxnId) → is_in t (taken_back txn answer) ≡ true → pending_at t self.new ≡ None) }
@@ -223,7 +223,7 @@ fn request_in(
     requires none { is_waiting txn table.old ≡ false }
     ensures owner { IfOk result (λ answer. owner_of answer ≡ blocker (lock_of txn asked) (locks_at at.now table.old).0) }
     ensures waits { IfOk result (λ answer. is_some (victims_in answer) ≡ (is_some (owner_of answer) && wait)) }
-    ensures victims { IfOk result (λ answer. IfSome (victims_in answer) (AreVictims (waits_with (lock_of txn asked) at.now table.old))) }
+    ensures victims { IfOk result (λ answer. IfSome (victims_in answer) (AreVictims txn (waits_with (lock_of txn asked) at.now table.old))) }
     ensures locks { IfOk result (λ answer. (r : RecordId) → locks_at r table.new ≡ without_waits (taken_back txn answer) (if is_record at.now r then after_ask (lock_of txn asked) (locks_at r table.old) else locks_at r table.old)) }
     ensures pending { IfOk result (λ answer. (t : TxnId) → is_in t (taken_back txn answer) ≡ false → pending_at t table.new ≡ (if is_same_txn txn t then option_map_or (λ _. Some at.now) (owner_of answer) None else pending_at t table.old)) }
     ensures gone { IfOk result (λ answer. (t : TxnId) → is_in t (taken_back txn answer) ≡ true → pending_at t table.new ≡ None) }
@@ -253,7 +253,7 @@ fn blocked_in(
     requires through { (list : List TxnId) → closes_by (waits table.old) list ≡ true → is_in txn list ≡ true }
     ensures owner { IfOk result (λ answer. owner_of answer ≡ Some owner) }
     ensures waits { IfOk result (λ answer. is_some (victims_in answer) ≡ wait) }
-    ensures victims { IfOk result (λ answer. IfSome (victims_in answer) (AreVictims (waits table.old))) }
+    ensures victims { IfOk result (λ answer. IfSome (victims_in answer) (AreVictims txn (waits table.old))) }
     ensures locks { IfOk result (λ answer. (r : RecordId) → locks_at r table.new ≡ without_waits (taken_back txn answer) (locks_at r table.old)) }
     ensures pending { IfOk result (λ answer. (t : TxnId) → is_in t (taken_back txn answer) ≡ false → pending_at t table.new ≡ pending_at t table.old) }
     ensures gone { IfOk result (λ answer. (t : TxnId) → is_in t (taken_back txn answer) ≡ true → pending_at t table.new ≡ None) }
@@ -300,7 +300,7 @@ fn victims_now(
     txn: TxnId,
 ) -> Result<List<(TxnId, List<TxnId>)>, AllocError>
     requires { (list : List TxnId) → closes_by (waits table.now) list ≡ true → is_in txn list ≡ true }
-    ensures { IfOk result (AreVictims (waits table.now)) }
+    ensures { IfOk result (AreVictims txn (waits table.now)) }
 {
     let edges = reach(alloc, table, txn)?;
     victims_of(alloc, edges, txn)

@@ -113,7 +113,7 @@ module _ (st : Standing) (a : Active) (line : ℕ) (call : Call) (g : Target) (a
     each_wait : AllByRecursion (IsWaitIn st.actives) (st.waiting ++ asking a line call ∷ [])
     each_wait = all_append (IsWaitIn st.actives) st.waiting (asking a line call ∷ []) m.right.sound.waits.each (record { active = a; its = m.its; same = refl }, tt)
 
-    waiting_free : (found : List (TxnId × List TxnId)) → AreVictims (waits_in (lock_of a.txn n.asked) (record_of n) (locks_before st a call g)) found → vs ≡ map (told_in (st.waiting ++ asking a line call ∷ [])) found
+    waiting_free : (found : List (TxnId × List TxnId)) → AreVictims a.txn (waits_in (lock_of a.txn n.asked) (record_of n) (locks_before st a call g)) found → vs ≡ map (told_in (st.waiting ++ asking a line call ∷ [])) found
         → IsFree (waiting_now st a line call g n vs may m stopped)
     waiting_free found victims told =
         let now : Standing = waiting_now st a line call g n vs may m stopped in
@@ -125,7 +125,7 @@ module _ (st : Standing) (a : Active) (line : ℕ) (call : Call) (g : Target) (a
         same : (u : TxnId) → is_in u (map (λ v. v.0) found) ≡ is_in u (txns_of vs st.actives)
         same u =
             same_gone found st.actives (st.waiting ++ asking a line call ∷ []) m.right.sound.waits.sessions each_wait
-            (victims_in (waits_in (lock_of a.txn n.asked) (record_of n) (locks_before st a call g)) (txns (st.waiting ++ asking a line call ∷ [])) found
+            (victims_in a.txn (waits_in (lock_of a.txn n.asked) (record_of n) (locks_before st a call g)) (txns (st.waiting ++ asking a line call ∷ [])) found
             (all_wait (lock_of a.txn n.asked) (record_of n) (locks_before st a call g) st.waiting (asking a line call) refl m.right.sound.waits.told) victims) u
             ∙ ap (λ (l : List Victim). is_in u (txns_of l st.actives)) (sym told)
 

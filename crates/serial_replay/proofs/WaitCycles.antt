@@ -237,5 +237,5 @@ module _ (t : TxnId) (n : Need) (gone : List TxnId) (locks : LockState) (stopped
           before true f = sym (ap (listed (locks.at k.at).0) (put_other x asks (locks.at k.at).1 e)) ∙ subst (λ (q : Queue). waits_on x y q ≡ true) (put_at k.at f) m.1
           before false f = subst (λ (q : Queue). waits_on x y q ≡ true) (cond-false (is_record (record_of n) k.at) (after_ask asks (locks.at k.at)) (locks.at k.at) f) m.1
 
-  pub wait_free : (vs : List (TxnId × List TxnId)) → ((u : TxnId) → is_in u (map (λ v. v.0) vs) ≡ is_in u gone) → AreVictims (waits_in asks (record_of n) locks) vs → HasNoCycle (waits_of (with_wait t n gone locks))
-  wait_free vs same victims = none_after (waits_in asks (record_of n) locks) (waits_of (with_wait t n gone locks)) vs (λ x y h. (waits_then x y h).1) (λ x y h. same x ∙ (waits_then x y h).0) victims
+  pub wait_free : (vs : List (TxnId × List TxnId)) → ((u : TxnId) → is_in u (map (λ v. v.0) vs) ≡ is_in u gone) → AreVictims t (waits_in asks (record_of n) locks) vs → HasNoCycle (waits_of (with_wait t n gone locks))
+  wait_free vs same victims = none_after t (waits_in asks (record_of n) locks) (waits_of (with_wait t n gone locks)) vs (λ x y h. (waits_then x y h).1) (λ x y h. same x ∙ (waits_then x y h).0) victims

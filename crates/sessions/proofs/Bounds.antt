@@ -11,9 +11,9 @@ all_weak : (a b : ℕ) → a ≤ b → (vs : List (TxnId × List TxnId)) → All
 all_weak a b w [] h = tt
 all_weak a b w (v ∷ vs) h = ((let k = h.0 in omega (arith, k, w)), all_weak a b w vs h.1)
 
-pub short_cycles : (R : Waits) (ws : List TxnId) (vs : List (TxnId × List TxnId)) → AreWaiters ws R → AreVictims R vs → AllByRecursion (IsShort (length ws)) vs
-short_cycles R ws [] w h = tt
-short_cycles R ws (v ∷ vs) w h =
-    let z = victim_waits R v.0 v.1 h.0 h.1 in
+pub short_cycles : (t : TxnId) (R : Waits) (ws : List TxnId) (vs : List (TxnId × List TxnId)) → AreWaiters ws R → AreVictims t R vs → AllByRecursion (IsShort (length ws)) vs
+short_cycles t R ws [] w h = tt
+short_cycles t R ws (v ∷ vs) w h =
+    let z = victim_waits R v.0 v.1 h.0.cycle h.1 in
     let k = one_less v.0 ws (w v.0 z.0 z.1) in
-    (short_cycle R ws v.1 w h.0, all_weak (length (less v.0 ws)) (length ws) (omega (arith, k)) vs (short_cycles (others v.0 R) (less v.0 ws) vs (others_wait v.0 ws R w) h.2))
+    (short_cycle R ws v.1 w h.0.cycle, all_weak (length (less v.0 ws)) (length ws) (omega (arith, k)) vs (short_cycles t (others v.0 R) (less v.0 ws) vs (others_wait v.0 ws R w) h.2))

@@ -53,14 +53,14 @@ one_more (v ∷ vs) w = let k = one_more vs w in omega (arith, k)
 pub few_told : (t : TxnId) (needs : List Need) (b : Blocked) (old new : LockState) (ws now : List Wait) (w : Wait) → IsMadeToWait t needs b.at b.owner b.victims.items old new → now ≡ ws
     → w.txn ≡ t → ((u : TxnId) (at : RecordId) → old.pending u ≡ Some at → has_wait u ws ≡ true) → length b.victims.items ≤ length now + 1
 few_told t needs b old new ws now w made same its told =
-    let k = few_victims _ (txns (ws ++ w ∷ [])) b.victims.items (all_wait (lock_of t made.need.asked) (record_of made.need) (with_granted t needs old) ws w its told) made.each in
+    let k = few_victims t _ (txns (ws ++ w ∷ [])) b.victims.items (all_wait (lock_of t made.need.asked) (record_of made.need) (with_granted t needs old) ws w its told) made.each in
     let m = one_more ws w in let n = ap (λ (l : List Wait). length l) same in omega (arith, k, m, n)
 
 pub short_told : (t : TxnId) (needs : List Need) (b : Blocked) (old new : LockState) (ws now : List Wait) (w : Wait) → IsMadeToWait t needs b.at b.owner b.victims.items old new → now ≡ ws
     → w.txn ≡ t → ((u : TxnId) (at : RecordId) → old.pending u ≡ Some at → has_wait u ws ≡ true) → AllByRecursion (IsShort (length now + 1)) b.victims.items
 short_told t needs b old new ws now w made same its told =
     subst (λ (n : ℕ). AllByRecursion (IsShort n) b.victims.items) (one_more ws w ∙ ap (λ (l : List Wait). length l + 1) (sym same))
-    (short_cycles _ (txns (ws ++ w ∷ [])) b.victims.items (all_wait (lock_of t made.need.asked) (record_of made.need) (with_granted t needs old) ws w its told) made.each)
+    (short_cycles t _ (txns (ws ++ w ∷ [])) b.victims.items (all_wait (lock_of t made.need.asked) (record_of made.need) (with_granted t needs old) ws w its told) made.each)
 
 -- ---- the stop
 
@@ -69,7 +69,7 @@ each_with actives [] w h k = (k, tt)
 each_with actives (v ∷ vs) w h k = (h.0, each_with actives vs w h.1 k)
 
 by_waits : (b : Bool) (st : Standing) (a : Active) (line : ℕ) (call : Call) (g : Target) (n : Need) (owner : TxnId) (o : Option TxnId) (answer : Answer) (victims : List Victim) (found : List (TxnId × List TxnId))
-    → a.waits ≡ true → o ≡ Some owner → AreVictims (waits_in (lock_of a.txn n.asked) (record_of n) (locks_before st a call g)) found → victims ≡ map (told_in (st.waiting ++ asking a line call ∷ [])) found
+    → a.waits ≡ true → o ≡ Some owner → AreVictims a.txn (waits_in (lock_of a.txn n.asked) (record_of n) (locks_before st a call g)) found → victims ≡ map (told_in (st.waiting ++ asking a line call ∷ [])) found
     → answer ≡ waiting_answer (cycle_of a.txn found) (lock_target g n) owner → IsStopped o st a line call g n answer victims
 by_waits b st a line call g n owner o answer victims found waits is each tells answers =
     subst (λ (x : Option TxnId). IsStopped x st a line call g n answer victims) (sym is)
@@ -78,7 +78,7 @@ by_waits b st a line call g n owner o answer victims found waits is each tells a
 pub stopped_so : (st : Standing) (a : Active) (line : ℕ) (call : Call) (g : Target) (need : Need) (owner : TxnId) (found : List (TxnId × List TxnId)) (answer : Answer) (victims : List Victim) (new : Sessions)
     → HaveWaits st.actives st.waiting st.locks.pending → active_of a.session st.actives ≡ Some a → a.waits ≡ true
     → first_blocked a.txn (needs_in st a call g) st.locks.at ≡ Some need → owner_before a.txn need (queues_before st a call g) ≡ Some owner
-    → AreVictims (waits_in (lock_of a.txn need.asked) (record_of need) (locks_before st a call g)) found
+    → AreVictims a.txn (waits_in (lock_of a.txn need.asked) (record_of need) (locks_before st a call g)) found
     → victims ≡ map (told_in (st.waiting ++ asking a line call ∷ [])) found → answer ≡ waiting_answer (cycle_of a.txn found) (lock_target g need) owner
     → AreSessionsAt new (with_victims victims (record st { waiting = st.waiting ++ asking a line call ∷ []; locks = with_wait a.txn need (map (λ v. v.0) found) (locks_before st a call g) }))
     → HasStopped new st a line call g answer victims
@@ -97,7 +97,7 @@ stopped_so st a line call g need owner found answer victims new have its waits f
     wait_its = record { active = a; its = its; same = refl }
 
     there : AllByRecursion (λ v. is_in v.0 (map (λ w. w.txn) ws) ≡ true) found
-    there = victims_in _ (txns ws) found (all_wait (lock_of a.txn need.asked) (record_of need) (locks_before st a call g) st.waiting (asking a line call) refl have.told) each
+    there = victims_in a.txn _ (txns ws) found (all_wait (lock_of a.txn need.asked) (record_of need) (locks_before st a call g) st.waiting (asking a line call) refl have.told) each
 
     gone : (u : TxnId) → is_in u (map (λ v. v.0) found) ≡ is_in u (txns_of victims st.actives)
     gone u = same_gone found st.actives ws have.sessions (each_with st.actives st.waiting (asking a line call) have.each wait_its) there u ∙ ap (λ (l : List Victim). is_in u (txns_of l st.actives)) (sym tells)

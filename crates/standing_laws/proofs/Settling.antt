@@ -493,7 +493,7 @@ module _ (limit : Option Answer) (st : Standing) (w : Wait) (session line : ℕ)
           subst (λ (c : Call). IsSettling answer st (with_victims victims (with_waiting on a line c g n victims))) same
           (stopped st w a line g n victims answer right calm found ready own (ap (λ (c : Call). first_blocked a.txn (needs_in on a c g) st.locks.at) same ∙ blocked) logged
           (victims_wait k.0 (on.waiting ++ asking a line w.call ∷ []) victims (k.2 ∙ ap (λ (c : Call). map (told_in (on.waiting ++ asking a line c ∷ [])) k.0) (sym same))
-          (victims_in _ (txns (on.waiting ++ asking a line w.call ∷ [])) k.0 (all_wait (lock_of a.txn n.asked) (record_of n) (locks_before on a call g) on.waiting (asking a line w.call) refl (waits_resumed st.actives st.waiting st.locks.pending w right.sound.waits found).told) k.1)))
+          (victims_in a.txn _ (txns (on.waiting ++ asking a line w.call ∷ [])) k.0 (all_wait (lock_of a.txn n.asked) (record_of n) (locks_before on a call g) on.waiting (asking a line w.call) refl (waits_resumed st.actives st.waiting st.locks.pending w right.sound.waits found).told) k.1)))
 
       by_owner : (o : Option TxnId) → IsStopped o on a line call g n answer victims → IsSettling answer st (after_stop a.waits on a line call g n victims)
       by_owner None k = absurd k

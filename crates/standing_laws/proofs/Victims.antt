@@ -66,12 +66,12 @@ not_true false h = refl
 pub others_wait : (t : TxnId) (ws : List TxnId) (R : Waits) → AreWaiters ws R → AreWaiters (less t ws) (others t R)
 others_wait t ws R w x y h = let p = and_parts (not (is_same_txn t x)) (R x y) h in stays t x ws (not_true (is_same_txn t x) p.0) (w x y p.1)
 
-pub few_victims : (R : Waits) (ws : List TxnId) (vs : List (TxnId × List TxnId)) → AreWaiters ws R → AreVictims R vs → length vs ≤ length ws
-few_victims R ws [] w h = omega arith
-few_victims R ws (v ∷ vs) w h =
-    let z = victim_waits R v.0 v.1 h.0 h.1 in
+pub few_victims : (t : TxnId) (R : Waits) (ws : List TxnId) (vs : List (TxnId × List TxnId)) → AreWaiters ws R → AreVictims t R vs → length vs ≤ length ws
+few_victims t R ws [] w h = omega arith
+few_victims t R ws (v ∷ vs) w h =
+    let z = victim_waits R v.0 v.1 h.0.cycle h.1 in
     let k = one_less v.0 ws (w v.0 z.0 z.1) in
-    let m = few_victims (others v.0 R) (less v.0 ws) vs (others_wait v.0 ws R w) h.2 in
+    let m = few_victims t (others v.0 R) (less v.0 ws) vs (others_wait v.0 ws R w) h.2 in
     omega (arith, k, m)
 
 -- ---- cycles
@@ -100,11 +100,11 @@ short_cycle R ws (x ∷ xs) w h =
     few_named ws (x ∷ xs) (λ y m. let z = on_cycle R y x x xs p.0 m in w y z.0 z.1) p.1
 
 -- each victim is one of those that wait
-pub victims_in : (R : Waits) (ws : List TxnId) (vs : List (TxnId × List TxnId)) → AreWaiters ws R → AreVictims R vs → AllByRecursion (λ v. is_in v.0 ws ≡ true) vs
-victims_in R ws [] w h = tt
-victims_in R ws (v ∷ vs) w h =
-    let z = victim_waits R v.0 v.1 h.0 h.1 in
-    (w v.0 z.0 z.1, victims_in (others v.0 R) ws vs (λ x y e. w x y (and_parts (not (is_same_txn v.0 x)) (R x y) e).1) h.2)
+pub victims_in : (t : TxnId) (R : Waits) (ws : List TxnId) (vs : List (TxnId × List TxnId)) → AreWaiters ws R → AreVictims t R vs → AllByRecursion (λ v. is_in v.0 ws ≡ true) vs
+victims_in t R ws [] w h = tt
+victims_in t R ws (v ∷ vs) w h =
+    let z = victim_waits R v.0 v.1 h.0.cycle h.1 in
+    (w v.0 z.0 z.1, victims_in t (others v.0 R) ws vs (λ x y e. w x y (and_parts (not (is_same_txn v.0 x)) (R x y) e).1) h.2)
 
 -- ---- who waits
 

@@ -33,7 +33,7 @@ use Rattle.txn_locks.proofs.Backs.{back_at}
 pub record IsRequested (t : TxnId) (at : RecordId) (m : LockType) (wait : Bool) (v w : Locks) (q : Requested) : Type 0 where
   pub owner : owner_of q ≡ blocker (lock_of t m) (locks_at at v).0
   pub waits : is_some (victims_of q) ≡ (is_some (owner_of q) && wait)
-  pub victims : IfSome (victims_of q) (AreVictims (waits_with (lock_of t m) at v))
+  pub victims : IfSome (victims_of q) (AreVictims t (waits_with (lock_of t m) at v))
   pub locks : (r : RecordId) → locks_at r w ≡ without_waits (taken_back t q) (cond (is_record at r) (after_ask (lock_of t m) (locks_at r v)) (locks_at r v))
   pub pending : (u : TxnId) → is_in u (taken_back t q) ≡ false → pending_at u w ≡ cond (is_same_txn t u) (option_map_or (λ _. Some at) (owner_of q) None) (pending_at u v)
   pub gone : (u : TxnId) → is_in u (taken_back t q) ≡ true → pending_at u w ≡ None

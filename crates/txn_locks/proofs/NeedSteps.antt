@@ -125,7 +125,7 @@ locking_stops t needs i n wait (Waiting at owner) s now next gs more within is s
           need = n;
           there = there_is needs i at n stop.1 within is;
           stopped = e.0;
-          each = subst (λ (x : LockState). AreVictims (waits_in (lock_of t n.asked) (record_of n) x) []) e.1 stop.3;
+          each = subst (λ (x : LockState). AreVictims t (waits_in (lock_of t n.asked) (record_of n) x) []) e.1 stop.3;
           locks = stop.4 ∙ ap (with_wait t n []) e.1;
         },
       ),
@@ -141,7 +141,7 @@ locking_stops t needs i n wait (Victims at owner victims) s now next gs more wit
           need = n;
           there = there_is needs i at n stop.1 within is;
           stopped = e.0;
-          each = subst (λ (x : LockState). AreVictims (waits_in (lock_of t n.asked) (record_of n) x) victims) e.1 stop.4;
+          each = subst (λ (x : LockState). AreVictims t (waits_in (lock_of t n.asked) (record_of n) x) victims) e.1 stop.4;
           locks = stop.5 ∙ ap (with_wait t n (map (λ v. v.0) victims)) e.1;
         },
       ),

@@ -51,7 +51,7 @@ pub record IsMadeToWait (t : TxnId) (needs : List Need) (place : ℕ) (owner : T
   pub need : Need
   pub there : slice_get needs place ≡ Some need
   pub stopped : IsStoppedAt t needs old need owner
-  pub each : AreVictims (waits_in (lock_of t need.asked) (record_of need) (with_granted t needs old)) victims
+  pub each : AreVictims t (waits_in (lock_of t need.asked) (record_of need) (with_granted t needs old)) victims
   pub locks : new ≡ with_wait t need (map (λ v. v.0) victims) (with_granted t needs old)
 
 -- what became of a call: it got all that it needs; or it was stopped, and waits if it is to
@@ -96,10 +96,10 @@ abbrev pub IsStop : Locked → TxnId → Need → ℕ → Bool → LockState →
 IsStop Ready t n place wait old new = ⊥
 IsStop (NotAvailable owner) t n place wait old new = (wait ≡ false) × (owner_before t n old.at ≡ Some owner) × (new ≡ old)
 IsStop (Waiting at owner) t n place wait old new =
-    (wait ≡ true) × (at ≡ place) × (owner_before t n old.at ≡ Some owner) × AreVictims (waits_in (lock_of t n.asked) (record_of n) old) [] × (new ≡ with_wait t n [] old)
+    (wait ≡ true) × (at ≡ place) × (owner_before t n old.at ≡ Some owner) × AreVictims t (waits_in (lock_of t n.asked) (record_of n) old) [] × (new ≡ with_wait t n [] old)
 IsStop (Victims at owner victims) t n place wait old new =
     (wait ≡ true) × (at ≡ place) × (0 < length victims) × (owner_before t n old.at ≡ Some owner)
-    × AreVictims (waits_in (lock_of t n.asked) (record_of n) old) victims × (new ≡ with_wait t n (map (λ v. v.0) victims) old)
+    × AreVictims t (waits_in (lock_of t n.asked) (record_of n) old) victims × (new ≡ with_wait t n (map (λ v. v.0) victims) old)
 
 -- one need: it was granted, or it is stopped
 abbrev pub IsTurn : Option Locked → TxnId → Need → ℕ → Bool → LockState → LockState → Type 0

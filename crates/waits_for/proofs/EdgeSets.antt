@@ -8,7 +8,10 @@ use Rattle.std.specs.BTreeMap.Range.{range_contains}
 use Rattle.std.specs.declared.ops.Bound.TheVariants.{Included}
 use Rattle.std.proofs.lemmas.Bool.Decides.{nat_tests}
 use Rattle.je_order.specs.declared.txn_id.TxnId.{TxnId}
+use Rattle.std.specs.declared.cmp.Ordering.TheVariants.{Less}
+use Rattle.std.specs.List.Sorted.{IsStrictlySortedBy}
 use Rattle.waits_for.specs.Cycles.{is_pair, is_edge, is_from}
+use Rattle.waits_for.specs.Walk.{AreRising}
 
 -- the order of pairs of transaction numbers
 abbrev pub pair_cmp : TxnId × TxnId → TxnId × TxnId → Ordering
@@ -43,3 +46,24 @@ pair_inserted new old x y w o h =
     let d : is_at (pair_cmp (w, o)) (x, y) ≡ is_pair x y (w, o) = grind (arith, nat_tests) in
     let e : is_edge new x y ≡ cond (is_pair x y (w, o)) true (is_edge old x y) = cc in
     e ∙ cond_or (is_pair x y (w, o)) (is_edge old x y)
+
+-- the pairs of one waiter rise
+up : (x : TxnId) (e f : TxnId × TxnId) → is_from x e ≡ true → pair_cmp e f ≡ Less → is_from x f ≡ true → e.1.0 < f.1.0
+up x e f h l k = grind (arith, nat_tests)
+
+above_more : (b : Bool) (n : ℕ) (f : TxnId × TxnId) (row : List (TxnId × TxnId)) → (b ≡ true → n < f.1.0) → AllByRecursion (λ g. n < g.1.0) row → AllByRecursion (λ g. n < g.1.0) (cond b (f ∷ row) row)
+above_more true n f row k rest = (k refl, rest)
+above_more false n f row k rest = rest
+
+above : (x : TxnId) (e : TxnId × TxnId) (es : List (TxnId × TxnId)) → is_from x e ≡ true → AllByRecursion (λ f. pair_cmp e f ≡ Less) es → AllByRecursion (λ f. e.1.0 < f.1.0) (filter (is_from x) es)
+above x e [] h a = tt
+above x e (f ∷ es) h a = above_more (is_from x f) e.1.0 f (filter (is_from x) es) (up x e f h a.0) (above x e es h a.1)
+
+rising_more : (b : Bool) (e : TxnId × TxnId) (row : List (TxnId × TxnId)) → (b ≡ true → AllByRecursion (λ f. e.1.0 < f.1.0) row) → AreRising row → AreRising (cond b (e ∷ row) row)
+rising_more true e row k rest = (k refl, rest)
+rising_more false e row k rest = rest
+
+pub rising_row : (x : TxnId) (es : List (TxnId × TxnId)) → IsStrictlySortedBy pair_cmp es → AreRising (filter (is_from x) es)
+unfolding IsStrictlySortedBy
+rising_row x [] h = tt
+rising_row x (e ∷ es) h = rising_more (is_from x e) e (filter (is_from x) es) (λ k. above x e es k h.0) (rising_row x es h.1)

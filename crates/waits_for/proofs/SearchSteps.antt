@@ -1,100 +1,139 @@
 -- What one step of the search keeps.
-use Rattle.std.proofs.Common.{◌≡◌, ◌+◌, ◌<◌, Bool, true, false, cond, not, ◌&&◌, ◌||◌, List, [], ◌∷◌, ◌++◌, reverse, length, Some, None, refl, ap, sym, ◌∙◌, arith, length-append, subst, inl, inr, ⊎_elim, Option}
-use Rattle.std.specs.List.{list_any, filter}
-use Rattle.std.specs.Option.{is_some, option_map_or}
-use Rattle.std.specs.Ordering.{is_eq}
-use Rattle.std.specs.Map.{lookup}
-use Rattle.std.specs.BTreeMap.{BTreeMap, get, btree_map_len, is_at, Updates}
+use Rattle.std.proofs.Common.{◌≡◌, ℕ, ◌+◌, ◌<◌, Bool, true, false, cond, not, ◌&&◌, ◌||◌, List, [], ◌∷◌, ◌++◌, reverse, length, refl, ap, sym, ◌∙◌, arith, length-append, subst, ◌⊎◌, inl, inr, ⊎_elim, Result, Ok, Err, OnOk}
+use Rattle.std.specs.List.{list_any, filter, AllByRecursion}
+use Rattle.std.proofs.lemmas.List.{reverse-append, reverse-reverse, append-nil}
 use Rattle.std.proofs.lemmas.List.Folds.{list_any-append}
-use Rattle.std.proofs.lemmas.Bool.{cases_Bool, or_cases, or_left, or_right, and_right, both_ways}
-use Rattle.std.proofs.lemmas.Bool.Decides.{nat_tests}
+use Rattle.std.proofs.lemmas.Bool.{cases_Bool, cond-false, cond-true, or_cases, or_left, or_right, and_right, both_ways, false≢true}
 use Rattle.je_order.specs.declared.txn_id.TxnId.{TxnId}
-use Rattle.waits_for.specs.declared.search.Step.{Step}
-use Rattle.waits_for.specs.Cycles.{is_pair, is_edge, is_from}
-use Rattle.je_order.specs.Transactions.{is_same_txn, txn_cmp}
-use Rattle.waits_for.specs.Walk.{is_seen, rank_of, IsTree, IsWalk, left}
-use Rattle.waits_for.proofs.EdgeLists.{pair_is, any_reverse, length_reverse, all_front, all_back, all_reverse, any_row, row_real}
-use Rattle.je_order.proofs.TxnIds.{same_is, same_either}
-use Rattle.je_order.proofs.Lists.{all_append, all_weaker}
+use Rattle.je_order.specs.Transactions.{is_same_txn}
+use Rattle.je_order.proofs.TxnIds.{same_is, same_itself, same_either}
+use Rattle.je_order.proofs.Lists.{all_append, all_weaker, filter_all_pass}
+use Rattle.waits_for.specs.Cycles.{is_pair, is_edge, is_from, is_in, comes_first, begins_with}
+use Rattle.std.specs.Ordering.{is_eq}
+use Rattle.std.specs.BTreeSet.{BTreeSet}
+use Rattle.je_order.specs.Transactions.{txn_cmp}
+use Rattle.waits_for.specs.Walk.{is_seen, AreRising, IsPath, back_to, AreAhead, NoneBefore, IsWalk, IsAtEdge, left}
+use Rattle.waits_for.proofs.EdgeLists.{pair_is, any_row, row_real, length_reverse, reverse_cons}
+use Rattle.waits_for.proofs.SearchPaths.{path_back, begins_back, in_back, first_back, ahead_each}
+use Rattle.waits_for.proofs.SearchEnds.{first_more}
 
-pub at_same : (x y : TxnId) → is_eq (txn_cmp x y) ≡ is_same_txn x y
-at_same x y = grind (arith, nat_tests)
+-- one more was seen
+abbrev pub SeesToo : (TxnId → Bool) → (TxnId → Bool) → TxnId → Type 0
+SeesToo S T y = (q : TxnId) → T q ≡ (is_same_txn y q || S q)
 
--- the map has one more step, at y, or another one there
-pub record Adds (old new : BTreeMap TxnId Step) (y : TxnId) (s : Step) : Type 0 where
-  pub here : get txn_cmp new y ≡ Some s
-  pub there : (q : TxnId) → is_same_txn y q ≡ false → get txn_cmp new q ≡ get txn_cmp old q
+here : (S T : TxnId → Bool) (y : TxnId) → SeesToo S T y → (q : TxnId) → is_same_txn y q ≡ true → T q ≡ true
+here S T y s q h = s q ∙ or_left (is_same_txn y q) (S q) h
 
-pub has_here : (old new : BTreeMap TxnId Step) (y : TxnId) (s : Step) → Adds old new y s → is_seen new y ≡ true
-has_here old new y s a = ap is_some a.here
+more : (S T : TxnId → Bool) (y : TxnId) → SeesToo S T y → (q : TxnId) → S q ≡ true → T q ≡ true
+more S T y s q h = s q ∙ or_right (is_same_txn y q) (S q) h
 
-pub has_more : (old new : BTreeMap TxnId Step) (y : TxnId) (s : Step) → Adds old new y s → (q : TxnId) → is_seen old q ≡ true → is_seen new q ≡ true
-has_more old new y s a q h = ⊎_elim (λ e. rw (← same_is y q e) (has_here old new y s a)) (λ e. ap is_some (a.there q e) ∙ h) (cases_Bool (is_same_txn y q))
+less : (S T : TxnId → Bool) (y : TxnId) → SeesToo S T y → (q : TxnId) → is_same_txn y q ≡ false → T q ≡ S q
+less S T y s q e = s q ∙ ap (λ b. b || S q) e
 
-pub has_less : (old new : BTreeMap TxnId Step) (y : TxnId) (s : Step) → Adds old new y s → (q : TxnId) → is_same_txn y q ≡ false → is_seen new q ≡ is_seen old q
-has_less old new y s a q e = ap is_some (a.there q e)
+-- ---- the next edge is followed
 
-pub known : (edges : List (TxnId × TxnId)) (from : TxnId) (seen : BTreeMap TxnId Step) (todo : List (TxnId × TxnId)) (x y : TxnId)
-    → IsWalk edges from seen (todo ++ ((x, y) ∷ [])) → is_seen seen y ≡ true → is_same_txn y from ≡ false → IsWalk edges from seen todo
-known edges from seen todo x y w h o = record {
-  tree = w.tree;
-  closed = λ a b e k. ⊎_elim (λ m. ⊎_elim inl (λ n. inr (let i : y ≡ b = sym (pair_is a b (x, y) (or_one _ n)).1 in subst (λ (t : TxnId). (is_seen seen t ≡ true) × (is_same_txn t from ≡ false)) i (h, o))) (or_cases (list_any (is_pair a b) todo) _ (sym (list_any-append (is_pair a b) todo ((x, y) ∷ [])) ∙ m))) inr (w.closed a b e k);
-  real = all_front _ todo ((x, y) ∷ []) w.real;
+pub turned_to : (edges : List (TxnId × TxnId)) (from : TxnId) (S : TxnId → Bool) (ps : List TxnId) (todo : List (TxnId × TxnId)) (x y : TxnId) → IsWalk edges from S ps ((x, y) ∷ todo) → IsAtEdge edges from S (back_to x ps) todo x y
+turned_to edges from S ps todo x y w = record {
+  path = path_back edges from x ps w.ahead.0 w.path;
+  last = begins_back x ps w.ahead.0;
+  seen = λ z h. w.seen z (in_back z x ps h);
+  edge = w.real.0;
+  above = w.ahead.1;
+  ahead = w.ahead.2;
+  real = w.real.1;
+  closed = λ a b e s. ⊎_elim (λ m. ⊎_elim inl (λ k. inr (inl k)) (or_cases (is_pair a b (x, y)) (list_any (is_pair a b) todo) m)) (λ n. inr (inr n)) (w.closed a b e s);
+  first = λ other c b. first_back x ps (other ++ from ∷ []) (w.first other c b);
+}
+
+-- to one that was seen before
+pub known : (edges : List (TxnId × TxnId)) (from : TxnId) (S : TxnId → Bool) (ps : List TxnId) (todo : List (TxnId × TxnId)) (x y : TxnId) → IsAtEdge edges from S ps todo x y → S y ≡ true → is_same_txn y from ≡ false → IsWalk edges from S ps todo
+known edges from S ps todo x y t sy other = record {
+  path = t.path;
+  seen = t.seen;
+  ahead = t.ahead;
+  real = t.real;
+  closed = λ a b e s. ⊎_elim (λ m. inr (subst (λ (q : TxnId). (S q ≡ true) × (is_same_txn q from ≡ false)) (sym (pair_is a b (x, y) m).1) (sy, other))) (λ k. k) (t.closed a b e s);
+  first = t.first;
+}
+
+-- ---- to a new one
+
+behind : (ps : List TxnId) (y : TxnId) (todo : List (TxnId × TxnId)) → is_in y ps ≡ false → AreAhead ps todo → AreAhead (y ∷ ps) todo
+behind ps y [] n h = tt
+behind ps y (e ∷ es) n h = (
+  or_right (is_same_txn e.0 y) (is_in e.0 ps) h.0,
+  h.1,
+  subst (λ (q : List TxnId). AreAhead q es) (sym (cond-false (is_same_txn e.0 y) (y ∷ ps) (back_to e.0 ps) apart)) h.2,
+)
+  where
+    apart : is_same_txn e.0 y ≡ false
+    apart = ⊎_elim (λ k. absurd (both_ways (is_in y ps) n (subst (λ (t : TxnId). is_in t ps ≡ true) (same_is e.0 y k) h.0))) (λ k. k) (cases_Bool (is_same_txn e.0 y))
+
+pub ahead_grown : (ps : List TxnId) (y : TxnId) (row todo : List (TxnId × TxnId)) → AllByRecursion (λ e. is_from y e ≡ true) row → AreRising row → is_in y ps ≡ false → AreAhead ps todo → AreAhead (y ∷ ps) (row ++ todo)
+ahead_grown ps y [] todo its rising n h = behind ps y todo n h
+ahead_grown ps y (e ∷ es) todo its rising n h = (
+  or_left (is_same_txn e.0 y) (is_in e.0 ps) turned,
+  all_append (λ f. is_same_txn e.0 f.0 ≡ true → e.1.0 < f.1.0) es todo
+      (all_weaker (λ f. e.1.0 < f.1.0) (λ f. is_same_txn e.0 f.0 ≡ true → e.1.0 < f.1.0) (λ f k s. k) es rising.0)
+      (all_weaker (λ f. is_in f.0 ps ≡ true) (λ f. is_same_txn e.0 f.0 ≡ true → e.1.0 < f.1.0) (λ f k s. absurd (both_ways (is_in y ps) n (subst (λ (t : TxnId). is_in t ps ≡ true) (sym (same_is e.0 f.0 s) ∙ same_is e.0 y turned) k))) todo (ahead_each ps todo h)),
+  subst (λ (q : List TxnId). AreAhead q (es ++ todo)) (sym (cond-true (is_same_txn e.0 y) (y ∷ ps) (back_to e.0 ps) turned)) (ahead_grown ps y es todo its.1 rising.1 n h),
+)
+  where
+    turned : is_same_txn e.0 y ≡ true
+    turned = same_either e.0 y ∙ its.0
+
+row_edges : (edges : List (TxnId × TxnId)) (y : TxnId) → AllByRecursion (λ v. is_edge edges v.0 v.1 ≡ true) (filter (is_from y) edges)
+row_edges edges y = all_weaker (λ v. (is_edge edges v.0 v.1 ≡ true) × Unit {0}) (λ v. is_edge edges v.0 v.1 ≡ true) (λ v k. k.0) (filter (is_from y) edges) (row_real edges y (λ v. Unit {0}) edges (λ v h. h) (λ v h. tt))
+
+-- its edges are followed next
+row_there : (edges todo : List (TxnId × TxnId)) (y a b : TxnId) → is_same_txn y a ≡ true → is_edge edges a b ≡ true → list_any (is_pair a b) (filter (is_from y) edges ++ todo) ≡ true
+row_there edges todo y a b i e =
+    list_any-append (is_pair a b) (filter (is_from y) edges) todo
+    ∙ or_left (list_any (is_pair a b) (filter (is_from y) edges)) (list_any (is_pair a b) todo) (subst (λ (t : TxnId). list_any (is_pair a b) (filter (is_from t) edges) ≡ true) (sym (same_is y a i)) (any_row a b edges ∙ e))
+
+pub visited : (edges : List (TxnId × TxnId)) (from : TxnId) (S T : TxnId → Bool) (ps : List TxnId) (todo : List (TxnId × TxnId)) (x y : TxnId) → IsAtEdge edges from S ps todo x y → SeesToo S T y → S y ≡ false → is_same_txn y from ≡ false → AreRising (filter (is_from y) edges)
+    → IsWalk edges from T (y ∷ ps) (filter (is_from y) edges ++ todo)
+visited edges from S T ps todo x y t s n other rising = record {
+  path = longer ps t.last t.path apart;
+  seen = λ z h. ⊎_elim (λ k. here S T y s z (same_either y z ∙ k)) (λ k. more S T y s z (t.seen z k)) (or_cases (is_same_txn z y) (is_in z ps) h);
+  ahead = ahead_grown ps y (filter (is_from y) edges) todo (filter_all_pass (is_from y) edges) rising apart t.ahead;
+  real = all_append (λ e. is_edge edges e.0 e.1 ≡ true) (filter (is_from y) edges) todo (row_edges edges y) t.real;
+  closed = λ a b e k. ⊎_elim
+      (λ i. inl (row_there edges todo y a b i e))
+      (λ i. ⊎_elim
+      (λ m. inr (subst (λ (q : TxnId). (T q ≡ true) × (is_same_txn q from ≡ false)) (sym (pair_is a b (x, y) m).1) (here S T y s y (same_itself y), other)))
+      (λ m. ⊎_elim
+      (λ j. inl (list_any-append (is_pair a b) (filter (is_from y) edges) todo ∙ or_right (list_any (is_pair a b) (filter (is_from y) edges)) (list_any (is_pair a b) todo) j))
+      (λ j. inr (more S T y s b j.0, j.1))
+      m)
+      (t.closed a b e (sym (less S T y s a i) ∙ k)))
+      (cases_Bool (is_same_txn y a));
+  first = λ o c b. ap (λ (l : List TxnId). comes_first l (o ++ from ∷ [])) (reverse_cons y ps) ∙ first_more edges from S ps todo x y t o c b;
 }
   where
-    or_one : (p : Bool) → (p || false) ≡ true → p ≡ true
-    or_one true e = e
-    or_one false e = e
+    apart : is_in y ps ≡ false
+    apart = ⊎_elim (λ h. absurd (both_ways (S y) n (t.seen y h))) (λ h. h) (cases_Bool (is_in y ps))
 
-pub grown_tree : (edges : List (TxnId × TxnId)) (from : TxnId) (old new : BTreeMap TxnId Step) (x y : TxnId) (s : Step)
-    → IsTree edges from old → Adds old new y s → is_seen old y ≡ false → is_same_txn y from ≡ false → is_seen old x ≡ true → is_edge edges x y ≡ true → s.before ≡ x → s.rank ≡ btree_map_len old → btree_map_len new ≡ btree_map_len old + 1
-    → IsTree edges from new
-grown_tree edges from old new x y s t a n o hx e sb sr len = record {
-  start = has_more old new y s a from t.start;
-  back_seen = λ q r g f. ⊎_elim (λ i. let u = stepped q r g i in has_more old new y s a r.before (rw (u, sb) hx)) (λ i. has_more old new y s a r.before (t.back_seen q r (sym (a.there q i) ∙ g) f)) (cases_Bool (is_same_txn y q));
-  back_edge = λ q r g f. ⊎_elim (λ i. let u = stepped q r g i in rw (u, sb, ← same_is y q i) e) (λ i. t.back_edge q r (sym (a.there q i) ∙ g) f) (cases_Bool (is_same_txn y q));
-  back_rank = λ q r p g f k. ⊎_elim
-      (λ i. let u = stepped q r g i in
-      let k2 : get txn_cmp new x ≡ Some p = rw (u, sb) at k in
-      let other : is_same_txn y x ≡ false = apart x hx in
-      let k3 : get txn_cmp old x ≡ Some p = sym (a.there x other) ∙ k2 in
-      let lt : p.rank < btree_map_len old = t.rank x p k3 in
-      rw (u, sr) lt)
-      (λ i. let g2 = sym (a.there q i) ∙ g in
-      let k2 : get txn_cmp old r.before ≡ Some p = sym (a.there r.before (apart r.before (t.back_seen q r g2 f))) ∙ k in
-      t.back_rank q r p g2 f k2)
-      (cases_Bool (is_same_txn y q));
-  rank = λ q r g. ⊎_elim (λ i. let u = stepped q r g i in rw (u, sr, len) (omega arith)) (λ i. let l : r.rank < btree_map_len old = t.rank q r (sym (a.there q i) ∙ g) in rw len (omega arith)) (cases_Bool (is_same_txn y q));
+    longer : (qs : List TxnId) → begins_with x qs ≡ true → IsPath edges from qs → is_in y qs ≡ false → IsPath edges from (y ∷ qs)
+    longer [] b p m = absurd (false≢true b)
+    longer (q ∷ qs) b p m = (subst (λ (u : TxnId). is_edge edges u y ≡ true) (same_is x q b) t.edge, m, p)
+
+-- the search begins
+pub begun : (edges : List (TxnId × TxnId)) (from : TxnId) (S T : TxnId → Bool) → ((q : TxnId) → S q ≡ false) → SeesToo S T from → AreRising (filter (is_from from) edges) → IsWalk edges from T (from ∷ []) (filter (is_from from) edges ++ [])
+begun edges from S T none s rising = record {
+  path = same_itself from;
+  seen = λ z h. here S T from s z (same_either from z ∙ ⊎_elim (λ k. k) (λ k. absurd (false≢true k)) (or_cases (is_same_txn z from) false h));
+  ahead = ahead_grown [] from (filter (is_from from) edges) [] (filter_all_pass (is_from from) edges) rising refl tt;
+  real = all_append (λ e. is_edge edges e.0 e.1 ≡ true) (filter (is_from from) edges) [] (row_edges edges from) tt;
+  closed = λ a b e k. ⊎_elim (λ i. inl (row_there edges [] from a b i e)) (λ i. absurd (both_ways (S a) (none a) (sym (less S T from s a i) ∙ k))) (cases_Bool (is_same_txn from a));
+  first = first;
 }
   where
-    stepped : (q : TxnId) (r : Step) → get txn_cmp new q ≡ Some r → is_same_txn y q ≡ true → r ≡ s
-    stepped q r g i = let g2 : get txn_cmp new y ≡ Some r = rw (← same_is y q i) at g in let h = a.here in cc
+    first : NoneBefore edges from (reverse (from ∷ []))
+    first [] c b = absurd (false≢true b)
+    first (o ∷ os) c b = or_right _ (is_same_txn from o && true) (ap (λ (p : Bool). p && true) b)
 
-    apart : (q : TxnId) → is_seen old q ≡ true → is_same_txn y q ≡ false
-    apart q h = ⊎_elim (λ i. absurd (both_ways (is_seen old y) n (rw (← same_is y q i) at h))) (λ i. i) (cases_Bool (is_same_txn y q))
-
-pub visited : (edges : List (TxnId × TxnId)) (from : TxnId) (old new : BTreeMap TxnId Step) (todo : List (TxnId × TxnId)) (x y : TxnId) (s : Step)
-    → IsWalk edges from old (todo ++ ((x, y) ∷ [])) → Adds old new y s → is_seen old y ≡ false → is_same_txn y from ≡ false → s.before ≡ x → s.rank ≡ btree_map_len old → btree_map_len new ≡ btree_map_len old + 1
-    → IsWalk edges from new (todo ++ reverse (filter (is_from y) edges))
-visited edges from old new todo x y s w a n o sb sr len =
-    let last = all_back _ todo ((x, y) ∷ []) w.real in
-    record {
-      tree = grown_tree edges from old new x y s w.tree a n o last.0.1 last.0.0 sb sr len;
-      closed = λ p q e k. ⊎_elim
-          (λ i. let m : list_any (is_pair p q) (filter (is_from y) edges) ≡ true = rw (same_is y p i) (any_row p q edges ∙ e) in inl (rw list_any-append (or_right _ _ (any_reverse (is_pair p q) (filter (is_from y) edges) ∙ m))))
-          (λ i. ⊎_elim (λ m. ⊎_elim (λ j. inl (rw list_any-append (or_left _ _ j))) (λ j. inr (let is : y ≡ q = sym (pair_is p q (x, y) (or_one _ j)).1 in subst (λ (t : TxnId). (is_seen new t ≡ true) × (is_same_txn t from ≡ false)) is (has_here old new y s a, o))) (or_cases (list_any (is_pair p q) todo) _ (sym (list_any-append (is_pair p q) todo ((x, y) ∷ [])) ∙ m)))
-          (λ m. inr (has_more old new y s a q m.0, m.1))
-          (w.closed p q e (sym (has_less old new y s a p i) ∙ k)))
-          (cases_Bool (is_same_txn y p));
-      real = all_append _ todo _ (all_weaker _ _ (λ v h. (h.0, has_more old new y s a v.0 h.1)) todo (all_front _ todo ((x, y) ∷ []) w.real))
-          (all_reverse _ _ (row_real edges y (λ v. is_seen new v ≡ true) edges (λ v h. h) (λ v h. rw (← same_is y v.0 h) (has_here old new y s a))));
-    }
-  where
-    or_one : (p : Bool) → (p || false) ≡ true → p ≡ true
-    or_one true e = e
-    or_one false e = e
-
--- the edges that may be followed are fewer by those that are to be followed now
+-- ---- the edges that may be followed are fewer by those that are to be followed now
 fewer_step : {X : Type 0} (a b c : Bool) (x : X) (F G H : List X) → a ≡ (b || c) → (b && c) ≡ false → length F ≡ length G + length H → length (cond a (x ∷ F) F) ≡ length (cond b (x ∷ G) G) + length (cond c (x ∷ H) H)
 fewer_step a true true x F G H i d k = absurd (both_ways true d refl)
 fewer_step a true false x F G H i d k = rw i (omega arith)
@@ -106,64 +145,52 @@ pub fewer : {X : Type 0} (p q r : X → Bool) → ((e : X) → p e ≡ (q e || r
 fewer p q r h d [] = refl
 fewer p q r h d (e ∷ es) = fewer_step (p e) (q e) (r e) e _ _ _ (h e) (d e) (fewer p q r h d es)
 
-pub left_visited : (edges : List (TxnId × TxnId)) (old new : BTreeMap TxnId Step) (todo : List (TxnId × TxnId)) (y : TxnId) (s : Step)
-    → Adds old new y s → is_seen old y ≡ false → left edges new (todo ++ reverse (filter (is_from y) edges)) ≡ left edges old todo
-left_visited edges old new todo y s a n =
-    let f = fewer (λ e. not (is_seen old e.0)) (λ e. not (is_seen new e.0)) (is_from y) split apart edges in
+pub left_visited : (edges : List (TxnId × TxnId)) (S T : TxnId → Bool) (todo : List (TxnId × TxnId)) (y : TxnId) → SeesToo S T y → S y ≡ false → left edges T (todo ++ reverse (filter (is_from y) edges)) ≡ left edges S todo
+left_visited edges S T todo y s n =
+    let f = fewer (λ e. not (S e.0)) (λ e. not (T e.0)) (is_from y) split apart edges in
     omega (arith, length-append todo (reverse (filter (is_from y) edges)), length_reverse (filter (is_from y) edges), f)
   where
     split_step : (o n c : Bool) → n ≡ o → c ≡ false → not o ≡ (not n || c)
     split_step true n c i j = rw (i, j) refl
     split_step false n c i j = rw i refl
 
-    split : (e : TxnId × TxnId) → not (is_seen old e.0) ≡ (not (is_seen new e.0) || is_from y e)
-    split e = ⊎_elim (λ i. let o : is_seen old e.0 ≡ false = rw (← same_is y e.0 i) n in rw (i, o) (sym (or_right (not (is_seen new e.0)) true refl))) (λ i. split_step (is_seen old e.0) (is_seen new e.0) (is_from y e) (has_less old new y s a e.0 i) i) (cases_Bool (is_same_txn y e.0))
+    split : (e : TxnId × TxnId) → not (S e.0) ≡ (not (T e.0) || is_from y e)
+    split e = ⊎_elim (λ i. let o : S e.0 ≡ false = rw (← same_is y e.0 i) n in rw (i, o) (sym (or_right (not (T e.0)) true refl))) (λ i. split_step (S e.0) (T e.0) (is_from y e) (less S T y s e.0 i) i) (cases_Bool (is_same_txn y e.0))
 
-    apart : (e : TxnId × TxnId) → (not (is_seen new e.0) && is_from y e) ≡ false
-    apart e = ⊎_elim (λ i. let o : is_seen new e.0 ≡ true = rw (← same_is y e.0 i) (has_here old new y s a) in rw (i, o) refl) (λ i. rw i (and_right (not (is_seen new e.0)) false refl)) (cases_Bool (is_same_txn y e.0))
+    apart : (e : TxnId × TxnId) → (not (T e.0) && is_from y e) ≡ false
+    apart e = ⊎_elim (λ i. let o : T e.0 ≡ true = here S T y s e.0 i in rw (i, o) refl) (λ i. rw i (and_right (not (T e.0)) false refl)) (cases_Bool (is_same_txn y e.0))
 
--- the search begins
-pub begun : (edges : List (TxnId × TxnId)) (from : TxnId) (old new : BTreeMap TxnId Step) (s : Step)
-    → ((q : TxnId) → is_seen old q ≡ false) → Adds old new from s → s.rank < btree_map_len new → IsWalk edges from new (reverse (filter (is_from from) edges))
-begun edges from old new s none a r = record {
-  tree = record {
-    start = has_here old new from s a;
-    back_seen = λ q t g f. absurd (only q t g f);
-    back_edge = λ q t g f. absurd (only q t g f);
-    back_rank = λ q t p g f k. absurd (only q t g f);
-    rank = λ q t g. ⊎_elim (λ i. let h = a.here in let g2 : get txn_cmp new from ≡ Some t = rw (← same_is from q i) at g in let e : t ≡ s = cc in rw e r) (λ i. absurd (only q t g (sym (same_either from q) ∙ i))) (cases_Bool (is_same_txn from q));
-  };
-  closed = λ p q e k. ⊎_elim (λ i. let m : list_any (is_pair p q) (filter (is_from from) edges) ≡ true = rw (same_is from p i) (any_row p q edges ∙ e) in inl (any_reverse (is_pair p q) (filter (is_from from) edges) ∙ m))
-      (λ i. absurd (both_ways (is_seen old p) (none p) (sym (has_less old new from s a p i) ∙ k)))
-      (cases_Bool (is_same_txn from p));
-  real = all_reverse _ _ (row_real edges from (λ v. is_seen new v ≡ true) edges (λ v h. h) (λ v h. rw (← same_is from v.0 h) (has_here old new from s a)));
-}
+-- ---- as the vectors have them: the path from its beginning on, and the edges with the next one last
+
+pub goes_further : {E : Type 0} (r : Result Unit E) (edges : List (TxnId × TxnId)) (from : TxnId) (S T : TxnId → Bool) (path path2 : List TxnId) (todo todo2 : List (TxnId × TxnId)) (x y : TxnId)
+    → IsAtEdge edges from S (reverse path) (reverse todo) x y → is_same_txn y from ≡ false → S y ≡ false
+    → OnOk r (SeesToo S T y) → OnOk r (path2 ≡ path ++ y ∷ []) → OnOk r (todo2 ≡ todo ++ reverse (filter (is_from y) edges)) → OnOk r (AreRising (filter (is_from y) edges))
+    → OnOk r (IsWalk edges from T (reverse path2) (reverse todo2))
+goes_further (Err e) edges from S T path path2 todo todo2 x y t other n sees p d rising = tt
+goes_further (Ok u) edges from S T path path2 todo todo2 x y t other n sees p d rising =
+    subst (λ (l : List TxnId). IsWalk edges from T l (reverse todo2)) (sym (ap reverse p ∙ reverse-append path (y ∷ [])))
+    (subst (IsWalk edges from T (y ∷ reverse path)) (sym (row_first todo todo2 (filter (is_from y) edges) d)) (visited edges from S T (reverse path) (reverse todo) x y t sees n other rising))
   where
-    only : (q : TxnId) (t : Step) → get txn_cmp new q ≡ Some t → is_same_txn q from ≡ false → ⊥
-    only q t g f = both_ways (is_seen old q) (none q) (sym (has_less old new from s a q (same_either from q ∙ f)) ∙ ap is_some g)
+    row_first : (a b row : List (TxnId × TxnId)) → b ≡ a ++ reverse row → reverse b ≡ row ++ reverse a
+    row_first a b row h = ap reverse h ∙ (reverse-append a (reverse row) ∙ ap (λ (l : List (TxnId × TxnId)). l ++ reverse a) (reverse-reverse row))
 
--- what an insertion says
-pub adds_from : (old new : BTreeMap TxnId Step) (y : TxnId) (s : Step) → Updates txn_cmp old new y (Some s) → Adds old new y s
-adds_from old new y s u = record { here = u.1; there = λ q e. u.2 q (at_same y q ∙ e) }
+pub still_left : {E : Type 0} (r : Result Unit E) (edges : List (TxnId × TxnId)) (S T : TxnId → Bool) (todo todo2 : List (TxnId × TxnId)) (y : TxnId) → S y ≡ false
+    → OnOk r (SeesToo S T y) → OnOk r (todo2 ≡ todo ++ reverse (filter (is_from y) edges)) → OnOk r (left edges T todo2 ≡ left edges S todo)
+still_left (Err e) edges S T todo todo2 y n sees d = tt
+still_left (Ok u) edges S T todo todo2 y n sees d = ap (left edges T) d ∙ left_visited edges S T todo y sees n
 
-pub one_more : (old new : BTreeMap TxnId Step) (y : TxnId) (o : Option Step) → is_seen old y ≡ false → o ≡ get txn_cmp old y → btree_map_len new ≡ btree_map_len old + cond (is_some o) 0 1 → btree_map_len new ≡ btree_map_len old + 1
-one_more old new y o n e l = let i : is_some o ≡ false = ap is_some e ∙ n in rw i at l
+pub begins : (edges : List (TxnId × TxnId)) (from : TxnId) (S T : TxnId → Bool) (path path2 : List TxnId) (todo todo2 : List (TxnId × TxnId)) → ((q : TxnId) → S q ≡ false) → path ≡ [] → todo ≡ []
+    → SeesToo S T from → path2 ≡ path ++ from ∷ [] → todo2 ≡ todo ++ reverse (filter (is_from from) edges) → AreRising (filter (is_from from) edges) → IsWalk edges from T (reverse path2) (reverse todo2)
+begins edges from S T path path2 todo todo2 none p0 t0 sees p d rising =
+    subst (λ (l : List TxnId). IsWalk edges from T l (reverse todo2)) (sym (ap reverse (p ∙ ap (λ (l : List TxnId). l ++ from ∷ []) p0)))
+    (subst (IsWalk edges from T (from ∷ [])) (sym (ap reverse (d ∙ ap (λ (l : List (TxnId × TxnId)). l ++ reverse (filter (is_from from) edges)) t0) ∙ (reverse-reverse (filter (is_from from) edges) ∙ sym (append-nil (filter (is_from from) edges)))))
+    (begun edges from S T none sees rising))
 
-pub none_in_empty : (seen : BTreeMap TxnId Step) → seen.entries ≡ [] → (q : TxnId) → is_seen seen q ≡ false
-none_in_empty seen e q = ap (λ es. is_some (lookup (is_at (txn_cmp q)) es)) e
+pub turn_after : (edges : List (TxnId × TxnId)) (from : TxnId) (S : TxnId → Bool) (path path2 : List TxnId) (todo rest : List (TxnId × TxnId)) (x y : TxnId) → IsWalk edges from S (reverse path) (reverse todo) → todo ≡ rest ++ (x, y) ∷ []
+    → reverse path2 ≡ back_to x (reverse path) → IsAtEdge edges from S (reverse path2) (reverse rest) x y
+turn_after edges from S path path2 todo rest x y w is back =
+    subst (λ (l : List TxnId). IsAtEdge edges from S l (reverse rest) x y) (sym back)
+    (turned_to edges from S (reverse path) (reverse rest) x y (subst (IsWalk edges from S (reverse path)) (ap reverse is ∙ reverse-append rest ((x, y) ∷ [])) w))
 
--- the step before was taken earlier
-pub ranks_fall : (edges : List (TxnId × TxnId)) (from : TxnId) (seen : BTreeMap TxnId Step) (x : TxnId) (s : Step) → IsTree edges from seen → is_same_txn x from ≡ false → Some s ≡ get txn_cmp seen x
-    → rank_of seen s.before < rank_of seen x
-ranks_fall edges from seen x s t f g = rw (← g) (falls (get txn_cmp seen s.before) refl)
-  where
-    there : is_seen seen s.before ≡ true
-    there = t.back_seen x s (sym g) f
-
-    falls : (o : Option Step) → get txn_cmp seen s.before ≡ o → option_map_or (λ (t : Step). t.rank) o 0 < s.rank
-    falls None e = absurd (both_ways (is_seen seen s.before) (ap is_some e) there)
-    falls (Some r) e = t.back_rank x s r (sym g) f e
-
--- the last edge that is to be followed
-pub last_real : (edges : List (TxnId × TxnId)) (from : TxnId) (seen : BTreeMap TxnId Step) (todo : List (TxnId × TxnId)) (x y : TxnId) → IsWalk edges from seen (todo ++ ((x, y) ∷ [])) → (is_edge edges x y ≡ true) × (is_seen seen x ≡ true)
-last_real edges from seen todo x y w = (all_back _ todo ((x, y) ∷ []) w.real).0
+pub none_seen : (seen : BTreeSet TxnId) → seen.keys ≡ [] → (q : TxnId) → is_seen seen q ≡ false
+none_seen seen e q = ap (λ (l : List TxnId). list_any (λ k. is_eq (txn_cmp q k)) l) e

@@ -1,5 +1,5 @@
 -- Waits-for edges as a list of pairs (who waits, for whom), and cycles by that relation.
-use Rattle.std.specs.Prelude.{Bool, true, false, not, ◌&&◌, List, [], ◌∷◌}
+use Rattle.std.specs.Prelude.{◌≡◌, Bool, true, false, not, ◌&&◌, ◌||◌, nat_lt, List, [], ◌∷◌, ◌++◌}
 use Rattle.std.specs.List.{list_any, filter}
 use Rattle.je_order.specs.declared.txn_id.TxnId.{TxnId}
 use Rattle.je_order.specs.Transactions.{is_same_txn}
@@ -50,6 +50,23 @@ closes edges = closes_by (is_edge edges)
 -- a cycle: each waits for the next and the last for the first, and none is named twice
 abbrev pub is_cycle : List (TxnId × TxnId) → List TxnId → Bool
 is_cycle edges = is_cycle_by (is_edge edges)
+
+-- a list comes before another, or begins it: at the first place where they differ it has the lesser number
+abbrev pub comes_first : List TxnId → List TxnId → Bool
+comes_first [] ys = true
+comes_first (x ∷ xs) [] = false
+comes_first (x ∷ xs) (y ∷ ys) = nat_lt x.0 y.0 || (is_same_txn x y && comes_first xs ys)
+
+-- the list begins with this transaction
+abbrev pub begins_with : TxnId → List TxnId → Bool
+begins_with t [] = false
+begins_with t (x ∷ xs) = is_same_txn t x
+
+-- the first cycle from a transaction on, as a search finds it that goes depth first and tries lesser numbers first: the lists of two such cycles, each closed by the transaction itself, are compared number by number, and that of no other comes before
+pub record IsFirstCycle (waits : TxnId → TxnId → Bool) (t : TxnId) (list : List TxnId) : Type 0 where
+  pub cycle : is_cycle_by waits list ≡ true
+  pub from : begins_with t list ≡ true
+  pub first : (other : List TxnId) → is_cycle_by waits other ≡ true → begins_with t other ≡ true → comes_first (list ++ t ∷ []) (other ++ t ∷ []) ≡ true
 
 -- the edges without those of one waiter
 abbrev pub edges_without : TxnId → List (TxnId × TxnId) → List (TxnId × TxnId)

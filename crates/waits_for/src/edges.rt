@@ -2,6 +2,7 @@
 ghost use Rattle.std.specs.Prelude.{◌≡◌, ◌<◌, ◌^◌, [], ◌||◌, reverse, IfOk, OnOk, OnErr};
 ghost use Rattle.std.specs.List.{All, filter};
 ghost use Rattle.waits_for.specs.Cycles.{is_edge, is_from, is_pair, edges_without};
+ghost use Rattle.waits_for.specs.Walk.{AreRising};
 
 use je_order::TxnId;
 use std::alloc::{AllocError, Global};
@@ -64,7 +65,8 @@ impl Edges {
 
     /// The edges that lead from a waiter, the greatest owner first.
     pub fn from(&self, alloc: Global, waiter: TxnId) -> Result<Vec<(TxnId, TxnId)>, AllocError>
-        ensures { IfOk result (λ found. found.items ≡ reverse (filter (is_from waiter) self.now)) }
+        ensures found { IfOk result (λ found. found.items ≡ reverse (filter (is_from waiter) self.now)) }
+        ensures rising { IfOk result (λ found. AreRising (filter (is_from waiter) self.now)) }
     {
         let mut found = rows_from(&self.pairs, alloc, waiter)?;
         found.reverse();
@@ -86,7 +88,8 @@ fn rows_from(
     waiter: TxnId,
 ) -> Result<Vec<(TxnId, TxnId)>, AllocError>
     requires { All (λ e. e.1.0 < 2 ^ 64) pairs.now.keys }
-    ensures { IfOk result (λ found. found.items ≡ filter (is_from waiter) pairs.now.keys) }
+    ensures found { IfOk result (λ found. found.items ≡ filter (is_from waiter) pairs.now.keys) }
+    ensures rising { IfOk result (λ found. AreRising (filter (is_from waiter) pairs.now.keys)) }
 {
     let first = (waiter, TxnId(0));
     let last = (waiter, TxnId(u64::MAX));

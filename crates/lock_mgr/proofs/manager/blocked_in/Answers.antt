@@ -31,10 +31,10 @@ returns-in-Ok-clause-pending c = λ t m.
     c.cancel_each.ensures.pending t j
 
 pub returns-in-Ok-clause-free : goal.returns-in-Ok-clause-free
-returns-in-Ok-clause-free c = free_victims c.args.table.now c.cancel_each.new.table c.in-Ok.victims c.cancel_each.ensures.sound (λ r. rw (← c.as_slice.ensures) (c.cancel_each.ensures.locks r)) c.cancel_each.ensures.kept c.in-Ok.ensures
+returns-in-Ok-clause-free c = free_victims c.args.txn c.args.table.now c.cancel_each.new.table c.in-Ok.victims c.cancel_each.ensures.sound (λ r. rw (← c.as_slice.ensures) (c.cancel_each.ensures.locks r)) c.cancel_each.ensures.kept c.in-Ok.ensures
 
 pub returns-in-Ok-clause-gone : goal.returns-in-Ok-clause-gone
 returns-in-Ok-clause-gone c = λ t m.
     let k : is_in t (map (λ v. v.0) c.in-Ok.victims) ≡ true = rw (c.answer_of.ensures.taken c.args.txn) at m in
     let j : is_in t (map (λ v. v.0) c.as_slice.result.now) ≡ true = rw c.as_slice.ensures k in
-    c.cancel_each.ensures.gone t j (victims_stand c.args.table.now (waits c.args.table.now) (λ x y e. e) c.in-Ok.victims c.in-Ok.ensures t k)
+    c.cancel_each.ensures.gone t j (victims_stand c.args.txn c.args.table.now (waits c.args.table.now) (λ x y e. e) c.in-Ok.victims c.in-Ok.ensures t k)

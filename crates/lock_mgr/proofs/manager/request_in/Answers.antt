@@ -34,7 +34,7 @@ pub returns-in-Blocked-clause-victims : goal.returns-in-Blocked-clause-victims
 returns-in-Blocked-clause-victims c =
     let b : is_blocked (locks_at c.args.at.now c.args.table.now).0 (lock_of c.args.txn c.args.asked) ≡ true = blocked_some (lock_of c.args.txn c.args.asked) (locks_at c.args.at.now c.args.table.now).0 ∙ sym (ap is_some (rw c.in-Blocked.is at c.in_ok-ask.ensures.answer)) in
     let p : IsPut c.args.table.now c.ask.new.self c.args.at.now (lock_of c.args.txn c.args.asked) = record { blocked = b; none = no_wait c.args.table.now c.args.txn c.requires.free.sound c.requires.none; locks = c.in_ok-ask.ensures.locks; pending = rw c.in-Blocked.is at c.in_ok-ask.ensures.pending } in
-    if_ok c.blocked_in.result (λ answer h. IfSome_then (victims_of answer) h (same_victims (waits_with (lock_of c.args.txn c.args.asked) c.args.at.now c.args.table.now) (waits c.ask.new.self) (put_waits c.args.table.now c.ask.new.self c.args.at.now (lock_of c.args.txn c.args.asked) p))) c.blocked_in.ensures.victims
+    if_ok c.blocked_in.result (λ answer h. IfSome_then (victims_of answer) h (same_victims c.args.txn (waits_with (lock_of c.args.txn c.args.asked) c.args.at.now c.args.table.now) (waits c.ask.new.self) (put_waits c.args.table.now c.ask.new.self c.args.at.now (lock_of c.args.txn c.args.asked) p))) c.blocked_in.ensures.victims
 
 pub returns-in-Blocked-clause-err : goal.returns-in-Blocked-clause-err
 returns-in-Blocked-clause-err c =
