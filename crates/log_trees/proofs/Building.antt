@@ -1,9 +1,9 @@
 -- Images that are logged: when they are right, and what they show.
-use Rattle.std.proofs.Common.{◌≡◌, ℕ, suc, ◌<◌, Bool, true, false, cond, List, [], ◌∷◌, ◌++◌, Option, None, Some, map, is_eq, refl, sym, ap, subst, ◌∙◌}
+use Rattle.std.proofs.Common.{◌≡◌, ℕ, suc, ◌<◌, nat_lt, Bool, true, false, cond, List, [], ◌∷◌, ◌++◌, Option, None, Some, map, is_eq, refl, sym, ap, subst, ◌∙◌}
 use Rattle.std.specs.Prelude.{IfSome, find}
 use Rattle.std.specs.Option.{option_and_then}
-use Rattle.std.proofs.lemmas.Bool.{and_from}
-use Rattle.std.specs.List.{AllByRecursion, flat_map, list_all}
+use Rattle.std.proofs.lemmas.Bool.{lt-ltb}
+use Rattle.std.specs.List.{AllByRecursion, flat_map}
 use Rattle.je_order.specs.Order.{name_cmp}
 use Rattle.je_order.specs.declared.name.Name.{Name}
 use Rattle.log_entry.specs.declared.entry.Entry.TheVariants.{In, Bin}
@@ -16,13 +16,18 @@ use Rattle.node_core.proofs.NameOrder.{same}
 use Rattle.je_order.proofs.Orderings.{equal_from_test}
 use Rattle.node_log.specs.Slots.{lsn_in, shown_version, slot_of_record, slot_of_child, fresh}
 use Rattle.node_log.specs.Images.{bin_of}
+use Rattle.log_entry.specs.Body.{IsEntry}
 use Rattle.log_trees.specs.Placed.{Placed, entry_at}
-use Rattle.log_trees.specs.Images.{NamedLsn, named, slot_shown, node_in, node_at, image}
+use Rattle.log_trees.specs.Images.{NamedLsn, named, slot_shown, slots_shown, node_in, node_at, image}
 use Rattle.log_trees.specs.Trees.{found, child_over, shows}
-use Rattle.log_trees.specs.Sound.{is_within, Child, children, IsRecordAt, IsTreeAt, at_home}
+use Rattle.log_trees.specs.Bounds.{is_within, Child, children}
+use Rattle.log_trees.specs.Sound.{AreUp, IsRecordAt, IsTreeAt, at_home}
 use Rattle.log_trees.specs.Building.{child_shown, BinsAreRight, InsAreRight, BinsShow, InsShow}
 use Rattle.log_trees.proofs.Names.{up_shown, whole_up}
-use Rattle.log_trees.proofs.Shown.{image_is}
+use Rattle.je_order.proofs.Lists.{all_weaker}
+use Rattle.log_replay.proofs.ListLaws.{filter-all}
+use Rattle.log_trees.proofs.Cut.{found_kept, all_in, cut_slots, children_cut, children_lower, over_kept}
+use Rattle.log_trees.proofs.Shown.{image_kept}
 
 -- ---- slots of an entry as a node has them
 
@@ -39,27 +44,16 @@ children_shown : (slots : List ChildSlot) → flat_map slot_shown (map of_child 
 children_shown [] = refl
 children_shown (c ∷ slots) = ap (λ (l : List NamedLsn). child_shown c ∷ l) (children_shown slots)
 
--- what holds of each slot that has an LSN
-records_shown : (P : NamedLsn → Type 0) (slots : List RecordSlot) → AllByRecursion (λ s. IfSome s.lsn (λ lsn. P (s.name, lsn))) slots → AllByRecursion P (flat_map slot_shown (map of_record slots))
-records_shown P [] all = tt
-records_shown P (r ∷ slots) all = one r.lsn all.0 (records_shown P slots all.1)
+-- what holds of each slot that has an LSN and whose name passes a test
+records_in : (p : Name → Bool) (P : NamedLsn → Type 0) (slots : List RecordSlot) → AllByRecursion (λ s. p s.name ≡ true → IfSome s.lsn (λ lsn. P (s.name, lsn))) slots →
+    AllByRecursion (λ s. p s.0 ≡ true → P s) (flat_map slot_shown (map of_record slots))
+records_in p P [] all = tt
+records_in p P (r ∷ slots) all = one r.lsn all.0 (records_in p P slots all.1)
   where
-    one : (o : Option ℕ) → IfSome o (λ lsn. P (r.name, lsn)) → AllByRecursion P (flat_map slot_shown (map of_record slots)) →
-        AllByRecursion P (named r.name (lsn_in (shown_version o)) ++ flat_map slot_shown (map of_record slots))
+    one : (o : Option ℕ) → (p r.name ≡ true → IfSome o (λ lsn. P (r.name, lsn))) → AllByRecursion (λ s. p s.0 ≡ true → P s) (flat_map slot_shown (map of_record slots)) →
+        AllByRecursion (λ s. p s.0 ≡ true → P s) (named r.name (lsn_in (shown_version o)) ++ flat_map slot_shown (map of_record slots))
     one None h rest = rest
     one (Some lsn) h rest = (h, rest)
-
-records_within : (p : Name → Bool) (slots : List RecordSlot) → AllByRecursion (λ s. p s.name ≡ true) slots → list_all (λ (m : Marked). p m.slot.name) (map of_record slots) ≡ true
-records_within p [] all = refl
-records_within p (r ∷ slots) all = and_from (p r.name) (list_all (λ (m : Marked). p m.slot.name) (map of_record slots)) all.0 (records_within p slots all.1)
-
-children_within : (p : Name → Bool) (slots : List ChildSlot) → AllByRecursion (λ s. p s.name ≡ true) slots → list_all (λ (m : Marked). p m.slot.name) (map of_child slots) ≡ true
-children_within p [] all = refl
-children_within p (c ∷ slots) all = and_from (p c.name) (list_all (λ (m : Marked). p m.slot.name) (map of_child slots)) all.0 (children_within p slots all.1)
-
-children_lower : (at : ℕ) (slots : List ChildSlot) → AllByRecursion (λ s. s.child < at) slots → AllByRecursion (λ (s : NamedLsn). s.1 < at) (map child_shown slots)
-children_lower at [] all = tt
-children_lower at (c ∷ slots) all = (all.0, children_lower at slots all.1)
 
 bin_image : (es : List Placed) (d number : ℕ) (slots : List RecordSlot) (at : ℕ) → entry_at es at ≡ Some (Bin d number slots) → node_at es at ≡ Some (bin_of d number slots)
 bin_image es d number slots at is = ap (option_and_then (node_in es at)) is
@@ -70,32 +64,34 @@ in_image es d number level slots at is = ap (option_and_then (node_in es at)) is
 -- ---- right images
 
 pub bins_are_right : BinsAreRight
-bins_are_right es home d number slots low high at is entry within own records =
+bins_are_right es home d number slots low high at is entry own records =
     let n : Node = bin_of d number slots in
     record {
       node = n;
       image = bin_image es d number slots at is;
       db = refl;
       level_is = refl;
-      within = records_within (is_within low high) slots within;
       up = up_shown n.slots (whole_up (Bin d number slots) n entry refl);
       home = own;
-      right = records_shown (IsRecordAt es d at) slots records;
+      right = all_in (IsRecordAt es d at) low high (slots_shown n) (records_in (is_within low high) (IsRecordAt es d at) slots records);
     }
 
 pub ins_are_right : InsAreRight
-ins_are_right es home d number above slots low high at is entry within own trees =
+ins_are_right es home d number above slots low high at is entry own trees =
     let n : Node = in_of d number (suc (suc above)) slots in
     record {
       node = n;
       image = in_image es d number (suc (suc above)) slots at is;
       db = refl;
       level_is = refl;
-      within = children_within (is_within low high) slots within;
       up = up_shown n.slots (whole_up (In d number (suc (suc above)) slots) n entry refl);
       home = own;
       right = subst (λ (l : List NamedLsn). AllByRecursion (λ (c : Child). (c.at < at) × IsTreeAt es (at_home home d) d above c.low c.high c.at) (children low high l)) (sym (children_shown slots)) trees;
     }
+
+-- the names of an IN's slots rise
+pub in_up : (d number level : ℕ) (slots : List ChildSlot) → IsEntry (In d number level slots) → AreUp (map child_shown slots)
+in_up d number level slots entry = subst AreUp (children_shown slots) (up_shown (map of_child slots) (whole_up (In d number level slots) (in_of d number level slots) entry refl))
 
 -- ---- what they show
 
@@ -126,16 +122,29 @@ found_slot x (r ∷ slots) up = by_test (is_eq (name_cmp x r.name)) r.lsn refl (
     by_test false (Some lsn) is rest = rw is rest
 
 pub bins_show : BinsShow
-bins_show es d number slots at x is entry lower =
+bins_show es d number slots low high at x is entry lower x_in =
     let n : Node = bin_of d number slots in
-    ap (found x) (image_is es 1 at n (bin_image es d number slots at is) refl (records_shown (λ (s : NamedLsn). s.1 < at) slots lower))
+    ap (found x) (image_kept es 1 at n (bin_image es d number slots at is) refl)
+    ∙ found_kept (λ (s : NamedLsn). nat_lt s.1 at) x (slots_shown n)
+    (all_weaker (λ (s : NamedLsn). is_within low high s.0 ≡ true → s.1 < at) (λ s. is_eq (name_cmp x s.0) ≡ true → nat_lt s.1 at ≡ true)
+    (λ s h e. lt-ltb s.1 at (h (ap (is_within low high) (sym (same x s.0 (equal_from_test _ e))) ∙ x_in))) (slots_shown n) (records_in (is_within low high) (λ s. s.1 < at) slots lower))
     ∙ found_slot x slots (whole_up (Bin d number slots) n entry refl)
 
 pub ins_show : InsShow
-ins_show es d number above slots at x is lower =
+ins_show es d number above slots low high at x is entry lower x_in =
     let n : Node = in_of d number (suc (suc above)) slots in
-    let shown : image es (suc (suc above)) at ≡ map child_shown slots =
-    image_is es (suc (suc above)) at n (in_image es d number (suc (suc above)) slots at is) refl
-    (subst (AllByRecursion (λ (s : NamedLsn). s.1 < at)) (sym (children_shown slots)) (children_lower at slots lower))
-    ∙ children_shown slots in
-    ap (λ (l : List NamedLsn). option_and_then (λ c. shows es above c x) (child_over x l)) shown
+    let up : AreUp (slots_shown n) = up_shown n.slots (whole_up (In d number (suc (suc above)) slots) n entry refl) in
+    let below : AllByRecursion (λ (s : NamedLsn). s.1 < at) (cut_slots low high (slots_shown n)) =
+    children_lower (λ (m : ℕ). m < at) low high (cut_slots low high (slots_shown n))
+    (subst (AllByRecursion (λ (c : Child). c.at < at)) (children_cut low high (slots_shown n) up)
+    (subst (λ (l : List NamedLsn). AllByRecursion (λ (c : Child). c.at < at) (children low high l)) (sym (children_shown slots)) lower)) in
+    ap (option_and_then (λ c. shows es above c x))
+    (ap (child_over x) (image_kept es (suc (suc above)) at n (in_image es d number (suc (suc above)) slots at is) refl)
+    ∙ over_kept (λ (m : ℕ). nat_lt m at) x low high (slots_shown n) x_in up (all_weaker (λ (s : NamedLsn). s.1 < at) (λ s. nat_lt s.1 at ≡ true) (λ s h. lt-ltb s.1 at h) (cut_slots low high (slots_shown n)) below)
+    ∙ sym (over_kept (λ (m : ℕ). true) x low high (slots_shown n) x_in up (all_true (cut_slots low high (slots_shown n))))
+    ∙ ap (child_over x) (filter-all (λ (s : NamedLsn). true) (slots_shown n) (all_true (slots_shown n)))
+    ∙ ap (child_over x) (children_shown slots))
+  where
+    all_true : (l : List NamedLsn) → AllByRecursion (λ (s : NamedLsn). true ≡ true) l
+    all_true [] = tt
+    all_true (s ∷ l) = (refl, all_true l)

@@ -2,6 +2,8 @@
 pub mod Staying
 -- Names and bounds.
 pub mod Bounds
+-- The children of an IN within bounds, side by side.
+pub mod Cut
 -- The records below an image are those that it shows name by name.
 pub mod Shown
 -- What the roots of right trees give is what they show name by name.

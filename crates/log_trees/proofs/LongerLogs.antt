@@ -12,7 +12,7 @@ use Rattle.log_replay.specs.declared.corruption.Corruption.TheVariants.{Tree}
 use Rattle.je_order.proofs.Lists.{all_weaker}
 use Rattle.log_trees.specs.Placed.{Placed, entry_at}
 use Rattle.log_trees.specs.Images.{NamedLsn, slots_shown}
-use Rattle.log_trees.specs.Sound.{least_name, Child, children}
+use Rattle.log_trees.specs.Bounds.{least_name, slots_inside, Child, children}
 use Rattle.log_trees.specs.Walk.{and_then, each, Walk, nowhere, delta_on, image_in, image_by, read_image, node_standing, read_here, met, record_by, read_record, read_child, read_node, read_level, read_root}
 use Rattle.log_trees.specs.Laws.{AreBehind, ReadingsStay}
 use Rattle.log_trees.proofs.Staying.{entry-stays, lower_behind}
@@ -52,10 +52,10 @@ read_image-stays files es more d at behind = ap (image_by files (es ++ more) d a
 
 -- ---- one tree
 
-read_here-stays : (files : List ℕ) (es more : List Placed) (d level : ℕ) (low : Name) (high : Option Name) (at : ℕ) (seen : List ℕ) → AreBehind at more →
-    read_here files (es ++ more) d level low high at seen ≡ read_here files es d level low high at seen
-read_here-stays files es more d level low high at seen behind =
-    ap (λ (r : Result Node Corruption). and_then r (node_standing level low high at seen)) (read_image-stays files es more d at behind)
+read_here-stays : (files : List ℕ) (es more : List Placed) (d level at : ℕ) (seen : List ℕ) → AreBehind at more →
+    read_here files (es ++ more) d level at seen ≡ read_here files es d level at seen
+read_here-stays files es more d level at seen behind =
+    ap (λ (r : Result Node Corruption). and_then r (node_standing level at seen)) (read_image-stays files es more d at behind)
 
 record-stays : (files : List ℕ) (es more : List Placed) (d at : ℕ) (s : NamedLsn) (walk : Walk) → AreBehind at more → read_record files (es ++ more) d at s walk ≡ read_record files es d at s walk
 record-stays files es more d at s walk behind = by_test (nat_lt s.1 at) refl
@@ -77,13 +77,13 @@ child-stays files more f g at child walk behind same = by_test (nat_lt child.at 
 node-stays : (files : List ℕ) (es more : List Placed) (d above : ℕ) (low : Name) (high : Option Name) (at : ℕ) (walk : Walk) → AreBehind at more →
     read_node files (es ++ more) d above low high at walk ≡ read_node files es d above low high at walk
 node-stays files es more d zero low high at walk behind =
-    ap (λ (r : Result Node Corruption). and_then r (λ n. each (read_record files (es ++ more) d at) (slots_shown n) (met n walk))) (read_here-stays files es more d 1 low high at walk.seen behind)
-    ∙ then_same (read_here files es d 1 low high at walk.seen) (λ n. each (read_record files (es ++ more) d at) (slots_shown n) (met n walk)) (λ n. each (read_record files es d at) (slots_shown n) (met n walk))
-    (λ n. each_same (read_record files (es ++ more) d at) (read_record files es d at) (slots_shown n) (met n walk) (λ s w. record-stays files es more d at s w behind))
+    ap (λ (r : Result Node Corruption). and_then r (λ n. each (read_record files (es ++ more) d at) (slots_inside low high (slots_shown n)) (met n walk))) (read_here-stays files es more d 1 at walk.seen behind)
+    ∙ then_same (read_here files es d 1 at walk.seen) (λ n. each (read_record files (es ++ more) d at) (slots_inside low high (slots_shown n)) (met n walk)) (λ n. each (read_record files es d at) (slots_inside low high (slots_shown n)) (met n walk))
+    (λ n. each_same (read_record files (es ++ more) d at) (read_record files es d at) (slots_inside low high (slots_shown n)) (met n walk) (λ s w. record-stays files es more d at s w behind))
 node-stays files es more d (suc above) low high at walk behind =
     ap (λ (r : Result Node Corruption). and_then r (λ n. each (read_child files (read_node files (es ++ more) d above) at) (children low high (slots_shown n)) (met n walk)))
-    (read_here-stays files es more d (suc (suc above)) low high at walk.seen behind)
-    ∙ then_same (read_here files es d (suc (suc above)) low high at walk.seen)
+    (read_here-stays files es more d (suc (suc above)) at walk.seen behind)
+    ∙ then_same (read_here files es d (suc (suc above)) at walk.seen)
     (λ n. each (read_child files (read_node files (es ++ more) d above) at) (children low high (slots_shown n)) (met n walk))
     (λ n. each (read_child files (read_node files es d above) at) (children low high (slots_shown n)) (met n walk))
     (λ n. each_same (read_child files (read_node files (es ++ more) d above) at) (read_child files (read_node files es d above) at) (children low high (slots_shown n)) (met n walk)

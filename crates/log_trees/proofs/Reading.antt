@@ -26,11 +26,13 @@ use Rattle.log_trees.specs.Placed.{Placed, entry_at}
 use Rattle.log_trees.specs.Changes.{LoggedChange}
 use Rattle.log_trees.specs.Images.{NamedLsn, slots_shown, node_in, node_at}
 use Rattle.log_trees.specs.Trees.{slots_at, data_in, loaded, rows_of_root, rows_of_roots}
-use Rattle.log_trees.specs.Sound.{least_name, is_below, is_within, are_within, AreUp, Child, children, IsRecordAt, IsTreeAt, Home, at_home, IsRootAt}
+use Rattle.log_trees.specs.Bounds.{least_name, is_below, is_within, slots_inside, Child, children}
+use Rattle.log_trees.specs.Sound.{AreUp, IsRecordAt, IsTreeAt, Home, at_home, IsRootAt}
 use Rattle.log_trees.specs.Walk.{and_then, each, Walk, nowhere, is_bin_of, node_read, delta_by, delta_on, image_in, image_by, read_image, may_stand, node_standing, read_here, met, with_record, record_in, record_by, read_record, read_child, read_node, read_level, read_root}
 use Rattle.log_trees.specs.Laws.{RootsAreRead}
-use Rattle.log_trees.proofs.Bounds.{less_of, below_more, above_more, within_parts, within_next, not_below_itself}
-use Rattle.log_trees.proofs.Shown.{leaf_image, inner_image, node_within}
+use Rattle.log_trees.proofs.Bounds.{below_more, above_more, within_parts, within_next, not_below_itself}
+use Rattle.log_trees.proofs.Cut.{side_by_side, children_cut, cut_within, cut_up, below_next, below_last}
+use Rattle.log_trees.proofs.Shown.{leaf_image, inner_image, child_slots_of, right_beside}
 use Rattle.log_trees.proofs.Rooted.{RiseFrom, rise_of, root_rows}
 
 -- ---- one image
@@ -152,14 +154,13 @@ higher_level d most low high h is = let le = is.level in record { db = is.db; le
 -- ---- one node
 
 here-ok : (files : List ℕ) (es : List Placed) (home : ℕ → Home) (d above level : ℕ) (low : Name) (high : Option Name) (at : ℕ) (seen : List ℕ) (n : Node) →
-    node_at es at ≡ Some n → n.db ≡ d → n.level ≡ level → are_within low high n ≡ true → at_home home d n.number above low → is_below low high ≡ true →
-    NoneIn home d above low high seen → read_here files es d level low high at seen ≡ Ok n
-here-ok files es home d above level low high at seen n is db level_is within own below none =
-    ap (λ (r : Result Node Corruption). and_then r (node_standing level low high at seen)) (read_image-ok files es d at n is db)
-    ∙ cond-true (may_stand level low high seen n) (Ok n) (Err (Tree at))
-    (and_from (n.level == level) (not (list_any (λ m. m == n.number) seen) && are_within low high n) (eq-eqb n.level level level_is)
-    (and_from (not (list_any (λ m. m == n.number) seen)) (are_within low high n)
-    (not_from_false (list_any (λ m. m == n.number) seen) (each_none (λ m. m == n.number) seen new)) within))
+    node_at es at ≡ Some n → n.db ≡ d → n.level ≡ level → at_home home d n.number above low → is_below low high ≡ true →
+    NoneIn home d above low high seen → read_here files es d level at seen ≡ Ok n
+here-ok files es home d above level low high at seen n is db level_is own below none =
+    ap (λ (r : Result Node Corruption). and_then r (node_standing level at seen)) (read_image-ok files es d at n is db)
+    ∙ cond-true (may_stand level seen n) (Ok n) (Err (Tree at))
+    (and_from (n.level == level) (not (list_any (λ m. m == n.number) seen)) (eq-eqb n.level level level_is)
+    (not_from_false (list_any (λ m. m == n.number) seen) (each_none (λ m. m == n.number) seen new)))
   where
     new : AllByRecursion (λ m. (m == n.number) ≡ false) seen
     new = all_weaker (λ m. IsIn d above low high (home m) → ⊥) (λ m. (m == n.number) ≡ false)
@@ -167,26 +168,13 @@ here-ok files es home d above level low high at seen n is db level_is within own
 
 -- ---- the children of an IN, one after another
 
--- the bounds of the first child have room, since its slot lies within them
-below_next : (low : Name) (s n : Name) → is_lt (name_cmp s low) ≡ false → name_cmp s n ≡ Less → is_lt (name_cmp low n) ≡ true
-below_next low s n s_in up = by_order (name_cmp low n) refl
-  where
-    by_order : (o : Ordering) → name_cmp low n ≡ o → is_lt o ≡ true
-    by_order Less e = refl
-    by_order Equal e = absurd (true≢false (sym (ap is_lt (ap (λ (k : Name). name_cmp s k) (same low n e) ∙ up)) ∙ s_in))
-    by_order Greater e = absurd (true≢false (sym (ap is_lt (total.trans s n low up (turned low n Greater e))) ∙ s_in))
-
-below_last : (low : Name) (high : Option Name) (s : Name) → is_lt (name_cmp s low) ≡ false → is_below s high ≡ true → is_below low high ≡ true
-below_last low None s a b = refl
-below_last low (Some h) s a b = below_next low s h a (less_of _ b)
-
 children-ok : (files : List ℕ) (es : List Placed) (home : ℕ → Home) (d above at : ℕ)
     (goes : (low : Name) (high : Option Name) (c : ℕ) (walk : Walk) → IsTreeAt es (at_home home d) d above low high c → is_below low high ≡ true → NoneIn home d above low high walk.seen →
-    IsMet home d above low high (map (loaded es d) (slots_at es above c)) walk (read_node files es d above low high c walk))
+    IsMet home d above low high (map (loaded es d) (slots_at es above low high c)) walk (read_node files es d above low high c walk))
     (low : Name) (high : Option Name) (slots : List NamedLsn) (walk : Walk) →
-    AllByRecursion (λ (c : Child). (c.at < at) × IsTreeAt es (at_home home d) d above c.low c.high c.at) (children low high slots) →
+    AllByRecursion (λ (c : Child). (c.at < at) × IsTreeAt es (at_home home d) d above c.low c.high c.at) (side_by_side low high slots) →
     AllByRecursion (λ s. is_within low high s.0 ≡ true) slots → AreUp slots → NoneIn home d above low high walk.seen →
-    IsMet home d above low high (map (loaded es d) (flat_map (λ (s : NamedLsn). slots_at es above s.1) slots)) walk (each (read_child files (read_node files es d above) at) (children low high slots) walk)
+    IsMet home d above low high (map (loaded es d) (flat_map (λ (c : Child). slots_at es above c.low c.high c.at) (side_by_side low high slots))) walk (each (read_child files (read_node files es d above) at) (side_by_side low high slots) walk)
 children-ok files es home d above at goes low high [] walk trees within up none = record { met_ = []; is = ap (done walk.seen) (sym (append-nil walk.rows)); homes = tt }
   where
     done : List ℕ → List LoggedChange → Result Walk Corruption
@@ -199,7 +187,7 @@ children-ok files es home d above at goes low high (s ∷ []) walk trees within 
       is =
           ap (λ (r : Result Walk Corruption). and_then r (λ w. Ok w))
           (cond-true (nat_lt s.1 at) (read_node files es d above low high s.1 walk) (Err (nowhere files s.1)) (lt-ltb s.1 at trees.0.0) ∙ first.is)
-          ∙ ap (λ (l : List NamedLsn). done (first.met_ ++ walk.seen) (walk.rows ++ map (loaded es d) l)) (sym (append-nil (slots_at es above s.1)));
+          ∙ ap (λ (l : List NamedLsn). done (first.met_ ++ walk.seen) (walk.rows ++ map (loaded es d) l)) (sym (append-nil (slots_at es above low high s.1)));
       homes = first.homes;
     }
   where
@@ -210,23 +198,23 @@ children-ok files es home d above at goes low high (s ∷ n ∷ slots) walk tree
     let n_in = within_parts low high n.0 within.1.0 in
     let first = goes low (Some n.0) s.1 walk trees.0.1 (below_next low s.0 n.0 s_in.0 up.0.0)
     (all_weaker (λ m. IsIn d above low high (home m) → ⊥) (λ m. IsIn d above low (Some n.0) (home m) → ⊥) (λ m h k. h (wider_part d above low high n.0 (home m) n_in.1 k)) walk.seen none) in
-    let next : Walk = record { seen = first.met_ ++ walk.seen; rows = walk.rows ++ map (loaded es d) (slots_at es above s.1) } in
+    let next : Walk = record { seen = first.met_ ++ walk.seen; rows = walk.rows ++ map (loaded es d) (slots_at es above low (Some n.0) s.1) } in
     let none_next : NoneIn home d above n.0 high (first.met_ ++ walk.seen) =
     all_append (λ m. IsIn d above n.0 high (home m) → ⊥) first.met_ walk.seen
     (all_weaker (λ m. IsIn d above low (Some n.0) (home m)) (λ m. IsIn d above n.0 high (home m) → ⊥) (λ m h k. not_later d above low high n.0 (home m) h k) first.met_ first.homes)
     (all_weaker (λ m. IsIn d above low high (home m) → ⊥) (λ m. IsIn d above n.0 high (home m) → ⊥) (λ m h k. h (later_part d above low high n.0 (home m) n_in.0 k)) walk.seen none) in
     let rest = children-ok files es home d above at goes n.0 high (n ∷ slots) next trees.1 (within_next low high n slots within.1 up.1) up.1 none_next in
-    let others : List NamedLsn = flat_map (λ (t : NamedLsn). slots_at es above t.1) (n ∷ slots) in
+    let others : List NamedLsn = flat_map (λ (c : Child). slots_at es above c.low c.high c.at) (side_by_side n.0 high (n ∷ slots)) in
     record {
       met_ = rest.met_ ++ first.met_;
       is =
-          ap (λ (r : Result Walk Corruption). and_then r (each (read_child files (read_node files es d above) at) (children n.0 high (n ∷ slots))))
+          ap (λ (r : Result Walk Corruption). and_then r (each (read_child files (read_node files es d above) at) (side_by_side n.0 high (n ∷ slots))))
           (cond-true (nat_lt s.1 at) (read_node files es d above low (Some n.0) s.1 walk) (Err (nowhere files s.1)) (lt-ltb s.1 at trees.0.0) ∙ first.is)
           ∙ rest.is
-          ∙ ap (λ (l : List ℕ). done l ((walk.rows ++ map (loaded es d) (slots_at es above s.1)) ++ map (loaded es d) others)) (sym (append_assoc rest.met_ first.met_ walk.seen))
+          ∙ ap (λ (l : List ℕ). done l ((walk.rows ++ map (loaded es d) (slots_at es above low (Some n.0) s.1)) ++ map (loaded es d) others)) (sym (append_assoc rest.met_ first.met_ walk.seen))
           ∙ ap (done ((rest.met_ ++ first.met_) ++ walk.seen))
-          (append_assoc walk.rows (map (loaded es d) (slots_at es above s.1)) (map (loaded es d) others)
-          ∙ ap (λ (l : List LoggedChange). walk.rows ++ l) (sym (map-append (loaded es d) (slots_at es above s.1) others)));
+          (append_assoc walk.rows (map (loaded es d) (slots_at es above low (Some n.0) s.1)) (map (loaded es d) others)
+          ∙ ap (λ (l : List LoggedChange). walk.rows ++ l) (sym (map-append (loaded es d) (slots_at es above low (Some n.0) s.1) others)));
       homes = all_append (λ m. IsIn d above low high (home m)) rest.met_ first.met_
           (all_weaker (λ m. IsIn d above n.0 high (home m)) (λ m. IsIn d above low high (home m)) (λ m h. later_part d above low high n.0 (home m) n_in.0 h) rest.met_ rest.homes)
           (all_weaker (λ m. IsIn d above low (Some n.0) (home m)) (λ m. IsIn d above low high (home m)) (λ m h. wider_part d above low high n.0 (home m) n_in.1 h) first.met_ first.homes);
@@ -239,16 +227,16 @@ children-ok files es home d above at goes low high (s ∷ n ∷ slots) walk tree
 
 node-ok : (files : List ℕ) (es : List Placed) (home : ℕ → Home) (d above : ℕ) (low : Name) (high : Option Name) (at : ℕ) (walk : Walk) → IsTreeAt es (at_home home d) d above low high at →
     is_below low high ≡ true → NoneIn home d above low high walk.seen →
-    IsMet home d above low high (map (loaded es d) (slots_at es above at)) walk (read_node files es d above low high at walk)
+    IsMet home d above low high (map (loaded es d) (slots_at es above low high at)) walk (read_node files es d above low high at walk)
 node-ok files es home d zero low high at walk tree below none =
     let n : Node = tree.node in
     let next : Walk = met n walk in
     record {
       met_ = n.number ∷ [];
       is =
-          ap (λ (r : Result Node Corruption). and_then r (λ m. each (read_record files es d at) (slots_shown m) (met m walk)))
-          (here-ok files es home d 0 1 low high at walk.seen n tree.image tree.db tree.level_is tree.within tree.home below none)
-          ∙ records-ok files es d at (slots_shown n) next tree.right
+          ap (λ (r : Result Node Corruption). and_then r (λ m. each (read_record files es d at) (slots_inside low high (slots_shown m)) (met m walk)))
+          (here-ok files es home d 0 1 low high at walk.seen n tree.image tree.db tree.level_is tree.home below none)
+          ∙ records-ok files es d at (slots_inside low high (slots_shown n)) next tree.right
           ∙ ap (λ (l : List NamedLsn). done (n.number ∷ walk.seen) (walk.rows ++ map (loaded es d) l)) (sym (leaf_image es (at_home home d) d low high at tree));
       homes = (at_own home d 0 low high n.number tree.home below, tt);
     }
@@ -262,16 +250,19 @@ node-ok files es home d (suc above) low high at walk tree below none =
       λ h. let le = h.level in let up : (home n.number).above ≡ suc above = ap (λ (k : Home). k.above) tree.home in omega (arith, le, up),
       all_weaker (λ m. IsIn d (suc above) low high (home m) → ⊥) (λ m. IsIn d above low high (home m) → ⊥) (λ m h k. h (higher_level d above low high (home m) k)) walk.seen none,
     ) in
-    let rest = children-ok files es home d above at (node-ok files es home d above) low high (slots_shown n) next tree.right (node_within low high n tree.within) tree.up none_next in
+    let rest = children-ok files es home d above at (node-ok files es home d above) low high (child_slots_of low high n) next (right_beside es (at_home home d) d above low high at tree)
+    (cut_within low high (slots_shown n) below tree.up) (cut_up low high (slots_shown n) tree.up) none_next in
     record {
       met_ = rest.met_ ++ n.number ∷ [];
       is =
           ap (λ (r : Result Node Corruption). and_then r (λ m. each (read_child files (read_node files es d above) at) (children low high (slots_shown m)) (met m walk)))
-          (here-ok files es home d (suc above) (suc (suc above)) low high at walk.seen n tree.image tree.db tree.level_is tree.within tree.home below none)
+          (here-ok files es home d (suc above) (suc (suc above)) low high at walk.seen n tree.image tree.db tree.level_is tree.home below none)
+          ∙ ap (λ (l : List Child). each (read_child files (read_node files es d above) at) l next) (children_cut low high (slots_shown n) tree.up)
           ∙ rest.is
-          ∙ ap (λ (l : List ℕ). done l (walk.rows ++ map (loaded es d) (flat_map (λ (s : NamedLsn). slots_at es above s.1) (slots_shown n)))) (sym (append_assoc rest.met_ (n.number ∷ []) walk.seen))
-          ∙ ap (λ (l : List NamedLsn). done ((rest.met_ ++ n.number ∷ []) ++ walk.seen) (walk.rows ++ map (loaded es d) (flat_map (λ (s : NamedLsn). slots_at es above s.1) l)))
-          (sym (inner_image es (at_home home d) d above low high at tree));
+          ∙ ap (λ (l : List ℕ). done l (walk.rows ++ map (loaded es d) (flat_map (λ (c : Child). slots_at es above c.low c.high c.at) (side_by_side low high (child_slots_of low high n)))))
+          (sym (append_assoc rest.met_ (n.number ∷ []) walk.seen))
+          ∙ ap (λ (l : List Child). done ((rest.met_ ++ n.number ∷ []) ++ walk.seen) (walk.rows ++ map (loaded es d) (flat_map (λ (c : Child). slots_at es above c.low c.high c.at) l)))
+          (sym (inner_image es (at_home home d) d above low high at tree ∙ children_cut low high (slots_shown n) tree.up));
       homes = all_append (λ m. IsIn d (suc above) low high (home m)) rest.met_ (n.number ∷ [])
           (all_weaker (λ m. IsIn d above low high (home m)) (λ m. IsIn d (suc above) low high (home m)) (λ m h. higher_level d above low high (home m) h) rest.met_ rest.homes)
           (at_own home d (suc above) low high n.number tree.home below, tt);

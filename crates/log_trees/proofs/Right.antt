@@ -21,7 +21,8 @@ use Rattle.log_trees.specs.Placed.{Placed, entry_at}
 use Rattle.log_trees.specs.Changes.{LoggedChange}
 use Rattle.log_trees.specs.Images.{NamedLsn, slots_shown, node_in, node_at}
 use Rattle.log_trees.specs.Trees.{slots_at, data_in, loaded, rows_of_root, rows_of_roots}
-use Rattle.log_trees.specs.Sound.{least_name, are_within, Child, children, IsRecordAt, IsTreeAt, Home, at_home, IsRootAt}
+use Rattle.log_trees.specs.Bounds.{least_name, slots_inside, Child, children}
+use Rattle.log_trees.specs.Sound.{IsRecordAt, IsTreeAt, Home, at_home, IsRootAt}
 use Rattle.log_trees.specs.Walk.{and_then, each, Walk, is_bin_of, nowhere, node_read, delta_by, delta_on, image_in, image_by, read_image, may_stand, node_standing, read_here, met, with_record, record_in, record_by, read_record, read_child, read_node, read_level, read_root}
 use Rattle.log_trees.specs.Laws.{ReadTreesAreRight}
 use Rattle.log_trees.proofs.Shown.{leaf_image, inner_image}
@@ -87,25 +88,22 @@ read_image-is files es d at n h = by_entry (entry_at es at) h
     by_entry (Some entry) k = image_in-is files es d at entry n k
 
 -- a node that was read where it stands
-pub record IsHere (es : List Placed) (d level : ℕ) (low : Name) (high : Option Name) (at : ℕ) (seen : List ℕ) (n : Node) : Type 0 where
+pub record IsHere (es : List Placed) (d level at : ℕ) (seen : List ℕ) (n : Node) : Type 0 where
   pub is : node_at es at ≡ Some n
   pub db : n.db ≡ d
   pub level_is : n.level ≡ level
   pub new : list_any (λ m. m == n.number) seen ≡ false
-  pub within : are_within low high n ≡ true
 
-pub here-is : (files : List ℕ) (es : List Placed) (d level : ℕ) (low : Name) (high : Option Name) (at : ℕ) (seen : List ℕ) (n : Node) → read_here files es d level low high at seen ≡ Ok n →
-    IsHere es d level low high at seen n
-here-is files es d level low high at seen n h =
-    let first = then_parts (read_image files es d at) (node_standing level low high at seen) n h in
+pub here-is : (files : List ℕ) (es : List Placed) (d level at : ℕ) (seen : List ℕ) (n : Node) → read_here files es d level at seen ≡ Ok n → IsHere es d level at seen n
+here-is files es d level at seen n h =
+    let first = then_parts (read_image files es d at) (node_standing level at seen) n h in
     let m : Node = first.0 in
-    let stands = passed (may_stand level low high seen m) (Ok m) (Tree at) n first.2 in
+    let stands = passed (may_stand level seen m) (Ok m) (Tree at) n first.2 in
     let same : m ≡ n = same_ok m n stands.1 in
     let made = read_image-is files es d at m first.1 in
-    let outer = and_parts (m.level == level) (not (list_any (λ k. k == m.number) seen) && are_within low high m) stands.0 in
-    let inner = and_parts (not (list_any (λ k. k == m.number) seen)) (are_within low high m) outer.1 in
-    let found : IsHere es d level low high at seen m = record { is = made.0; db = made.1; level_is = eqb-true m.level level outer.0; new = not-true (list_any (λ k. k == m.number) seen) inner.0; within = inner.1 } in
-    subst (IsHere es d level low high at seen) same found
+    let tests = and_parts (m.level == level) (not (list_any (λ k. k == m.number) seen)) stands.0 in
+    let found : IsHere es d level at seen m = record { is = made.0; db = made.1; level_is = eqb-true m.level level tests.0; new = not-true (list_any (λ k. k == m.number) seen) tests.1 } in
+    subst (IsHere es d level at seen) same found
 
 -- ---- records
 
@@ -159,7 +157,6 @@ tree_kept es P Q weaker d zero low high at tree = record {
   image = tree.image;
   db = tree.db;
   level_is = tree.level_is;
-  within = tree.within;
   up = tree.up;
   home = weaker tree.node.number 0 low tree.home;
   right = tree.right;
@@ -169,7 +166,6 @@ tree_kept es P Q weaker d (suc above) low high at tree = record {
   image = tree.image;
   db = tree.db;
   level_is = tree.level_is;
-  within = tree.within;
   up = tree.up;
   home = weaker tree.node.number (suc above) low tree.home;
   right = all_weaker (λ (c : Child). (c.at < at) × IsTreeAt es P d above c.low c.high c.at) (λ c. (c.at < at) × IsTreeAt es Q d above c.low c.high c.at)
@@ -208,69 +204,54 @@ record IsRead (es : List Placed) (d : ℕ) (homes : Homes) (right : Homes → Ty
 
 children-are : (files : List ℕ) (es : List Placed) (d above at : ℕ)
     (goes : (low : Name) (high : Option Name) (c : ℕ) (homes : Homes) (walk new : Walk) → map (λ e. e.0) homes ≡ walk.seen → read_node files es d above low high c walk ≡ Ok new →
-    IsRead es d homes (λ later. IsTreeAt es (in_homes later d) d above low high c) (map (loaded es d) (slots_at es above c)) walk new)
-    (low : Name) (high : Option Name) (slots : List NamedLsn) (homes : Homes) (walk new : Walk) → map (λ e. e.0) homes ≡ walk.seen →
-    each (read_child files (read_node files es d above) at) (children low high slots) walk ≡ Ok new →
-    IsRead es d homes (λ later. AllByRecursion (λ (c : Child). (c.at < at) × IsTreeAt es (in_homes later d) d above c.low c.high c.at) (children low high slots))
-    (map (loaded es d) (flat_map (λ (s : NamedLsn). slots_at es above s.1) slots)) walk new
-children-are files es d above at goes low high [] homes walk new numbers h =
+    IsRead es d homes (λ later. IsTreeAt es (in_homes later d) d above low high c) (map (loaded es d) (slots_at es above low high c)) walk new)
+    (cs : List Child) (homes : Homes) (walk new : Walk) → map (λ e. e.0) homes ≡ walk.seen → each (read_child files (read_node files es d above) at) cs walk ≡ Ok new →
+    IsRead es d homes (λ later. AllByRecursion (λ (c : Child). (c.at < at) × IsTreeAt es (in_homes later d) d above c.low c.high c.at) cs)
+    (map (loaded es d) (flat_map (λ (c : Child). slots_at es above c.low c.high c.at) cs)) walk new
+children-are files es d above at goes [] homes walk new numbers h =
     let same : walk ≡ new = same_ok walk new h in
     record { later = homes; numbers = numbers ∙ ap (λ (w : Walk). w.seen) same; keeps = λ n k is. is; tree = tt; rows_are = sym (append-nil new.rows) ∙ ap (λ (w : Walk). w.rows ++ []) (sym same) }
-children-are files es d above at goes low high (s ∷ []) homes walk new numbers h =
-    let parts = then_parts (read_child files (read_node files es d above) at (record { low = low; high = high; at = s.1 }) walk) (λ w. Ok w) new h in
+children-are files es d above at goes (c ∷ cs) homes walk new numbers h =
+    let parts = then_parts (read_child files (read_node files es d above) at c walk) (each (read_child files (read_node files es d above) at) cs) new h in
     let mid : Walk = parts.0 in
-    let tested = passed (nat_lt s.1 at) (read_node files es d above low high s.1 walk) (nowhere files s.1) mid parts.1 in
-    let first = goes low high s.1 homes walk mid numbers tested.1 in
-    let same : mid ≡ new = same_ok mid new parts.2 in
-    record {
-      later = first.later;
-      numbers = first.numbers ∙ ap (λ (w : Walk). w.seen) same;
-      keeps = first.keeps;
-      tree = ((ltb-true s.1 at tested.0, first.tree), tt);
-      rows_are = sym (ap (λ (w : Walk). w.rows) same) ∙ first.rows_are ∙ ap (λ (l : List NamedLsn). walk.rows ++ map (loaded es d) l) (sym (append-nil (slots_at es above s.1)));
-    }
-children-are files es d above at goes low high (s ∷ n ∷ slots) homes walk new numbers h =
-    let parts = then_parts (read_child files (read_node files es d above) at (record { low = low; high = Some n.0; at = s.1 }) walk)
-    (each (read_child files (read_node files es d above) at) (children n.0 high (n ∷ slots))) new h in
-    let mid : Walk = parts.0 in
-    let tested = passed (nat_lt s.1 at) (read_node files es d above low (Some n.0) s.1 walk) (nowhere files s.1) mid parts.1 in
-    let first = goes low (Some n.0) s.1 homes walk mid numbers tested.1 in
-    let rest = children-are files es d above at goes n.0 high (n ∷ slots) first.later mid new first.numbers parts.2 in
-    let others : List NamedLsn = flat_map (λ (t : NamedLsn). slots_at es above t.1) (n ∷ slots) in
+    let tested = passed (nat_lt c.at at) (read_node files es d above c.low c.high c.at walk) (nowhere files c.at) mid parts.1 in
+    let first = goes c.low c.high c.at homes walk mid numbers tested.1 in
+    let rest = children-are files es d above at goes cs first.later mid new first.numbers parts.2 in
+    let own : List NamedLsn = slots_at es above c.low c.high c.at in
+    let others : List NamedLsn = flat_map (λ (o : Child). slots_at es above o.low o.high o.at) cs in
     record {
       later = rest.later;
       numbers = rest.numbers;
       keeps = λ k o is. rest.keeps k o (first.keeps k o is);
       tree = (
         (
-          ltb-true s.1 at tested.0,
-          tree_kept es (in_homes first.later d) (in_homes rest.later d) (λ k a x is. rest.keeps k (record { db = d; above = a; low = x }) is) d above low (Some n.0) s.1 first.tree,
+          ltb-true c.at at tested.0,
+          tree_kept es (in_homes first.later d) (in_homes rest.later d) (λ k a x is. rest.keeps k (record { db = d; above = a; low = x }) is) d above c.low c.high c.at first.tree,
         ),
         rest.tree,
       );
       rows_are =
           rest.rows_are
           ∙ ap (λ (l : List LoggedChange). l ++ map (loaded es d) others) first.rows_are
-          ∙ append_assoc walk.rows (map (loaded es d) (slots_at es above s.1)) (map (loaded es d) others)
-          ∙ ap (λ (l : List LoggedChange). walk.rows ++ l) (sym (map-append (loaded es d) (slots_at es above s.1) others));
+          ∙ append_assoc walk.rows (map (loaded es d) own) (map (loaded es d) others)
+          ∙ ap (λ (l : List LoggedChange). walk.rows ++ l) (sym (map-append (loaded es d) own others));
     }
 
 node-is : (files : List ℕ) (es : List Placed) → AllByRecursion (λ p. IsEntry p.1) es → (d above : ℕ) (low : Name) (high : Option Name) (at : ℕ) (homes : Homes) (walk new : Walk) →
     map (λ e. e.0) homes ≡ walk.seen → read_node files es d above low high at walk ≡ Ok new →
-    IsRead es d homes (λ later. IsTreeAt es (in_homes later d) d above low high at) (map (loaded es d) (slots_at es above at)) walk new
+    IsRead es d homes (λ later. IsTreeAt es (in_homes later d) d above low high at) (map (loaded es d) (slots_at es above low high at)) walk new
 node-is files es entries d zero low high at homes walk new numbers h =
-    let parts = then_parts (read_here files es d 1 low high at walk.seen) (λ n. each (read_record files es d at) (slots_shown n) (met n walk)) new h in
+    let parts = then_parts (read_here files es d 1 at walk.seen) (λ n. each (read_record files es d at) (slots_inside low high (slots_shown n)) (met n walk)) new h in
     let n : Node = parts.0 in
-    let here = here-is files es d 1 low high at walk.seen n parts.1 in
+    let here = here-is files es d 1 at walk.seen n parts.1 in
     let own : Home = record { db = d; above = 0; low = low } in
     let later : Homes = (n.number, own) ∷ homes in
-    let records = records-are files es d at (slots_shown n) (met n walk) new parts.2 in
+    let records = records-are files es d at (slots_inside low high (slots_shown n)) (met n walk) new parts.2 in
     let tree : IsTreeAt es (in_homes later d) d zero low high at = record {
       node = n;
       image = here.is;
       db = here.db;
       level_is = here.level_is;
-      within = here.within;
       up = image_up es at n entries here.is;
       home = cond-true (n.number == n.number) (Some own) (lookup (λ m. m == n.number) homes) (eq-eqb n.number n.number refl);
       right = records.0;
@@ -283,19 +264,18 @@ node-is files es entries d zero low high at homes walk new numbers h =
       rows_are = ap (λ (w : Walk). w.rows) records.1 ∙ ap (λ (l : List NamedLsn). walk.rows ++ map (loaded es d) l) (sym (leaf_image es (in_homes later d) d low high at tree));
     }
 node-is files es entries d (suc above) low high at homes walk new numbers h =
-    let parts = then_parts (read_here files es d (suc (suc above)) low high at walk.seen)
+    let parts = then_parts (read_here files es d (suc (suc above)) at walk.seen)
     (λ n. each (read_child files (read_node files es d above) at) (children low high (slots_shown n)) (met n walk)) new h in
     let n : Node = parts.0 in
-    let here = here-is files es d (suc (suc above)) low high at walk.seen n parts.1 in
+    let here = here-is files es d (suc (suc above)) at walk.seen n parts.1 in
     let own : Home = record { db = d; above = suc above; low = low } in
     let with_own : Homes = (n.number, own) ∷ homes in
-    let rest = children-are files es d above at (node-is files es entries d above) low high (slots_shown n) with_own (met n walk) new (ap (λ (l : List ℕ). n.number ∷ l) numbers) parts.2 in
+    let rest = children-are files es d above at (node-is files es entries d above) (children low high (slots_shown n)) with_own (met n walk) new (ap (λ (l : List ℕ). n.number ∷ l) numbers) parts.2 in
     let tree : IsTreeAt es (in_homes rest.later d) d (suc above) low high at = record {
       node = n;
       image = here.is;
       db = here.db;
       level_is = here.level_is;
-      within = here.within;
       up = image_up es at n entries here.is;
       home = rest.keeps n.number own (cond-true (n.number == n.number) (Some own) (lookup (λ m. m == n.number) homes) (eq-eqb n.number n.number refl));
       right = rest.tree;
@@ -306,7 +286,7 @@ node-is files es entries d (suc above) low high at homes walk new numbers h =
       keeps = λ k o is. rest.keeps k o (new_home homes walk.seen n.number own numbers here.new k o is);
       tree = tree;
       rows_are = rest.rows_are
-          ∙ ap (λ (l : List NamedLsn). walk.rows ++ map (loaded es d) (flat_map (λ (s : NamedLsn). slots_at es above s.1) l)) (sym (inner_image es (in_homes rest.later d) d above low high at tree));
+          ∙ ap (λ (l : List Child). walk.rows ++ map (loaded es d) (flat_map (λ (c : Child). slots_at es above c.low c.high c.at) l)) (sym (inner_image es (in_homes rest.later d) d above low high at tree));
     }
 
 -- ---- all roots

@@ -73,13 +73,13 @@ tree_level es home d (suc above) low high at tree = ap level_of tree.image ∙ t
 
 -- the records that a root's tree gives
 pub root_rows_of : (es : List Placed) (home : ℕ → ℕ → Name → Type 0) (end above : ℕ) (root : Root) → root.image < end → IsTreeAt es home root.db above least_name None root.image →
-    rows_of_root es end root ≡ map (loaded es root.db) (slots_at es above root.image)
+    rows_of_root es end root ≡ map (loaded es root.db) (slots_at es above least_name None root.image)
 root_rows_of es home end above root lower tree =
     cond-true (nat_lt root.image end) (map (loaded es root.db) (slots_of_tree es root.image)) [] (lt-ltb root.image end lower)
     ∙ ap (λ (n : ℕ). map (loaded es root.db) (slots_by_level es n root.image)) (tree_level es home root.db above least_name None root.image tree)
 
 pub root_rows : (es : List Placed) (home : ℕ → Home) (end : ℕ) (root : Root) (is : IsRootAt es home end root) →
-    rows_of_root es end root ≡ map (loaded es root.db) (slots_at es is.above root.image)
+    rows_of_root es end root ≡ map (loaded es root.db) (slots_at es is.above least_name None root.image)
 root_rows es home end root is = root_rows_of es (at_home home root.db) end is.above root is.lower is.tree
 
 root_shows : (es : List Placed) (home : ℕ → Home) (end : ℕ) (root : Root) (x : Name) → IsRootAt es home end root →
@@ -87,7 +87,7 @@ root_shows : (es : List Placed) (home : ℕ → Home) (end : ℕ) (root : Root) 
 root_shows es home end root x is =
     let level = tree_level es (at_home home root.db) root.db is.above least_name None root.image is.tree in
     ap (λ (l : List LoggedChange). last_of root.db x l unwritten) (root_rows es home end root is)
-    ∙ last_loaded es root.db x (slots_at es is.above root.image) (slots_up es (at_home home root.db) root.db is.above least_name None root.image is.tree)
+    ∙ last_loaded es root.db x (slots_at es is.above least_name None root.image) (slots_up es (at_home home root.db) root.db is.above least_name None root.image refl is.tree)
     ∙ ap (written_at es root.db x)
     (shown_is es (at_home home root.db) root.db is.above x least_name None root.image is.tree (within_from least_name None x (none_below_least x) refl)
     ∙ sym (ap (λ (n : ℕ). shows_by_level es n root.image x) level))

@@ -13,12 +13,13 @@ use Rattle.log_entry.specs.declared.root.Root.{Root}
 use Rattle.node_core.specs.declared.node.Node.{Node}
 use Rattle.node_log.specs.Images.{node_with}
 use Rattle.log_replay.proofs.ListLaws.{map_same}
-use Rattle.je_order.proofs.Lists.{all_weaker, all_append, filter_all_pass}
+use Rattle.je_order.proofs.Lists.{all_weaker, all_append, all_kept, filter_all_pass}
 use Rattle.log_trees.specs.Placed.{Placed, entry_at}
 use Rattle.log_trees.specs.Changes.{LoggedChange}
 use Rattle.log_trees.specs.Images.{NamedLsn, slots_shown, node_in, node_at, slots_of_level, image, level_of, level_at}
-use Rattle.log_trees.specs.Trees.{slots_at, found, child_behind, child_over, shows, data_in, data_of, loaded, slots_by_level, slots_of_tree, rows_of_root}
-use Rattle.log_trees.specs.Sound.{Child, children, IsRecordAt, IsTreeAt, at_home, least_name, IsRootAt}
+use Rattle.log_trees.specs.Trees.{children_at, slots_at, found, child_behind, child_over, shows, data_in, data_of, loaded, slots_by_level, slots_of_tree, rows_of_root}
+use Rattle.log_trees.specs.Bounds.{least_name, is_within, slots_inside, Child, children}
+use Rattle.log_trees.specs.Sound.{IsRecordAt, IsTreeAt, at_home, IsRootAt}
 use Rattle.log_trees.specs.Laws.{AreBehind, SlotsStay, ShowsStay, RootsStay, TreesStay, RootsStayRight}
 
 -- ---- lists
@@ -81,21 +82,31 @@ image-lower es level at =
 
 -- ---- trees
 
-pub slots_stay : SlotsStay
-slots_stay es more zero at behind = image-stays es more 1 at behind
-slots_stay es more (suc above) at behind =
-    ap (flat_map (λ (s : NamedLsn). slots_at (es ++ more) above s.1)) (image-stays es more (suc (suc above)) at behind)
-    ∙ flat-same (λ (s : NamedLsn). slots_at (es ++ more) above s.1) (λ s. slots_at es above s.1) (image es (suc (suc above)) at)
-    (all_weaker (λ (s : NamedLsn). s.1 < at) (λ s. slots_at (es ++ more) above s.1 ≡ slots_at es above s.1)
-    (λ s h. slots_stay es more above s.1 (lower_behind more s.1 at behind h)) (image es (suc (suc above)) at) (image-lower es (suc (suc above)) at))
+-- the children of an IN stand at lower LSNs
+children-stay : (es more : List Placed) (level : ℕ) (low : Name) (high : Option Name) (at : ℕ) → AreBehind at more → children_at (es ++ more) level low high at ≡ children_at es level low high at
+children-stay es more level low high at behind =
+    ap (λ (o : Option Node). filter (λ (c : Child). nat_lt c.at at) (children low high (slots_of_level level o))) (node-stays es more at behind)
 
-slots_lower : (es : List Placed) (above at : ℕ) → AllByRecursion (λ s. s.1 < at) (slots_at es above at)
-slots_lower es zero at = image-lower es 1 at
-slots_lower es (suc above) at =
-    all_flat (λ (s : NamedLsn). s.1 < at) (λ (s : NamedLsn). slots_at es above s.1) (image es (suc (suc above)) at)
-    (all_weaker (λ (s : NamedLsn). s.1 < at) (λ s. AllByRecursion (λ (t : NamedLsn). t.1 < at) (slots_at es above s.1))
-    (λ s h. all_weaker (λ (t : NamedLsn). t.1 < s.1) (λ t. t.1 < at) (λ t k. omega arith) (slots_at es above s.1) (slots_lower es above s.1))
-    (image es (suc (suc above)) at) (image-lower es (suc (suc above)) at))
+children-lower : (es : List Placed) (level : ℕ) (low : Name) (high : Option Name) (at : ℕ) → AllByRecursion (λ (c : Child). c.at < at) (children_at es level low high at)
+children-lower es level low high at =
+    all_weaker (λ (c : Child). nat_lt c.at at ≡ true) (λ c. c.at < at) (λ c h. ltb-true c.at at h) (children_at es level low high at)
+    (filter_all_pass (λ (c : Child). nat_lt c.at at) (children low high (slots_of_level level (node_at es at))))
+
+pub slots_stay : SlotsStay
+slots_stay es more zero low high at behind = ap (slots_inside low high) (image-stays es more 1 at behind)
+slots_stay es more (suc above) low high at behind =
+    ap (flat_map (λ (c : Child). slots_at (es ++ more) above c.low c.high c.at)) (children-stay es more (suc (suc above)) low high at behind)
+    ∙ flat-same (λ (c : Child). slots_at (es ++ more) above c.low c.high c.at) (λ c. slots_at es above c.low c.high c.at) (children_at es (suc (suc above)) low high at)
+    (all_weaker (λ (c : Child). c.at < at) (λ c. slots_at (es ++ more) above c.low c.high c.at ≡ slots_at es above c.low c.high c.at)
+    (λ c h. slots_stay es more above c.low c.high c.at (lower_behind more c.at at behind h)) (children_at es (suc (suc above)) low high at) (children-lower es (suc (suc above)) low high at))
+
+slots_lower : (es : List Placed) (above : ℕ) (low : Name) (high : Option Name) (at : ℕ) → AllByRecursion (λ s. s.1 < at) (slots_at es above low high at)
+slots_lower es zero low high at = all_kept (λ (s : NamedLsn). s.1 < at) (λ s. is_within low high s.0) (image es 1 at) (image-lower es 1 at)
+slots_lower es (suc above) low high at =
+    all_flat (λ (s : NamedLsn). s.1 < at) (λ (c : Child). slots_at es above c.low c.high c.at) (children_at es (suc (suc above)) low high at)
+    (all_weaker (λ (c : Child). c.at < at) (λ c. AllByRecursion (λ (t : NamedLsn). t.1 < at) (slots_at es above c.low c.high c.at))
+    (λ c h. all_weaker (λ (t : NamedLsn). t.1 < c.at) (λ t. t.1 < at) (λ t k. omega arith) (slots_at es above c.low c.high c.at) (slots_lower es above c.low c.high c.at))
+    (children_at es (suc (suc above)) low high at) (children-lower es (suc (suc above)) low high at))
 
 child-lower : (x : Name) (child at : ℕ) (slots : List NamedLsn) → child < at → AllByRecursion (λ s. s.1 < at) slots → child_behind x child slots < at
 child-lower x child at [] lt all = lt
@@ -129,14 +140,14 @@ loaded-stays es more d s behind =
 
 by_level-stays : (es more : List Placed) (level at : ℕ) → AreBehind at more → slots_by_level (es ++ more) level at ≡ slots_by_level es level at
 by_level-stays es more zero at behind = refl
-by_level-stays es more (suc above) at behind = slots_stay es more above at behind
+by_level-stays es more (suc above) at behind = slots_stay es more above least_name None at behind
 
 tree-stays : (es more : List Placed) (at : ℕ) → AreBehind at more → slots_of_tree (es ++ more) at ≡ slots_of_tree es at
 tree-stays es more at behind = ap (λ (n : ℕ). slots_by_level (es ++ more) n at) (level-stays es more at behind) ∙ by_level-stays es more (level_at es at) at behind
 
 by_level-lower : (es : List Placed) (level at : ℕ) → AllByRecursion (λ s. s.1 < at) (slots_by_level es level at)
 by_level-lower es zero at = tt
-by_level-lower es (suc above) at = slots_lower es above at
+by_level-lower es (suc above) at = slots_lower es above least_name None at
 
 root-stays : (es more : List Placed) (end : ℕ) (root : Root) → AllByRecursion (λ p. end ≤ p.0) more → rows_of_root (es ++ more) end root ≡ rows_of_root es end root
 root-stays es more end root behind = by_test (nat_lt root.image end) refl
@@ -165,18 +176,16 @@ tree-stays_right es more home d zero low high at behind tree = record {
   image = node-stays es more at behind ∙ tree.image;
   db = tree.db;
   level_is = tree.level_is;
-  within = tree.within;
   up = tree.up;
   home = tree.home;
   right = all_weaker (IsRecordAt es d at) (IsRecordAt (es ++ more) d at)
-      (λ s h. (h.0, h.1, data-stays es more d s.0 s.1 (lower_behind more s.1 at behind h.0) ∙ h.2)) (slots_shown tree.node) tree.right;
+      (λ s h. (h.0, h.1, data-stays es more d s.0 s.1 (lower_behind more s.1 at behind h.0) ∙ h.2)) (slots_inside low high (slots_shown tree.node)) tree.right;
 }
 tree-stays_right es more home d (suc above) low high at behind tree = record {
   node = tree.node;
   image = node-stays es more at behind ∙ tree.image;
   db = tree.db;
   level_is = tree.level_is;
-  within = tree.within;
   up = tree.up;
   home = tree.home;
   right = all_weaker (λ (c : Child). (c.at < at) × IsTreeAt es home d above c.low c.high c.at) (λ c. (c.at < at) × IsTreeAt (es ++ more) home d above c.low c.high c.at)

@@ -19,7 +19,7 @@ AreBehind at more = AllByRecursion (λ p. at < p.0) more
 
 -- what an image shows is the same in a longer log
 abbrev pub SlotsStay : Type 0
-SlotsStay = (es more : List Placed) (above at : ℕ) → AreBehind at more → slots_at (es ++ more) above at ≡ slots_at es above at
+SlotsStay = (es more : List Placed) (above : ℕ) (low : Name) (high : Option Name) (at : ℕ) → AreBehind at more → slots_at (es ++ more) above low high at ≡ slots_at es above low high at
 
 abbrev pub ShowsStay : Type 0
 ShowsStay = (es more : List Placed) (above at : ℕ) (x : Name) → AreBehind at more → shows (es ++ more) above at x ≡ shows es above at x
@@ -47,7 +47,7 @@ RootsStayRight = (es more : List Placed) (home : ℕ → Home) (end : ℕ) (root
 -- the records below the image of a right tree are what it shows name by name
 abbrev pub ShowsAreSlots : Type 0
 ShowsAreSlots = (es : List Placed) (home : ℕ → Home) (d above : ℕ) (low : Name) (high : Option Name) (at : ℕ) (x : Name) → IsTreeAt es (at_home home d) d above low high at
-    → is_within low high x ≡ true → found x (slots_at es above at) ≡ shows es above at x
+    → is_within low high x ≡ true → found x (slots_at es above low high at) ≡ shows es above at x
 
 -- what the roots of right trees give is what they show name by name
 abbrev pub RootsShow : Type 0

@@ -1,6 +1,7 @@
 pub mod Placed
 pub mod Changes
 pub mod Images
+pub mod Bounds
 pub mod Trees
 pub mod Sound
 pub mod Walk

@@ -1,5 +1,5 @@
 -- Trees as the log shows them: the records below an image, and the entry that an image shows for a name.
-use Rattle.std.specs.Prelude.{ℕ, zero, suc, ◌==◌, ◌&&◌, nat_lt, if◌then◌else◌, List, [], ◌∷◌, Option, None, Some, map, find, option_map}
+use Rattle.std.specs.Prelude.{ℕ, zero, suc, ◌==◌, ◌&&◌, nat_lt, if◌then◌else◌, List, [], ◌∷◌, Option, None, Some, map, find, filter, option_map}
 use Rattle.std.specs.Option.{option_and_then}
 use Rattle.std.specs.List.{flat_map}
 use Rattle.std.specs.Map.{lookup}
@@ -11,14 +11,19 @@ use Rattle.log_entry.specs.declared.entry.Entry.TheVariants.{Put, Migrated}
 use Rattle.log_entry.specs.declared.root.Root.{Root}
 use Rattle.log_trees.specs.Placed.{Placed, entry_at}
 use Rattle.log_trees.specs.Changes.{Written, unwritten, LoggedChange}
-use Rattle.log_trees.specs.Images.{NamedLsn, image, level_at}
+use Rattle.log_trees.specs.Images.{NamedLsn, node_at, slots_of_level, image, level_at}
+use Rattle.log_trees.specs.Bounds.{least_name, slots_inside, Child, children}
 
 -- ---- the records below an image
 
--- the records below an image that stands `above` levels above the BINs: those that the BINs show, from the left
-abbrev pub slots_at : List Placed → ℕ → ℕ → List NamedLsn
-slots_at es zero at = image es 1 at
-slots_at es (suc above) at = flat_map (λ s. slots_at es above s.1) (image es (suc (suc above)) at)
+-- the children within bounds of the IN of this level that the image at an LSN shows, which stand at lower LSNs
+abbrev pub children_at : List Placed → ℕ → Name → Option Name → ℕ → List Child
+children_at es level low high at = filter (λ c. nat_lt c.at at) (children low high (slots_of_level level (node_at es at)))
+
+-- the records within bounds below an image that stands `above` levels above the BINs: those that the BINs show, from the left
+abbrev pub slots_at : List Placed → ℕ → Name → Option Name → ℕ → List NamedLsn
+slots_at es zero low high at = slots_inside low high (image es 1 at)
+slots_at es (suc above) low high at = flat_map (λ c. slots_at es above c.low c.high c.at) (children_at es (suc (suc above)) low high at)
 
 -- the LSN that slots have for a name
 abbrev pub found : Name → List NamedLsn → Option ℕ
@@ -66,7 +71,7 @@ loaded es d s = record { db = d; name = s.0; written = record { at = s.1; value 
 -- the records of the tree whose root's image stands at an LSN
 abbrev pub slots_by_level : List Placed → ℕ → ℕ → List NamedLsn
 slots_by_level es zero at = []
-slots_by_level es (suc above) at = slots_at es above at
+slots_by_level es (suc above) at = slots_at es above least_name None at
 
 -- the names and LSNs of the records below the root's image at an LSN
 abbrev pub slots_of_tree : List Placed → ℕ → List NamedLsn

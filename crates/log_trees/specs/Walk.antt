@@ -13,7 +13,7 @@ use Rattle.log_trees.specs.Placed.{Placed, entry_at}
 use Rattle.log_trees.specs.Changes.{LoggedChange}
 use Rattle.log_trees.specs.Images.{NamedLsn, slots_shown}
 use Rattle.log_trees.specs.Trees.{data_in}
-use Rattle.log_trees.specs.Sound.{Child, children, are_within, least_name}
+use Rattle.log_trees.specs.Bounds.{least_name, slots_inside, Child, children}
 
 -- ---- readings, one after another
 
@@ -79,17 +79,17 @@ read_image files es d at = image_by files es d at (entry_at es at)
 
 -- ---- one tree
 
--- whether a node may stand here: it is of this level, its number is new, and its slots lie within the bounds
-abbrev pub may_stand : ℕ → Name → Option Name → List ℕ → Node → Bool
-may_stand level low high seen n = (n.level == level) && (not (list_any (λ m. m == n.number) seen) && are_within low high n)
+-- whether a node may stand here: it is of this level, and its number is new
+abbrev pub may_stand : ℕ → List ℕ → Node → Bool
+may_stand level seen n = (n.level == level) && not (list_any (λ m. m == n.number) seen)
 
 -- a node that may stand here, or the corruption at its image
-abbrev pub node_standing : ℕ → Name → Option Name → ℕ → List ℕ → Node → Result Node Corruption
-node_standing level low high at seen n = if may_stand level low high seen n then Ok n else Err (Tree at)
+abbrev pub node_standing : ℕ → ℕ → List ℕ → Node → Result Node Corruption
+node_standing level at seen n = if may_stand level seen n then Ok n else Err (Tree at)
 
 -- reads the image at an LSN as a node that may stand here
-abbrev pub read_here : List ℕ → List Placed → ℕ → ℕ → Name → Option Name → ℕ → List ℕ → Result Node Corruption
-read_here files es d level low high at seen = and_then (read_image files es d at) (node_standing level low high at seen)
+abbrev pub read_here : List ℕ → List Placed → ℕ → ℕ → ℕ → List ℕ → Result Node Corruption
+read_here files es d level at seen = and_then (read_image files es d at) (node_standing level at seen)
 
 -- a walk with one node more, and one with one record more
 abbrev pub met : Node → Walk → Walk
@@ -117,12 +117,12 @@ read_record files es d at s walk = if nat_lt s.1 at then record_by files d s wal
 abbrev pub read_child : List ℕ → (Name → Option Name → ℕ → Walk → Result Walk Corruption) → ℕ → Child → Walk → Result Walk Corruption
 read_child files read at child walk = if nat_lt child.at at then read child.low child.high child.at walk else Err (nowhere files child.at)
 
--- the tree below an image, `above` levels above its BINs, from the left, depth first
+-- the tree below an image, `above` levels above its BINs, from the left, depth first; what lies outside the bounds is read past
 abbrev pub read_node : List ℕ → List Placed → ℕ → ℕ → Name → Option Name → ℕ → Walk → Result Walk Corruption
 read_node files es d zero low high at walk =
-    and_then (read_here files es d 1 low high at walk.seen) (λ n. each (read_record files es d at) (slots_shown n) (met n walk))
+    and_then (read_here files es d 1 at walk.seen) (λ n. each (read_record files es d at) (slots_inside low high (slots_shown n)) (met n walk))
 read_node files es d (suc above) low high at walk =
-    and_then (read_here files es d (suc (suc above)) low high at walk.seen)
+    and_then (read_here files es d (suc (suc above)) at walk.seen)
     (λ n. each (read_child files (read_node files es d above) at) (children low high (slots_shown n)) (met n walk))
 
 -- ---- roots

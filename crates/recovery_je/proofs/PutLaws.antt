@@ -124,6 +124,11 @@ module _ {T A : Type 0} (nodes : T → AllNodes) (put : Bool → ℕ → A → A
         puts = λ most le. first.rest most (omega (arith, high, le)) (nodes c.trees) (subst (λ (k : Bool). ArePutEach (put k most) left (nodes b.trees) (nodes c.trees)) first.same (next.puts most le));
       }
 
+  pub putting_last : {X Y : Type 0} (all left more : List A) (a b c : Walking T) (r : Result X Y) → left ≡ more → IsPuttingOn nodes put all left a b → OnOk r (HasPut nodes (λ keeps most. ArePutEach (put keeps most) more) b c) →
+      OnOk r (HasPut nodes (λ keeps most. ArePutEach (put keeps most) all) a c)
+  putting_last all left more a b c (Ok v) is first next = putting_ends all more a b c (subst (λ (l : List A). IsPuttingOn nodes put all l a b) is first) next
+  putting_last all left more a b c (Err e) is first next = tt
+
   -- none is left
   pub putting_done : (all left : List A) (a b : Walking T) → left ≡ [] → IsPuttingOn nodes put all left a b → HasPut nodes (λ keeps most. ArePutEach (put keeps most) all) a b
   putting_done all left a b none first = record {

@@ -1,6 +1,6 @@
 -- Reading trees.
-use Rattle.std.proofs.Common.{◌≡◌, ℕ, ◌==◌, max, Bool, true, false, cond, List, [], ◌∷◌, ◌++◌, Option, Some, Result, Ok, Err, refl, sym, ap, ◌∙◌, arith}
-use Rattle.std.specs.Prelude.{◌||◌}
+use Rattle.std.proofs.Common.{◌≡◌, ℕ, ◌==◌, max, Bool, true, false, cond, List, [], ◌∷◌, ◌++◌, Option, Some, Result, Ok, Err, refl, sym, ap, subst, ◌∙◌, arith}
+use Rattle.std.specs.Prelude.{◌||◌, IsErrAnd}
 use Rattle.std.specs.List.{list_any}
 use Rattle.std.specs.BTreeSet.{insert_key}
 use Rattle.std.specs.Ordering.{nat_cmp, match_ordering}
@@ -21,6 +21,7 @@ use Rattle.log_trees.specs.Placed.{Placed}
 use Rattle.log_replay.specs.declared.corruption.Corruption.TheVariants.{Tree}
 use Rattle.log_meaning.specs.Meaning.{most, db_given}
 use Rattle.recovery_je.specs.Redoing.{there, named_by}
+use Rattle.recovery_je.specs.Recovering.{IsFoundBy}
 use Rattle.recovery_je.specs.Walking.{IsWalking, GoesOn}
 
 -- ---- the numbers of the nodes that were read, as a set
@@ -116,9 +117,32 @@ walking_on f all before more left P Q walk is on step =
     let new = step on.here on.at in
     record { here = new.0; at = new.2; rest = sym (each_both f more left on.here new.0 new.1) ∙ ap (λ (l : List _). each f l on.here) (sym is) ∙ on.rest }
 
+-- the last of them
+pub walking_ends : {A B : Type 0} (f : A → Walk → Result Walk Corruption) (all left more : List A) (P Q : Walk → Type 0) (walk : Walk) (r : Result B ReadErr) → left ≡ more → IsWalkingOn f all left P walk →
+    ((here : Walk) → P here → GoesOn (each f more here) Q r) → GoesOn (each f all walk) Q r
+walking_ends f all left more P Q walk r is on step = subst (λ (s : Result Walk Corruption). GoesOn s Q r) (ap (λ (l : List _). each f l on.here) (sym is) ∙ on.rest) (step on.here on.at)
+
+each_fails : {A : Type 0} (f : A → Walk → Result Walk Corruption) (more left : List A) (walk : Walk) (c : Corruption) → each f more walk ≡ Err c → each f (more ++ left) walk ≡ Err c
+each_fails f [] left walk c is = absurd cc
+each_fails f (x ∷ more) left walk c is = by_first (f x walk) is (λ w. each_fails f more left w c)
+  where
+    by_first : (r : Result Walk Corruption) → and_then r (each f more) ≡ Err c → ((w : Walk) → each f more w ≡ Err c → each f (more ++ left) w ≡ Err c) → and_then r (each f (more ++ left)) ≡ Err c
+    by_first (Ok w) h rest = rest w h
+    by_first (Err other) h rest = h
+
+-- one of some more failed
+pub walking_fails : {A B : Type 0} (f : A → Walk → Result Walk Corruption) (all before more left : List A) (P Q : Walk → Type 0) (walk : Walk) (r : Result B ReadErr) (e : ReadErr) → IsErrAnd r (λ x. x ≡ e) → before ≡ more ++ left →
+    IsWalkingOn f all before P walk → ((here : Walk) → P here → IsFoundBy e (λ c. each f more here ≡ Err c)) → GoesOn (each f all walk) Q r
+walking_fails f all before more left P Q walk (Ok v) e fails is on step = absurd fails
+walking_fails f all before more left P Q walk (Err x) e fails is on step = by_error x (subst (λ (y : ReadErr). IsFoundBy y (λ c. each f more on.here ≡ Err c)) (sym fails) (step on.here on.at))
+  where
+    by_error : (y : ReadErr) → IsFoundBy y (λ c. each f more on.here ≡ Err c) → IsFoundBy y (λ c. each f all walk ≡ Err c)
+    by_error Memory h = tt
+    by_error (Found c) h = sym on.rest ∙ ap (λ (l : List _). each f l on.here) is ∙ each_fails f more left on.here c h
+
 -- ---- one node
 
-pub stands : (files : List ℕ) (es : List Placed) (d level : ℕ) (low : Name) (high : Option Name) (at : ℕ) (seen : List ℕ) (n : Node) (b : Bool) → read_image files es d at ≡ Ok n → may_stand level low high seen n ≡ b →
-    read_here files es d level low high at seen ≡ cond b (Ok n) (Err (Tree at))
-stands files es d level low high at seen n b read test =
-    ap (λ (r : Result Node Corruption). and_then r (node_standing level low high at seen)) read ∙ ap (λ (t : Bool). cond t (Ok n) (Err (Tree at))) test
+pub stands : (files : List ℕ) (es : List Placed) (d level at : ℕ) (seen : List ℕ) (n : Node) (b : Bool) → read_image files es d at ≡ Ok n → may_stand level seen n ≡ b →
+    read_here files es d level at seen ≡ cond b (Ok n) (Err (Tree at))
+stands files es d level at seen n b read test =
+    ap (λ (r : Result Node Corruption). and_then r (node_standing level at seen)) read ∙ ap (λ (t : Bool). cond t (Ok n) (Err (Tree at))) test

@@ -1,13 +1,15 @@
 -- Reading trees.
-use Rattle.std.specs.Prelude.{◌≡◌, ◌==◌, ℕ, zero, suc, List, [], ◌∷◌, Option, None, Some, Result, Ok, Err}
+use Rattle.std.specs.Prelude.{◌≡◌, ◌==◌, ℕ, zero, suc, Bool, false, List, [], ◌∷◌, Option, None, Some, Result, Ok, Err}
 use Rattle.std.specs.List.{list_any, flat_map}
+use Rattle.std.specs.Ordering.{is_lt}
+use Rattle.je_order.specs.Order.{name_cmp}
 use Rattle.je_order.specs.declared.name.Name.{Name}
 use Rattle.node_core.specs.declared.slot.Marked.{Marked}
 use Rattle.node_core.specs.declared.node.Node.{Node}
 use Rattle.record_tree.specs.Stored.{AllStored}
 use Rattle.log_trees.specs.Placed.{Placed}
 use Rattle.log_trees.specs.Images.{slot_shown}
-use Rattle.log_trees.specs.Sound.{Child, children}
+use Rattle.log_trees.specs.Bounds.{slots_inside, Child, children}
 use Rattle.log_trees.specs.Walk.{Walk, each, met, read_record, read_child, read_node}
 use Rattle.log_meaning.specs.Meaning.{most, db_given}
 use Rattle.log_replay.specs.declared.corruption.Corruption.{Corruption}
@@ -40,7 +42,7 @@ HasMet spec walk P (Err e) = IsFoundBy e (λ corruption. spec ≡ Err corruption
 
 -- the records of a BIN's slots, or the trees of the children that an IN's slots name
 abbrev pub read_below : List ℕ → List Placed → ℕ → ℕ → Name → Option Name → ℕ → List Marked → Walk → Result Walk Corruption
-read_below files es d zero low high at slots = each (read_record files es d at) (flat_map slot_shown slots)
+read_below files es d zero low high at slots = each (read_record files es d at) (slots_inside low high (flat_map slot_shown slots))
 read_below files es d (suc above) low high at slots = each (read_child files (read_node files es d above) at) (children low high (flat_map slot_shown slots))
 
 -- a child is read when the next one's name is known: the one that waits, if one does, with these bounds
@@ -48,10 +50,10 @@ abbrev pub waiting : Name → Option Name → Option ℕ → List Child
 waiting low high None = []
 waiting low high (Some at) = record { low = low; high = high; at = at } ∷ []
 
--- the lower bound of the next child behind the one that waits: its name, or the node's where it is the first
-abbrev pub low_behind : Option ℕ → Name → Name → Name
-low_behind None low name = low
-low_behind (Some at) low name = name
+-- whether the names of the child that waits, if one does, end at the next slot's name: it is above the lower bound
+abbrev pub child_ends_at : Option ℕ → Name → Name → Bool
+child_ends_at None low name = false
+child_ends_at (Some at) low name = is_lt (name_cmp low name)
 
 -- ---- roots
 

@@ -9,12 +9,12 @@ ghost use Rattle.log_trees.specs.Sound.{children};
 ghost use Rattle.log_trees.specs.Walk.{Walk, each, read_here as node_here, read_child, read_node as node_at};
 ghost use Rattle.log_meaning.specs.ReadNodes.{IsNodePut, ArePutBelow};
 ghost use Rattle.recovery_je.specs.Putting.{HasPut, children_put, below_put};
-ghost use Rattle.recovery_je.specs.Walking.{IsWalking, GoesOn, HasMet, read_below as below_node, waiting as child_waiting, low_behind as low_of_next};
+ghost use Rattle.recovery_je.specs.Walking.{IsWalking, GoesOn, HasMet, read_below as below_node, waiting as child_waiting, child_ends_at as ends_at_name};
 
 use crate::images::nowhere;
 use crate::placed_entry::PlacedEntry;
 use crate::read_err::ReadErr;
-use crate::walking::{Walking, meet, read_here, read_slots};
+use crate::walking::{Walking, is_below, meet, read_here, read_slots};
 use je_lsn::{FileNo, Lsn};
 use je_order::Name;
 use node_core::{Marked, Node, Version};
@@ -30,25 +30,14 @@ fn take_node<T: Loads>(
     d: u32,
     level: u8,
     low: &Name,
-    high: Option<&Name>,
     at: Lsn,
 ) -> Result<Node, ReadErr>
     requires order { AreInOrder entries.now }
     requires entries { AllByRecursion (λ p. IsEntry p.1) entries.now }
-    ensures walk { (walk : Walk) → IsWalking (T.stored walking.old.trees) walking.old.seen.keys walking.old.node walking.old.db walk → HasMet (node_here (map (λ f. f.0) files.now) entries.now d level low.now (option_copied high.entry) at walk.seen) walk (IsWalking (T.stored walking.new.trees) walking.new.seen.keys walking.new.node walking.new.db) result }
+    ensures walk { (walk : Walk) → IsWalking (T.stored walking.old.trees) walking.old.seen.keys walking.old.node walking.old.db walk → HasMet (node_here (map (λ f. f.0) files.now) entries.now d level at walk.seen) walk (IsWalking (T.stored walking.new.trees) walking.new.seen.keys walking.new.node walking.new.db) result }
     ensures nodes { IfOk result (λ node. HasPut T.nodes (λ keeps most. IsNodePut entries.now keeps most d (level - 1) low.now at node) walking.old walking.new) }
 {
-    let node = read_here(
-        alloc,
-        files,
-        entries,
-        d,
-        level,
-        low,
-        high,
-        at,
-        &walking.seen,
-    )?;
+    let node = read_here(alloc, files, entries, d, level, at, &walking.seen)?;
     meet(walking, alloc, &node, low, at)?;
     Ok(node)
 }
@@ -74,7 +63,7 @@ pub(crate) fn read_node<T: Loads>(
     ensures walk { (walk : Walk) → IsWalking (T.stored walking.old.trees) walking.old.seen.keys walking.old.node walking.old.db walk → GoesOn (node_at (map (λ f. f.0) files.now) entries.now d above low.now (option_copied high.entry) at walk) (IsWalking (T.stored walking.new.trees) walking.new.seen.keys walking.new.node walking.new.db) result }
     ensures nodes { OnOk result (HasPut T.nodes (λ keeps most. ArePutBelow entries.now keeps most d above low.now (option_copied high.entry) at) walking.old walking.new) }
 {
-    let node = take_node(walking, alloc, files, entries, d, above + 1, low, high, at)?;
+    let node = take_node(walking, alloc, files, entries, d, above + 1, low, at)?;
     let done = read_below(
         walking,
         alloc,
@@ -112,7 +101,7 @@ fn read_below<T: Loads>(
     ensures nodes { (k : ℕ) (x : Named) → IsSome (T.nodes walking.old.trees d k x) → OnOk result (HasPut T.nodes (below_put entries.now d above low.now (option_copied high.entry) slots.now) walking.old walking.new) }
 {
     if above == 0 {
-        return read_slots(walking, alloc, files, entries, d, at, slots);
+        return read_slots(walking, alloc, files, entries, d, low, high, at, slots);
     }
     read_children(
         walking,
@@ -128,18 +117,18 @@ fn read_below<T: Loads>(
     )
 }
 
-// The lower bound of the child behind the one that waits.
-fn low_behind<'a>(pending: Option<&Lsn>, low: &'a Name, name: &'a Name) -> &'a Name
-    ensures { result.now ≡ low_of_next (option_copied pending.entry) low.now name.now }
+// Whether the names of the child that waits end at the next slot's name, since this is above the lower bound.
+fn child_ends_at(pending: Option<&Lsn>, low: &Name, name: &Name) -> bool
+    ensures { result ≡ ends_at_name (option_copied pending.entry) low.now name.now }
 {
     match pending {
-        Some(_) => name,
-        None => low,
+        Some(_) => low.cmp(name).is_lt(),
+        None => false,
     }
 }
 
-// Reads the trees of an IN's children, `above` levels above the BINs. A child waits until the name behind
-// it is known, which is its upper bound.
+// Reads the trees of an IN's children within bounds, `above` levels above the BINs. A child waits until the
+// name behind it is known, which is its upper bound. One that has no name within the bounds is read past.
 #[cycle(descending)]
 fn read_children<'a, T: Loads>(
     walking: &mut Walking<T>,
@@ -166,6 +155,15 @@ fn read_children<'a, T: Loads>(
             continue;
         };
         let name = &marked.slot.name;
+        if !child_ends_at(pending, low, name) {
+            pending = Some(child);
+            continue;
+        }
+        if !is_below(name, high) {
+            return read_pending(
+                walking, alloc, files, entries, d, above, low, high, at, pending,
+            );
+        }
         read_pending(
             walking,
             alloc,
@@ -178,7 +176,7 @@ fn read_children<'a, T: Loads>(
             at,
             pending,
         )?;
-        low = low_behind(pending, low, name);
+        low = name;
         pending = Some(child);
     }
     read_pending(

@@ -5,7 +5,7 @@ ghost use Rattle.je_order.specs.declared.name.Name.{Name as Named};
 ghost use Rattle.log_entry.specs.Body.{IsEntry};
 ghost use Rattle.node_log.specs.Slots.{lsn_in};
 ghost use Rattle.log_trees.specs.Images.{named, slot_shown};
-ghost use Rattle.log_trees.specs.Sound.{is_within as is_name_within};
+ghost use Rattle.log_trees.specs.Bounds.{is_below as is_name_below, is_within as is_name_within, slots_inside};
 ghost use Rattle.log_trees.specs.Placed.{AreInOrder};
 ghost use Rattle.log_trees.specs.Trees.{data_in};
 ghost use Rattle.log_trees.specs.Walk.{Walk, each, met, with_record, read_record as record_at, read_here as node_here, may_stand as node_may_stand};
@@ -175,24 +175,14 @@ fn read_slot<T: Loads>(
     }
 }
 
-/// Reads the records that the slots of the image at an LSN name.
-pub(crate) fn read_slots<T: Loads>(
-    walking: &mut Walking<T>,
-    alloc: Global,
-    files: &[FileNo],
-    entries: &[PlacedEntry],
-    d: u32,
-    at: Lsn,
-    slots: &[Marked],
-) -> Result<(), ReadErr>
-    requires order { AreInOrder entries.now }
-    ensures walk { (walk : Walk) → IsWalking (T.stored walking.old.trees) walking.old.seen.keys walking.old.node walking.old.db walk → GoesOn (each (record_at (map (λ f. f.0) files.now) entries.now d at) (flat_map slot_shown slots.now) walk) (IsWalking (T.stored walking.new.trees) walking.new.seen.keys walking.new.node walking.new.db) result }
-    ensures nodes { (k : ℕ) (x : Named) → IsSome (T.nodes walking.old.trees d k x) → OnOk result (HasPut T.nodes none_put walking.old walking.new) }
+/// Whether a name is below a bound, if there is one.
+pub(crate) fn is_below(name: &Name, high: Option<&Name>) -> bool
+    ensures { result ≡ is_name_below name.now (option_copied high.entry) }
 {
-    for marked in slots {
-        read_slot(walking, alloc, files, entries, d, at, &marked.slot)?;
+    match high {
+        Some(high) => name.cmp(high).is_lt(),
+        None => true,
     }
-    Ok(())
 }
 
 // Whether a name lies within bounds, the lower one included.
@@ -202,31 +192,68 @@ fn is_within(low: &Name, high: Option<&Name>, name: &Name) -> bool
     if name.cmp(low).is_lt() {
         return false;
     }
-    match high {
-        Some(high) => name.cmp(high).is_lt(),
-        None => true,
-    }
+    is_below(name, high)
 }
 
-// Whether the names of all slots lie within bounds.
-fn are_within(low: &Name, high: Option<&Name>, slots: &[Marked]) -> bool
-    ensures { result ≡ list_all (λ m. is_name_within low.now (option_copied high.entry) m.slot.name) slots.now }
+// Reads the record that a slot of the image at an LSN names, if its name lies within the bounds.
+fn read_within<T: Loads>(
+    walking: &mut Walking<T>,
+    alloc: Global,
+    files: &[FileNo],
+    entries: &[PlacedEntry],
+    d: u32,
+    low: &Name,
+    high: Option<&Name>,
+    at: Lsn,
+    slot: &Slot,
+) -> Result<(), ReadErr>
+    requires order { AreInOrder entries.now }
+    ensures walk { (walk : Walk) → IsWalking (T.stored walking.old.trees) walking.old.seen.keys walking.old.node walking.old.db walk → GoesOn (each (record_at (map (λ f. f.0) files.now) entries.now d at) (slots_inside low.now (option_copied high.entry) (named slot.now.name (lsn_in slot.now.version))) walk) (IsWalking (T.stored walking.new.trees) walking.new.seen.keys walking.new.node walking.new.db) result }
+    ensures nodes { (k : ℕ) (x : Named) → IsSome (T.nodes walking.old.trees d k x) → OnOk result (HasPut T.nodes none_put walking.old walking.new) }
+{
+    if !is_within(low, high, &slot.name) {
+        return Ok(());
+    }
+    read_slot(walking, alloc, files, entries, d, at, slot)
+}
+
+/// Reads the records that the slots of the image at an LSN name within bounds.
+pub(crate) fn read_slots<T: Loads>(
+    walking: &mut Walking<T>,
+    alloc: Global,
+    files: &[FileNo],
+    entries: &[PlacedEntry],
+    d: u32,
+    low: &Name,
+    high: Option<&Name>,
+    at: Lsn,
+    slots: &[Marked],
+) -> Result<(), ReadErr>
+    requires order { AreInOrder entries.now }
+    ensures walk { (walk : Walk) → IsWalking (T.stored walking.old.trees) walking.old.seen.keys walking.old.node walking.old.db walk → GoesOn (each (record_at (map (λ f. f.0) files.now) entries.now d at) (slots_inside low.now (option_copied high.entry) (flat_map slot_shown slots.now)) walk) (IsWalking (T.stored walking.new.trees) walking.new.seen.keys walking.new.node walking.new.db) result }
+    ensures nodes { (k : ℕ) (x : Named) → IsSome (T.nodes walking.old.trees d k x) → OnOk result (HasPut T.nodes none_put walking.old walking.new) }
 {
     for marked in slots {
-        if !is_within(low, high, &marked.slot.name) {
-            return false;
-        }
+        read_within(
+            walking,
+            alloc,
+            files,
+            entries,
+            d,
+            low,
+            high,
+            at,
+            &marked.slot,
+        )?;
     }
-    true
+    Ok(())
 }
 
-// Whether a node may stand at a level, within bounds, and behind nodes of these numbers.
-fn may_stand(node: &Node, level: u8, low: &Name, high: Option<&Name>, seen: &BTreeSet<u64>) -> bool
-    ensures { result ≡ node_may_stand level low.now (option_copied high.entry) seen.now.keys node.now }
+// Whether a node may stand at a level, behind nodes of these numbers.
+fn may_stand(node: &Node, level: u8, seen: &BTreeSet<u64>) -> bool
+    ensures { result ≡ node_may_stand level seen.now.keys node.now }
 {
-    node.level == level
-        && !seen.contains(&node.number)
-        && are_within(low, high, node.slots.as_slice())
+    node.level == level && !seen.contains(&node.number)
 }
 
 /// The node that the image at an LSN shows, if it may stand there, behind nodes of these numbers.
@@ -236,17 +263,15 @@ pub(crate) fn read_here(
     entries: &[PlacedEntry],
     d: u32,
     level: u8,
-    low: &Name,
-    high: Option<&Name>,
     at: Lsn,
     seen: &BTreeSet<u64>,
 ) -> Result<Node, ReadErr>
     requires order { AreInOrder entries.now }
     requires entries { AllByRecursion (λ p. IsEntry p.1) entries.now }
-    ensures { Answers (node_here (map (λ f. f.0) files.now) entries.now d level low.now (option_copied high.entry) at seen.now.keys) result }
+    ensures { Answers (node_here (map (λ f. f.0) files.now) entries.now d level at seen.now.keys) result }
 {
     let node = read_image(alloc, files, entries, d, at)?;
-    if may_stand(&node, level, low, high, seen) {
+    if may_stand(&node, level, seen) {
         return Ok(node);
     }
     drop(node);

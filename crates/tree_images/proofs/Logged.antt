@@ -27,8 +27,13 @@ use Rattle.tree_nodes.specs.Levels.{row_of}
 use Rattle.tree_nodes.proofs.LevelLaws.{is_level}
 use Rattle.tree_nodes.proofs.LowLaws.{keys_passed}
 use Rattle.log_trees.specs.Trees.{data_in, data_of}
-use Rattle.log_trees.specs.Sound.{is_within, Child, children, Home}
+use Rattle.log_trees.specs.Images.{NamedLsn}
+use Rattle.log_trees.specs.Bounds.{is_within, Child}
+use Rattle.log_trees.specs.Sound.{Home}
 use Rattle.log_trees.specs.Building.{child_shown, NamesRecord}
+use Rattle.log_trees.proofs.Building.{in_up}
+use Rattle.log_trees.proofs.Cut.{side_by_side, children_whole}
+use Rattle.log_replay.proofs.ListLaws.{all_to_map}
 use Rattle.log_trees.proofs.Staying.{all_flat}
 use Rattle.db_tree.specs.declared.node_at.NodeAt.{NodeAt}
 use Rattle.db_tree.specs.Content.{held_by, slot_for, record_slots, child_slot_for, child_slots}
@@ -84,18 +89,6 @@ module _ (es more : Placed) (d at : ℕ) (below : AllByRecursion (λ (p : ℕ ×
       (λ e there. slot_record e.0 e.1 e.1.version there refl) (filter (λ (e : Name × Cell). p e.0) cells)
       (all_kept (λ (e : Name × Cell). value_at e.0 cells ≡ Some e.1) (λ e. p e.0) cells (own_values cells up)))
 
-slot_within : (low : Name) (high : Option Name) (x : Name) (v : Version) → is_within low high x ≡ true → AllByRecursion (λ (s : RecordSlot). is_within low high s.name ≡ true) (slot_for x v)
-slot_within low high x (There lsn) h = (h, tt)
-slot_within low high x Deleted h = (h, tt)
-slot_within low high x Unset h = tt
-
-slots_within : (low : Name) (high : Option Name) (cells : List (Name × Cell)) → AllByRecursion (λ (s : RecordSlot). is_within low high s.name ≡ true) (record_slots (between_edges (At low) (upper_edge high) cells))
-slots_within low high cells =
-    all_flat (λ (s : RecordSlot). is_within low high s.name ≡ true) (λ (e : Name × Cell). slot_for e.0 e.1.version) (between_edges (At low) (upper_edge high) cells)
-    (all_weaker (λ (e : Name × Cell). is_between (At low) (upper_edge high) e.0 ≡ true) (λ e. AllByRecursion (λ (s : RecordSlot). is_within low high s.name ≡ true) (slot_for e.0 e.1.version))
-    (λ e h. slot_within low high e.0 e.1.version (same_within low high e.0 ∙ h)) (between_edges (At low) (upper_edge high) cells)
-    (filter_all_pass (λ (e : Name × Cell). is_between (At low) (upper_edge high) e.0) cells))
-
 -- ---- an IN
 
 child_within : (low : Name) (high : Option Name) (x : Name) (o : Option ℕ) → is_within low high x ≡ true → AllByRecursion (λ (s : ChildSlot). is_within low high s.name ≡ true) (child_slot_for x o)
@@ -125,7 +118,7 @@ module _ (es more : Placed) (home : ℕ → Home) (last d at : ℕ) (below : All
       (named_below es at h.0 there.0 below there.1, longer_sound es more home last d k f.0 high h.0 (subst (λ (o : Option Name). IsSoundImage es home last d k f.0 o h.0) ends h.2))
 
   abbrev AreLaid : Name → Option Name → List ChildSlot → Type 0
-  AreLaid low high slots = AllByRecursion IsRight (children low high (map child_shown slots))
+  AreLaid low high slots = AllByRecursion IsRight (side_by_side low high (map child_shown slots))
 
   -- the slots of nodes that follow one another are those of their bounds
   laid : (high : Option Name) (f : Name × Node) (rest : NodeRow) → Has f → AllByRecursion Has rest → Follow row high f.0 rest → AreLaid f.0 high (child_slots (f ∷ rest))
@@ -219,19 +212,27 @@ images_sound es home last d due rows cells zero low n at m = record {
   slots = record_slots (between_edges (At low) (upper_edge (low_behind low (row_of rows 0))) cells);
   image = at_last es home last d due rows cells 0 low n at m;
   entry = m.entry;
-  within = slots_within low (low_behind low (row_of rows 0)) cells;
   own = m.imaged.numbers 0 low n m.there;
-  records = slots_record es ((at, image_of d n.number 0 low rows cells) ∷ []) d at m.behind cells m.recorded (is_between (At low) (upper_edge (low_behind low (row_of rows 0)))) m.rising;
+  records =
+      all_weaker (NamesRecord (es ++ (at, image_of d n.number 0 low rows cells) ∷ []) d at)
+      (λ s. is_within low (low_behind low (row_of rows 0)) s.name ≡ true → NamesRecord (es ++ (at, image_of d n.number 0 low rows cells) ∷ []) d at s) (λ s h e. h)
+      (record_slots (between_edges (At low) (upper_edge (low_behind low (row_of rows 0))) cells))
+      (slots_record es ((at, image_of d n.number 0 low rows cells) ∷ []) d at m.behind cells m.recorded (is_between (At low) (upper_edge (low_behind low (row_of rows 0)))) m.rising);
 }
-images_sound es home last d due rows cells (suc k) low n at m = record {
-  number = n.number;
-  slots = child_slots (between_edges (At low) (upper_edge (low_behind low (row_of rows (suc k)))) (row_of rows k));
-  image = at_last es home last d due rows cells (suc k) low n at m;
-  entry = m.entry;
-  within = all_within low (low_behind low (row_of rows (suc k))) (row_of rows k);
-  own = m.imaged.numbers (suc k) low n m.there;
-  below = in_below es home last d due rows cells k low n at ((at, image_of d n.number (suc k) low rows cells) ∷ []) m;
-}
+images_sound es home last d due rows cells (suc k) low n at m =
+    let high : Option Name = low_behind low (row_of rows (suc k)) in
+    let slots : List ChildSlot = child_slots (between_edges (At low) (upper_edge high) (row_of rows k)) in
+    record {
+      number = n.number;
+      slots = slots;
+      image = at_last es home last d due rows cells (suc k) low n at m;
+      entry = m.entry;
+      own = m.imaged.numbers (suc k) low n m.there;
+      below =
+          subst (AllByRecursion (λ (c : Child). (c.at < at) × IsSoundImage (es ++ (at, image_of d n.number (suc k) low rows cells) ∷ []) home last d k c.low c.high c.at))
+          (sym (children_whole low high (map child_shown slots) (all_to_map child_shown (λ (s : NamedLsn). is_within low high s.0 ≡ true) slots (all_within low high (row_of rows k))) (in_up d n.number (suc (suc k)) slots m.entry)))
+          (in_below es home last d due rows cells k low n at ((at, image_of d n.number (suc k) low rows cells) ∷ []) m);
+    }
 
 pub images_have_content : LoggedImagesHaveContent
 images_have_content es home last d due rows cells zero low n at m =
@@ -250,5 +251,6 @@ images_have_content es home last d due rows cells (suc k) low n at m =
           has.0,
           has.1,
           images_are_read longer home last d k c.0 (low_behind c.0 (row_of rows k)) has.0 x
-              (longer_sound es ((at, image_of d n.number (suc k) low rows cells) ∷ []) home last d k c.0 (low_behind c.0 (row_of rows k)) has.0 has.2),
+              (longer_sound es ((at, image_of d n.number (suc k) low rows cells) ∷ []) home last d k c.0 (low_behind c.0 (row_of rows k)) has.0 has.2)
+              (same_within c.0 (low_behind c.0 (row_of rows k)) x ∙ within (row_of rows k) x c lower),
         )

@@ -15,7 +15,8 @@ use Rattle.record_map.specs.Cells.{value_at, upper_edge}
 use Rattle.tree_nodes.specs.declared.node.Node.{Node}
 use Rattle.tree_nodes.specs.Nodes.{NodeRow, IsOver, IsUpTo, low_behind}
 use Rattle.tree_nodes.specs.Levels.{row_of, AreParts}
-use Rattle.log_trees.specs.Sound.{Child, children, Home}
+use Rattle.log_trees.specs.Bounds.{Child, children}
+use Rattle.log_trees.specs.Sound.{Home}
 use Rattle.log_trees.specs.Building.{child_shown}
 use Rattle.db_tree.specs.Content.{held_by}
 use Rattle.db_tree.specs.Images.{Placed, entry_at, child_in, child_over, child_behind, shows, shown, IsRead}
@@ -24,8 +25,8 @@ use Rattle.db_tree.proofs.Over.{over_once}
 use Rattle.db_tree.proofs.Within.{over_within}
 use Rattle.db_tree.specs.Trees.{IsBehind}
 use Rattle.tree_images.specs.ReadLaws.{IsChildNode, IsAsRead, ReadTreesFit, IsUnread, UnreadTreesFit}
-use Rattle.tree_images.proofs.Images.{images_are_read}
-use Rattle.tree_images.proofs.Neighbours.{sides_of}
+use Rattle.tree_images.proofs.Images.{over_child, images_are_read}
+use Rattle.tree_images.proofs.Neighbours.{same_within, sides_of}
 
 -- the child that an image shows for a name within its bounds, of what holds of all its children
 record IsFor (Q : Child → Type 0) (x : Name) (child : ℕ) : Type 0 where
@@ -35,35 +36,20 @@ record IsFor (Q : Child → Type 0) (x : Name) (child : ℕ) : Type 0 where
   from : IsUpTo found.low x
   upto : is_below (upper_edge found.high) x ≡ true
 
-le_gt : (o : Ordering) (t : Bool) → is_le o ≡ t → is_gt o ≡ not t
-le_gt Less true e = refl
-le_gt Equal true e = refl
-le_gt Greater true e = absurd cc
-le_gt Less false e = absurd cc
-le_gt Equal false e = absurd cc
-le_gt Greater false e = refl
-
-child_for : (Q : Child → Type 0) (x low : Name) (high : Option Name) (s : ChildSlot) (slots : List ChildSlot) → IsUpTo low x → is_below (upper_edge high) x ≡ true → AllByRecursion Q (children low high (map child_shown (s ∷ slots))) →
-    IsFor Q x (child_behind x s.child slots)
-child_for Q x low high s [] from upto all = record { found = record { low = low; high = high; at = s.child }; holds = all.0; at = refl; from = from; upto = upto }
-child_for Q x low high s (t ∷ slots) from upto all = by_test (is_le (name_cmp t.name x)) refl (λ up. child_for Q x t.name high t slots up upto all.1)
-  where
-    by_test : (b : Bool) → is_le (name_cmp t.name x) ≡ b → (IsUpTo t.name x → IsFor Q x (child_behind x t.child slots)) → IsFor Q x (cond b (child_behind x t.child slots) s.child)
-    by_test true is rest = rest (le_gt (name_cmp t.name x) true is)
-    by_test false is rest = record { found = record { low = low; high = Some t.name; at = s.child }; holds = all.0; at = refl; from = from; upto = le_gt (name_cmp t.name x) false is }
-
-over_for : (Q : Child → Type 0) (x low : Name) (high : Option Name) (slots : List ChildSlot) → 0 < length slots → IsUpTo low x → is_below (upper_edge high) x ≡ true → AllByRecursion Q (children low high (map child_shown slots)) →
+over_for : (Q : Child → Type 0) (x low : Name) (high : Option Name) (slots : List ChildSlot) → 0 < length slots → is_between (At low) (upper_edge high) x ≡ true → AllByRecursion Q (children low high (map child_shown slots)) →
     (child : ℕ) × (child_over x slots ≡ Some child) × IsFor Q x child
-over_for Q x low high [] some from upto all = absurd (omega (arith, some))
-over_for Q x low high (s ∷ slots) some from upto all = (child_behind x s.child slots, refl, child_for Q x low high s slots from upto all)
+over_for Q x low high slots some inside all =
+    let over = over_child Q x low high slots some (same_within low high x ∙ inside) all in
+    let is = over.2 in
+    let sides = sides_of is.found.low x is.found.high (sym (same_within is.found.low is.found.high x) ∙ is.inside) in
+    (over.0, over.1, record { found = is.found; holds = is.holds; at = is.at; from = sides.0; upto = sides.1 })
 
 module _ (es : Placed) (home : ℕ → Home) (last d : ℕ) (rows : List NodeRow) (parts : AreParts rows) (each : (level : ℕ) (low : Name) (n : Node) → value_at low (row_of rows level) ≡ Some n → IsAsRead es home last d rows level low n) where
   -- an IN's image shows what its child's does
   pub inner_same : (k : ℕ) (x : Name) (e c : Name × Node) → IsOver (row_of rows (suc k)) x e → IsOver (row_of rows k) x c → shown es (suc k) e.1.last x ≡ shown es k c.1.last x
   inner_same k x e c upper lower =
       let a : IsAsRead es home last d rows (suc k) e.0 e.1 = each (suc k) e.0 e.1 upper.there in
-      let bounds = sides_of e.0 x (low_behind e.0 (row_of rows (suc k))) (within (row_of rows (suc k)) x e upper) in
-      let found = over_for (IsChildNode (row_of rows k)) x e.0 (low_behind e.0 (row_of rows (suc k))) a.sound.slots a.sound.entry.4 bounds.0 bounds.1 a.below in
+      let found = over_for (IsChildNode (row_of rows k)) x e.0 (low_behind e.0 (row_of rows (suc k))) a.sound.slots a.sound.entry.4 (within (row_of rows (suc k)) x e upper) a.below in
       by_child a.at a.image (ap (λ (o : Option Entry). option_and_then (λ child. shows es k child x) (child_in o x)) a.sound.image ∙ ap (option_and_then (λ child. shows es k child x)) found.1) found.2
     where
       by_child : {child : ℕ} (at : ℕ) → e.1.last ≡ Some at → shows es (suc k) at x ≡ shows es k child x → IsFor (IsChildNode (row_of rows k)) x child → shown es (suc k) e.1.last x ≡ shown es k c.1.last x
@@ -83,8 +69,7 @@ module _ (es : Placed) (home : ℕ → Home) (last d : ℕ) (rows : List NodeRow
   pub named : (k : ℕ) (x : Name) (e c : Name × Node) (at : ℕ) → IsOver (row_of rows (suc k)) x e → IsOver (row_of rows k) x c → e.1.last ≡ Some at → child_in (entry_at es at) x ≡ c.1.last
   named k x e c at upper lower is =
       let a : IsAsRead es home last d rows (suc k) e.0 e.1 = each (suc k) e.0 e.1 upper.there in
-      let bounds = sides_of e.0 x (low_behind e.0 (row_of rows (suc k))) (within (row_of rows (suc k)) x e upper) in
-      let found = over_for (IsChildNode (row_of rows k)) x e.0 (low_behind e.0 (row_of rows (suc k))) a.sound.slots a.sound.entry.4 bounds.0 bounds.1 a.below in
+      let found = over_for (IsChildNode (row_of rows k)) x e.0 (low_behind e.0 (row_of rows (suc k))) a.sound.slots a.sound.entry.4 (within (row_of rows (suc k)) x e upper) a.below in
       by_child (ap (λ (i : ℕ). child_in (entry_at es i) x) (same_Some at a.at (sym is ∙ a.image)) ∙ ap (λ (o : Option Entry). child_in o x) a.sound.image ∙ found.1) found.2
     where
       by_child : {child : ℕ} → child_in (entry_at es at) x ≡ Some child → IsFor (IsChildNode (row_of rows k)) x child → child_in (entry_at es at) x ≡ c.1.last
@@ -100,7 +85,7 @@ module _ (es : Placed) (home : ℕ → Home) (last d : ℕ) (rows : List NodeRow
 pub read_fit : ReadTreesFit
 read_fit es base newest home last d rows cells parts top each recorded held = record {
   tree = record {
-    reads = λ level x e at over is. reads level x e at (each level e.0 e.1 over.there) is;
+    reads = λ level x e at over is. reads level x e at over (each level e.0 e.1 over.there) is;
     leaf = λ x e over. leaf x e over (each 0 e.0 e.1 over.there);
     inner = λ level x e c upper lower. inl (inner_same es home last d rows parts each level x e c upper lower);
     names = λ level x e c at upper lower is. inl (named es home last d rows parts each level x e c at upper lower is);
@@ -113,9 +98,9 @@ read_fit es base newest home last d rows cells parts top each recorded held = re
   recorded = recorded;
 }
   where
-    reads : (level : ℕ) (x : Name) (e : Name × Node) (at : ℕ) → IsAsRead es home last d rows level e.0 e.1 → e.1.last ≡ Some at → IsRead es level at x
-    reads level x e at a is =
-        subst (λ (i : ℕ). IsRead es level i x) (same_Some a.at at (sym a.image ∙ is)) (images_are_read es home last d level e.0 (low_behind e.0 (row_of rows level)) a.at x a.sound)
+    reads : (level : ℕ) (x : Name) (e : Name × Node) (at : ℕ) → IsOver (row_of rows level) x e → IsAsRead es home last d rows level e.0 e.1 → e.1.last ≡ Some at → IsRead es level at x
+    reads level x e at over a is =
+        subst (λ (i : ℕ). IsRead es level i x) (same_Some a.at at (sym a.image ∙ is)) (images_are_read es home last d level e.0 (low_behind e.0 (row_of rows level)) a.at x a.sound (same_within e.0 (low_behind e.0 (row_of rows level)) x ∙ within (row_of rows level) x e over))
 
     leaf : (x : Name) (e : Name × Node) → IsOver (row_of rows 0) x e → IsAsRead es home last d rows 0 e.0 e.1 → (shown es 0 e.1.last x ≡ held_by cells x) ⊎ IsBehind base newest e.1 x
     leaf x e over a = inl (ap (λ (o : Option ℕ). shown es 0 o x) a.image ∙ held x e a.at over a.image)

@@ -80,7 +80,8 @@ module _ (es : Placed) (keeps : Bool) (most : ℕ) (home : ℕ → Home) (last b
           let names : upper.0.0 ≡ least = root_over x upper.0 upper.1 in
           let there : value_at least (row_of tree.levels top) ≡ Some upper.0.1 = ap (λ (y : Name). value_at y (row_of tree.levels top)) (sym names) ∙ upper.1.there in
           let image : upper.0.1.last ≡ Some at = last_is es keeps most home d tree.levels parts entries last le kept whole top least None at upper.0.1 root there in
-          let shows_root = images_show es home last d top least None at x (sound es keeps most home last d entries whole le top least None at (loaded_in tree.levels) root.shown root.tree) in
+          let shows_root = images_show es home last d top least None at x (sound es keeps most home last d entries whole le top least None at (loaded_in tree.levels) root.shown root.tree)
+          (within_from least None x (none_below_least x) refl) in
           sym (ap (λ (o : Option ℕ). shown es 0 o x) is)
           ∙ sym (shown_down es home last d tree.levels parts each top x upper.0 e upper.1 over)
           ∙ ap (λ (o : Option ℕ). shown es top o x) image

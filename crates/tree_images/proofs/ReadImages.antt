@@ -2,9 +2,9 @@
 use Rattle.std.proofs.Common.{◌≡◌, ◌≤◌, ◌<◌, ◌==◌, ℕ, zero, suc, Bool, true, false, cond, List, [], ◌∷◌, Option, None, Some, map, length, refl, ap, sym, subst, ◌∙◌, arith}
 use Rattle.std.specs.Prelude.{◌&&◌, nat_le, nat_lt}
 use Rattle.std.specs.Option.{option_and_then}
-use Rattle.std.proofs.lemmas.Bool.{true≢false, and_parts}
+use Rattle.std.proofs.lemmas.Bool.{true≢false}
 use Rattle.std.proofs.lemmas.Option.{none-some, same_Some, cond_some}
-use Rattle.std.specs.List.{AllByRecursion, flat_map, list_all}
+use Rattle.std.specs.List.{AllByRecursion, flat_map}
 use Rattle.je_order.specs.declared.name.Name.{Name}
 use Rattle.je_order.proofs.Lists.{all_weaker}
 use Rattle.node_core.specs.declared.node.Node.{Node}
@@ -21,7 +21,9 @@ use Rattle.log_entry.specs.declared.entry.Entry.TheVariants.{In, Bin, BinDelta}
 use Rattle.record_tree.specs.LoadedNodes.{LoadedNode}
 use Rattle.log_trees.specs.Images.{NamedLsn, slot_shown, slots_shown, node_in, node_at}
 use Rattle.log_trees.specs.Building.{child_shown, NamesRecord}
-use Rattle.log_trees.specs.Sound.{is_within, Child, children, Home, at_home, IsRecordAt, IsTreeAt}
+use Rattle.log_trees.specs.Bounds.{is_within, Child, children}
+use Rattle.log_trees.specs.Sound.{Home, at_home, IsRecordAt, IsTreeAt}
+use Rattle.log_trees.proofs.Cut.{in_all}
 use Rattle.log_meaning.specs.ReadNodes.{is_delta}
 use Rattle.db_tree.specs.Images.{Placed, entry_at}
 use Rattle.tree_images.specs.Sound.{IsSoundImage}
@@ -102,11 +104,6 @@ children_shown (s ∷ slots) = ap (λ (l : List NamedLsn). (s.name, s.child) ∷
 pub in_shown : (es : Placed) (at level : ℕ) (node : Node) (e : IsInEntry es at level node) → slots_shown node ≡ map child_shown e.slots
 in_shown es at level node e = ap (flat_map slot_shown) e.slots_are ∙ children_shown e.slots
 
-all_children : (p : Name → Bool) (slots : List ChildSlot) → list_all (λ m. p m.slot.name) (map (λ c. fresh (slot_of_child c)) slots) ≡ true → AllByRecursion (λ s. p s.name ≡ true) slots
-all_children p [] all = tt
-all_children p (s ∷ slots) all =
-    let both = and_parts (p s.name) (list_all (λ m. p m.slot.name) (map (λ c. fresh (slot_of_child c)) slots)) all in (both.0, all_children p slots both.1)
-
 -- ---- a BIN
 
 pub record IsBinEntry (es : Placed) (at : ℕ) (node : Node) : Type 0 where
@@ -138,18 +135,17 @@ bin_entry es at node entries whole is level =
     by_kind (BinDelta db number full slots) there entry no_delta h = absurd (true≢false no_delta)
     by_kind e there entry no_delta h = absurd (none-some node h)
 
-all_records : (p : Name → Bool) (slots : List RecordSlot) → list_all (λ m. p m.slot.name) (map (λ r. fresh (slot_of_record r)) slots) ≡ true → AllByRecursion (λ s. p s.name ≡ true) slots
-all_records p [] all = tt
-all_records p (s ∷ slots) all =
-    let both = and_parts (p s.name) (list_all (λ m. p m.slot.name) (map (λ r. fresh (slot_of_record r)) slots)) all in (both.0, all_records p slots both.1)
-
-name_records : (es : Placed) (d at : ℕ) (slots : List RecordSlot) → AllByRecursion (IsRecordAt es d at) (flat_map slot_shown (map (λ r. fresh (slot_of_record r)) slots)) → AllByRecursion (NamesRecord es d at) slots
-name_records es d at [] all = tt
-name_records es d at (s ∷ slots) all = by_lsn s.name s.lsn (name_records es d at slots) all
+-- the slots whose names pass a test name records
+name_records : (p : Name → Bool) (es : Placed) (d at : ℕ) (slots : List RecordSlot) →
+    AllByRecursion (λ s. p s.0 ≡ true → IsRecordAt es d at s) (flat_map slot_shown (map (λ r. fresh (slot_of_record r)) slots)) → AllByRecursion (λ s. p s.name ≡ true → NamesRecord es d at s) slots
+name_records p es d at [] all = tt
+name_records p es d at (s ∷ slots) all = by_lsn s.name s.lsn (name_records p es d at slots) all
   where
-    by_lsn : (name : Name) (o : Option ℕ) → (AllByRecursion (IsRecordAt es d at) (flat_map slot_shown (map (λ r. fresh (slot_of_record r)) slots)) → AllByRecursion (NamesRecord es d at) slots) →
-        AllByRecursion (IsRecordAt es d at) (flat_map slot_shown (map (λ r. fresh (slot_of_record r)) (record { name = name; lsn = o } ∷ slots))) → AllByRecursion (NamesRecord es d at) (record { name = name; lsn = o } ∷ slots)
-    by_lsn name None rest h = (tt, rest h)
+    by_lsn : (name : Name) (o : Option ℕ) →
+        (AllByRecursion (λ s. p s.0 ≡ true → IsRecordAt es d at s) (flat_map slot_shown (map (λ r. fresh (slot_of_record r)) slots)) → AllByRecursion (λ s. p s.name ≡ true → NamesRecord es d at s) slots) →
+        AllByRecursion (λ s. p s.0 ≡ true → IsRecordAt es d at s) (flat_map slot_shown (map (λ r. fresh (slot_of_record r)) (record { name = name; lsn = o } ∷ slots))) →
+        AllByRecursion (λ s. p s.name ≡ true → NamesRecord es d at s) (record { name = name; lsn = o } ∷ slots)
+    by_lsn name None rest h = (λ e. tt, rest h)
     by_lsn name (Some lsn) rest h = (h.0, rest h.1)
 
 -- ---- sound images
@@ -165,9 +161,9 @@ module _ (es : Placed) (keeps : Bool) (most : ℕ) (home : ℕ → Home) (last d
         slots = e.slots;
         image = e.image ∙ ap (λ (b : ℕ). Some (Bin b tree.node.number e.slots)) tree.db;
         entry = subst (λ (b : ℕ). IsEntry (Bin b tree.node.number e.slots)) tree.db e.entry;
-        within = all_records (is_within low high) e.slots (sym (ap (list_all (λ m. is_within low high m.slot.name)) e.slots_are) ∙ tree.within);
         own = (omega (arith, few, le), tree.home);
-        records = name_records es d at e.slots (subst (λ (l : List Marked). AllByRecursion (IsRecordAt es d at) (flat_map slot_shown l)) e.slots_are tree.right);
+        records = name_records (is_within low high) es d at e.slots
+            (subst (λ (l : List Marked). AllByRecursion (λ s. is_within low high s.0 ≡ true → IsRecordAt es d at s) (flat_map slot_shown l)) e.slots_are (in_all (IsRecordAt es d at) low high (slots_shown tree.node) tree.right));
       }
   sound (suc k) low high at nodes shown tree =
       let e : IsInEntry es at (suc (suc k)) tree.node = in_entry es at k tree.node entries tree.image tree.level_is in
@@ -178,7 +174,6 @@ module _ (es : Placed) (keeps : Bool) (most : ℕ) (home : ℕ → Home) (last d
         slots = e.slots;
         image = e.image ∙ ap (λ (b : ℕ). Some (In b tree.node.number (suc (suc k)) e.slots)) tree.db;
         entry = subst (λ (b : ℕ). IsEntry (In b tree.node.number (suc (suc k)) e.slots)) tree.db e.entry;
-        within = all_children (is_within low high) e.slots (sym (ap (list_all (λ m. is_within low high m.slot.name)) e.slots_are) ∙ tree.within);
         own = (omega (arith, few, le), tree.home);
         below = subst (λ (l : List NamedLsn). AllByRecursion (λ (c : Child). (c.at < at) × IsSoundImage es home last d k c.low c.high c.at) (children low high l)) (in_shown es at (suc (suc k)) tree.node e)
             (all_weaker (λ (c : Child). ((c.at < at) × IsTreeAt es (at_home home d) d k c.low c.high c.at) × ShowsNodes es keeps most nodes k c.low c.high c.at) (λ c. (c.at < at) × IsSoundImage es home last d k c.low c.high c.at)

@@ -13,9 +13,11 @@ use Rattle.record_map.proofs.NameLaws.{name_same, same_or_other}
 use Rattle.record_tree.specs.LoadedNodes.{LoadedNode, AllNodes, node_read, least, HasPutNode, AreNodesStill}
 use Rattle.log_trees.specs.Placed.{Placed}
 use Rattle.log_trees.specs.Images.{NamedLsn, slots_shown, node_at}
-use Rattle.log_trees.specs.Sound.{is_below, is_within, AreUp, Child, children, IsTreeAt}
+use Rattle.log_trees.specs.Bounds.{is_below, is_within, Child, children}
+use Rattle.log_trees.specs.Sound.{AreUp, IsTreeAt}
 use Rattle.log_trees.proofs.Bounds.{within_parts, within_from, not_below_itself, wider_high, wider_low, within_next}
-use Rattle.log_trees.proofs.Shown.{node_within, right_children}
+use Rattle.log_trees.proofs.Cut.{side_by_side, children_cut, cut_within, cut_up}
+use Rattle.log_trees.proofs.Shown.{child_slots_of, right_children}
 use Rattle.log_meaning.specs.ReadNodes.{ArePutEach, IsNodePut, ArePutBelow}
 
 is_some : {A : Type 0} (o : Option A) (x : A) → o ≡ Some x → IsSome o
@@ -157,8 +159,8 @@ module _ (es : List Placed) (keeps : Bool) (most : ℕ) where
     all_same : (k : ℕ) (old new : ℕ → Name → Option LoadedNode)
         (goes : (low : Name) (high : Option Name) (at : ℕ) → is_below low high ≡ true → IsSameWithin old new k low high → IsTreeAt es home d k low high at → ShowsNodes old k low high at → ShowsNodes new k low high at)
         (low : Name) (high : Option Name) (slots : List NamedLsn) → is_below low high ≡ true → IsSameWithin old new k low high → AllByRecursion (λ s. is_within low high s.0 ≡ true) slots → AreUp slots →
-        AllByRecursion (λ (c : Child). IsTreeAt es home d k c.low c.high c.at) (children low high slots) → AllByRecursion (λ (c : Child). ShowsNodes old k c.low c.high c.at) (children low high slots) →
-        AllByRecursion (λ (c : Child). ShowsNodes new k c.low c.high c.at) (children low high slots)
+        AllByRecursion (λ (c : Child). IsTreeAt es home d k c.low c.high c.at) (side_by_side low high slots) → AllByRecursion (λ (c : Child). ShowsNodes old k c.low c.high c.at) (side_by_side low high slots) →
+        AllByRecursion (λ (c : Child). ShowsNodes new k c.low c.high c.at) (side_by_side low high slots)
     all_same k old new goes low high [] below same within up trees shown = tt
     all_same k old new goes low high (s ∷ []) below same within up trees shown = (goes low high s.1 below same trees.0 shown.0, tt)
     all_same k old new goes low high (s ∷ t ∷ slots) below same within up trees shown =
@@ -176,9 +178,11 @@ module _ (es : List Placed) (keeps : Bool) (most : ℕ) where
           shown.0,
           shown_same old new (suc k) low high at shown.0 below same shown.1,
           subst (λ (n : Node). AllByRecursion (λ (c : Child). ShowsNodes new k c.low c.high c.at) (children low high (slots_shown n))) (sym is)
-              (all_same k old new (nodes_same k old new) low high (slots_shown tree.node) below (λ j q le inside. same j q (let e : j ≤ k = le in omega (arith, e)) inside) (node_within low high tree.node tree.within) tree.up
-              (right_children es home d k low high at tree)
-              (subst (λ (n : Node). AllByRecursion (λ (c : Child). ShowsNodes old k c.low c.high c.at) (children low high (slots_shown n))) is shown.2)),
+              (subst (AllByRecursion (λ (c : Child). ShowsNodes new k c.low c.high c.at)) (sym (children_cut low high (slots_shown tree.node) tree.up))
+              (all_same k old new (nodes_same k old new) low high (child_slots_of low high tree.node) below (λ j q le inside. same j q (let e : j ≤ k = le in omega (arith, e)) inside)
+              (cut_within low high (slots_shown tree.node) below tree.up) (cut_up low high (slots_shown tree.node) tree.up) (right_children es home d k low high at tree)
+              (subst (AllByRecursion (λ (c : Child). ShowsNodes old k c.low c.high c.at)) (children_cut low high (slots_shown tree.node) tree.up)
+              (subst (λ (n : Node). AllByRecursion (λ (c : Child). ShowsNodes old k c.low c.high c.at) (children low high (slots_shown n))) is shown.2)))),
         )
 
     -- ---- nodes that are put
@@ -194,9 +198,9 @@ module _ (es : List Placed) (keeps : Bool) (most : ℕ) where
         HaveLeast old d k low → IsClear (old d) k low high → IsPut old new k low high (ShowsNodes (new d) k low high at)
 
     all_put : (k : ℕ) → Goes k → (low : Name) (high : Option Name) (slots : List NamedLsn) (old new : AllNodes) →
-        ArePutEach (λ (c : Child). ArePutBelow es keeps most d k c.low c.high c.at) (children low high slots) old new → AllByRecursion (λ s. is_within low high s.0 ≡ true) slots → AreUp slots →
-        AllByRecursion (λ (c : Child). IsTreeAt es home d k c.low c.high c.at) (children low high slots) → is_below low high ≡ true → ((j : ℕ) → j ≤ k → IsSome (old d j least)) → IsClear (old d) k low high →
-        IsPut old new k low high (AllByRecursion (λ (c : Child). ShowsNodes (new d) k c.low c.high c.at) (children low high slots))
+        ArePutEach (λ (c : Child). ArePutBelow es keeps most d k c.low c.high c.at) (side_by_side low high slots) old new → AllByRecursion (λ s. is_within low high s.0 ≡ true) slots → AreUp slots →
+        AllByRecursion (λ (c : Child). IsTreeAt es home d k c.low c.high c.at) (side_by_side low high slots) → is_below low high ≡ true → ((j : ℕ) → j ≤ k → IsSome (old d j least)) → IsClear (old d) k low high →
+        IsPut old new k low high (AllByRecursion (λ (c : Child). ShowsNodes (new d) k c.low c.high c.at) (side_by_side low high slots))
     all_put k goes low high [] old new put within up trees below lows clear =
         record { shown = tt; same = λ b j q out. put b j q; stay = λ b j q was. subst IsSome (sym (put b j q)) was }
     all_put k goes low high (s ∷ []) old new put within up trees below lows clear =
@@ -243,9 +247,11 @@ module _ (es : List Placed) (keeps : Bool) (most : ℕ) where
         let up : (j : ℕ) → j ≤ k → j ≤ suc k = λ j le. omega (arith, le) in
         let cleared : IsClear (mid d) (suc k) low high = put_clear old mid d (suc k) low high (node_read node.number at keeps) one.put lows clear in
         let least_there : (j : ℕ) → j ≤ suc k → IsSome (mid d j least) = put_least old mid d (suc k) low (node_read node.number at keeps) one.put lows in
-        let rest = all_put k (nodes_put k) low high (slots_shown tree.node) mid new
-        (subst (λ (n : Node). ArePutEach (λ (c : Child). ArePutBelow es keeps most d k c.low c.high c.at) (children low high (slots_shown n)) mid new) is put.3)
-        (node_within low high tree.node tree.within) tree.up (right_children es home d k low high at tree) below (λ j le. least_there j (up j le)) (λ j le. cleared j (up j le)) in
+        let cut_is : children low high (slots_shown tree.node) ≡ side_by_side low high (child_slots_of low high tree.node) = children_cut low high (slots_shown tree.node) tree.up in
+        let rest = all_put k (nodes_put k) low high (child_slots_of low high tree.node) mid new
+        (subst (λ (l : List Child). ArePutEach (λ (c : Child). ArePutBelow es keeps most d k c.low c.high c.at) l mid new) cut_is
+        (subst (λ (n : Node). ArePutEach (λ (c : Child). ArePutBelow es keeps most d k c.low c.high c.at) (children low high (slots_shown n)) mid new) is put.3))
+        (cut_within low high (slots_shown tree.node) below tree.up) (cut_up low high (slots_shown tree.node) tree.up) (right_children es home d k low high at tree) below (λ j le. least_there j (up j le)) (λ j le. cleared j (up j le)) in
         let top : new d (suc k) low ≡ mid d (suc k) low = rest.same d (suc k) low (λ e1 le inside. absurd (omega (arith, le))) in
         record {
           shown = (
@@ -256,7 +262,7 @@ module _ (es : List Placed) (keeps : Bool) (most : ℕ) where
               here = top ∙ one.put.here;
               alone = λ q some within. cleared (suc k) (le_refl (suc k)) q (subst IsSome (rest.same d (suc k) q (λ e1 le inside. absurd (omega (arith, le)))) some) within;
             },
-            subst (λ (n : Node). AllByRecursion (λ (c : Child). ShowsNodes (new d) k c.low c.high c.at) (children low high (slots_shown n))) (sym is) rest.shown,
+            subst (λ (n : Node). AllByRecursion (λ (c : Child). ShowsNodes (new d) k c.low c.high c.at) (children low high (slots_shown n))) (sym is) (subst (AllByRecursion (λ (c : Child). ShowsNodes (new d) k c.low c.high c.at)) (sym cut_is) rest.shown),
           );
           same = λ b j q out.
               rest.same b j q (λ e1 le inside. out e1 (up j le) inside)

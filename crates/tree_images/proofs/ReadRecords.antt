@@ -1,5 +1,5 @@
 -- The records of a tree that was read: they stand where the images below its root show them.
-use Rattle.std.proofs.Common.{◌≡◌, ℕ, zero, suc, Bool, true, false, cond, List, [], ◌∷◌, Option, None, Some, refl, ap, sym, subst, ◌∙◌, is_eq}
+use Rattle.std.proofs.Common.{◌≡◌, ◌<◌, ℕ, zero, suc, Bool, true, false, cond, List, [], ◌∷◌, Option, None, Some, refl, ap, sym, subst, ◌∙◌, is_eq}
 use Rattle.std.specs.Prelude.{IfSome, option_map}
 use Rattle.std.proofs.lemmas.Option.{none-some, same_Some}
 use Rattle.std.specs.List.{AllByRecursion, flat_map}
@@ -15,8 +15,9 @@ use Rattle.record_map.specs.Cells.{value_at}
 use Rattle.record_tree.specs.Stored.{Stored, stored_at}
 use Rattle.log_trees.specs.Images.{NamedLsn, slots_shown}
 use Rattle.log_trees.specs.Trees.{slots_at, found, data_of, written_at, shows as shows_slot}
-use Rattle.log_trees.specs.Sound.{is_within, Child, children, IsRecordAt, IsTreeAt}
-use Rattle.log_trees.proofs.Shown.{leaf_image, inner_image, right_children, shown_is}
+use Rattle.log_trees.specs.Bounds.{is_within, slots_inside, Child, children}
+use Rattle.log_trees.specs.Sound.{IsRecordAt, IsTreeAt}
+use Rattle.log_trees.proofs.Shown.{leaf_image, inner_image, shown_is}
 use Rattle.log_meaning.specs.ReadNodes.{stored_of}
 use Rattle.db_tree.specs.Content.{lsn_under, held_by}
 use Rattle.db_tree.specs.Images.{Placed}
@@ -29,20 +30,19 @@ use Rattle.tree_images.specs.Fits.{IsRecorded}
 abbrev HasData : Placed → ℕ → NamedLsn → Type 0
 HasData es d s = (value : List ℕ) × (data_of es d s.0 s.1 ≡ Some value)
 
-all_flat : (f : ℕ → List NamedLsn) (P : NamedLsn → Type 0) (low : Name) (high : Option Name) (slots : List NamedLsn) → AllByRecursion (λ (c : Child). AllByRecursion P (f c.at)) (children low high slots) →
-    AllByRecursion P (flat_map (λ (s : NamedLsn). f s.1) slots)
-all_flat f P low high [] all = tt
-all_flat f P low high (s ∷ []) all = all_append P (f s.1) [] all.0 tt
-all_flat f P low high (s ∷ t ∷ slots) all = all_append P (f s.1) (flat_map (λ (s : NamedLsn). f s.1) (t ∷ slots)) all.0 (all_flat f P t.0 high (t ∷ slots) all.1)
+all_flat : (f : Name → Option Name → ℕ → List NamedLsn) (P : NamedLsn → Type 0) (cs : List Child) → AllByRecursion (λ (c : Child). AllByRecursion P (f c.low c.high c.at)) cs →
+    AllByRecursion P (flat_map (λ (c : Child). f c.low c.high c.at) cs)
+all_flat f P [] all = tt
+all_flat f P (c ∷ cs) all = all_append P (f c.low c.high c.at) (flat_map (λ (o : Child). f o.low o.high o.at) cs) all.0 (all_flat f P cs all.1)
 
-all_data : (es : Placed) (home : ℕ → ℕ → Name → Type 0) (d k : ℕ) (low : Name) (high : Option Name) (at : ℕ) → IsTreeAt es home d k low high at → AllByRecursion (HasData es d) (slots_at es k at)
+all_data : (es : Placed) (home : ℕ → ℕ → Name → Type 0) (d k : ℕ) (low : Name) (high : Option Name) (at : ℕ) → IsTreeAt es home d k low high at → AllByRecursion (HasData es d) (slots_at es k low high at)
 all_data es home d zero low high at tree =
-    subst (AllByRecursion (HasData es d)) (sym (leaf_image es home d low high at tree)) (all_weaker (IsRecordAt es d at) (HasData es d) (λ s h. (h.1, h.2)) (slots_shown tree.node) tree.right)
+    subst (AllByRecursion (HasData es d)) (sym (leaf_image es home d low high at tree)) (all_weaker (IsRecordAt es d at) (HasData es d) (λ s h. (h.1, h.2)) (slots_inside low high (slots_shown tree.node)) tree.right)
 all_data es home d (suc k) low high at tree =
-    subst (λ (l : List NamedLsn). AllByRecursion (HasData es d) (flat_map (λ (s : NamedLsn). slots_at es k s.1) l)) (sym (inner_image es home d k low high at tree))
-    (all_flat (slots_at es k) (HasData es d) low high (slots_shown tree.node)
-    (all_weaker (λ (c : Child). IsTreeAt es home d k c.low c.high c.at) (λ c. AllByRecursion (HasData es d) (slots_at es k c.at)) (λ c h. all_data es home d k c.low c.high c.at h) (children low high (slots_shown tree.node))
-    (right_children es home d k low high at tree)))
+    subst (λ (l : List Child). AllByRecursion (HasData es d) (flat_map (λ (c : Child). slots_at es k c.low c.high c.at) l)) (sym (inner_image es home d k low high at tree))
+    (all_flat (slots_at es k) (HasData es d) (children low high (slots_shown tree.node))
+    (all_weaker (λ (c : Child). (c.at < at) × IsTreeAt es home d k c.low c.high c.at) (λ c. AllByRecursion (HasData es d) (slots_at es k c.low c.high c.at)) (λ c h. all_data es home d k c.low c.high c.at h.1)
+    (children low high (slots_shown tree.node)) tree.right))
 
 found_data : (es : Placed) (d lsn : ℕ) (x : Name) (slots : List NamedLsn) → AllByRecursion (HasData es d) slots → found x slots ≡ Some lsn → HasData es d (x, lsn)
 found_data es d lsn x [] all is = absurd (none-some lsn is)
@@ -59,7 +59,7 @@ found_data es d lsn x (s ∷ slots) all is = by_test (is_eq (name_cmp x s.0)) re
 pub shown_data : (es : Placed) (home : ℕ → ℕ → Name → Type 0) (d k : ℕ) (low : Name) (high : Option Name) (at lsn : ℕ) (x : Name) → IsTreeAt es home d k low high at → is_within low high x ≡ true → shows_slot es k at x ≡ Some lsn →
     (value : List ℕ) × (data_of es d x lsn ≡ Some value)
 shown_data es home d k low high at lsn x tree inside is =
-    found_data es d lsn x (slots_at es k at) (all_data es home d k low high at tree) (shown_is es home d k x low high at tree inside ∙ is)
+    found_data es d lsn x (slots_at es k low high at) (all_data es home d k low high at tree) (shown_is es home d k x low high at tree inside ∙ is)
 
 -- ---- cells
 

@@ -19,9 +19,11 @@ use Rattle.tree_nodes.specs.Nodes.{NodeRow, low_behind, IsUpTo}
 use Rattle.tree_nodes.specs.Levels.{row_of, AreParts}
 use Rattle.log_trees.specs.Images.{NamedLsn, slots_shown, node_at}
 use Rattle.log_trees.specs.Building.{child_shown}
-use Rattle.log_trees.specs.Sound.{is_below, is_within, AreUp, Child, children, Home, at_home, IsTreeAt}
+use Rattle.log_trees.specs.Bounds.{is_below, is_within, Child, children}
+use Rattle.log_trees.specs.Sound.{AreUp, Home, at_home, IsTreeAt}
 use Rattle.log_trees.proofs.Bounds.{less_of, within_parts, within_from, not_below_itself, low_turned, within_next, none_below_least}
-use Rattle.log_trees.proofs.Shown.{node_within, right_children}
+use Rattle.log_trees.proofs.Cut.{side_by_side, cut_slots, children_cut, cut_within, cut_up, cut_some}
+use Rattle.log_trees.proofs.Shown.{child_slots_of, right_children}
 use Rattle.log_meaning.specs.ReadNodes.{is_delta}
 use Rattle.db_tree.specs.Images.{Placed}
 use Rattle.db_tree.specs.Loading.{loaded_by, loaded_in}
@@ -58,7 +60,7 @@ number_read n m at false e = ap (λ (l : LoadedNode). l.number) e
 
 -- ---- names within the bounds of children
 
-find_child : (Q : Child → Type 0) (q low : Name) (high : Option Name) (s : NamedLsn) (slots : List NamedLsn) → AllByRecursion Q (children low high (s ∷ slots)) → is_within low high q ≡ true →
+find_child : (Q : Child → Type 0) (q low : Name) (high : Option Name) (s : NamedLsn) (slots : List NamedLsn) → AllByRecursion Q (side_by_side low high (s ∷ slots)) → is_within low high q ≡ true →
     (c : Child) × Q c × (is_within c.low c.high q ≡ true)
 find_child Q q low high s [] all inside = (record { low = low; high = high; at = s.1 }, all.0, inside)
 find_child Q q low high s (t ∷ slots) all inside = by_test (is_lt (name_cmp q t.0)) refl (λ in_next. find_child Q q t.0 high t slots all.1 in_next)
@@ -97,13 +99,13 @@ module _ (es : Placed) (keeps : Bool) (most : ℕ) (home : ℕ → Home) (d : �
   bound_below k None h = h
   bound_below k (Some n) h = parts.nested k n h
 
-  first_there : (k : ℕ) (low : Name) (high : Option Name) (s : NamedLsn) (slots : List NamedLsn) → AllByRecursion (λ (c : Child). ShowsNodes es keeps most nodes k c.low c.high c.at) (children low high (s ∷ slots)) → IsSome (value_at low (row_of rows k))
+  first_there : (k : ℕ) (low : Name) (high : Option Name) (s : NamedLsn) (slots : List NamedLsn) → AllByRecursion (λ (c : Child). ShowsNodes es keeps most nodes k c.low c.high c.at) (side_by_side low high (s ∷ slots)) → IsSome (value_at low (row_of rows k))
   first_there k low high s [] all = low_there k low high s.1 all.0
   first_there k low high s (t ∷ slots) all = low_there k low (Some t.0) s.1 all.0
 
   all_found : (k : ℕ) (low : Name) (high : Option Name) (slots : List NamedLsn) → is_below low high ≡ true → IsBound k high → AllByRecursion (λ s. is_within low high s.0 ≡ true) slots → AreUp slots →
-      AllByRecursion (λ (c : Child). ShowsNodes es keeps most nodes k c.low c.high c.at) (children low high slots) → AllByRecursion (λ (c : Child). IsTreeAt es (at_home home d) d k c.low c.high c.at) (children low high slots) →
-      AllByRecursion (λ (c : Child). IsFound k c.low c.high c.at) (children low high slots)
+      AllByRecursion (λ (c : Child). ShowsNodes es keeps most nodes k c.low c.high c.at) (side_by_side low high slots) → AllByRecursion (λ (c : Child). IsTreeAt es (at_home home d) d k c.low c.high c.at) (side_by_side low high slots) →
+      AllByRecursion (λ (c : Child). IsFound k c.low c.high c.at) (side_by_side low high slots)
   all_found k low high [] below bound within up shown trees = tt
   all_found k low high (s ∷ []) below bound within up shown trees = (record { shown = shown.0; tree = trees.0; below = below; bound = bound }, tt)
   all_found k low high (s ∷ t ∷ slots) below bound within up shown trees =
@@ -113,23 +115,25 @@ module _ (es : Placed) (keeps : Bool) (most : ℕ) (home : ℕ → Home) (d : �
         all_found k t.0 high (t ∷ slots) bounds.1 bound (within_next low high t slots within.1 up.1) up.1 shown.1 trees.1,
       )
 
-  -- the children of a node that was found
-  pub children_found : (k : ℕ) (low : Name) (high : Option Name) (at : ℕ) (f : IsFound (suc k) low high at) → AllByRecursion (λ (c : Child). IsFound k c.low c.high c.at) (children low high (slots_shown f.tree.node))
+  -- the children of a node that was found, side by side
+  pub children_found : (k : ℕ) (low : Name) (high : Option Name) (at : ℕ) (f : IsFound (suc k) low high at) →
+      AllByRecursion (λ (c : Child). IsFound k c.low c.high c.at) (side_by_side low high (child_slots_of low high f.tree.node))
   children_found k low high at f =
       let is : f.shown.0 ≡ f.tree.node = same_Some f.shown.0 f.tree.node (sym f.shown.1.image ∙ f.tree.image) in
-      all_found k low high (slots_shown f.tree.node) f.below (bound_below k high f.bound) (node_within low high f.tree.node f.tree.within) f.tree.up
-      (subst (λ (n : Shown). AllByRecursion (λ (c : Child). ShowsNodes es keeps most nodes k c.low c.high c.at) (children low high (slots_shown n))) is f.shown.2)
+      all_found k low high (child_slots_of low high f.tree.node) f.below (bound_below k high f.bound) (cut_within low high (slots_shown f.tree.node) f.below f.tree.up) (cut_up low high (slots_shown f.tree.node) f.tree.up)
+      (subst (AllByRecursion (λ (c : Child). ShowsNodes es keeps most nodes k c.low c.high c.at)) (children_cut low high (slots_shown f.tree.node) f.tree.up)
+      (subst (λ (n : Shown). AllByRecursion (λ (c : Child). ShowsNodes es keeps most nodes k c.low c.high c.at) (children low high (slots_shown n))) is f.shown.2))
       (right_children es (at_home home d) d k low high at f.tree)
 
   -- an IN has a child
-  some_child : (k : ℕ) (low : Name) (high : Option Name) (at : ℕ) (f : IsFound (suc k) low high at) → (s : NamedLsn) × (slots : List NamedLsn) × (slots_shown f.tree.node ≡ s ∷ slots)
+  some_child : (k : ℕ) (low : Name) (high : Option Name) (at : ℕ) (f : IsFound (suc k) low high at) → (s : NamedLsn) × (slots : List NamedLsn) × (child_slots_of low high f.tree.node ≡ s ∷ slots)
   some_child k low high at f =
       let e : IsInEntry es at (suc (suc k)) f.tree.node = in_entry es at k f.tree.node entries f.tree.image f.tree.level_is in
       by_slots e.slots e.entry.4 (in_shown es at (suc (suc k)) f.tree.node e)
     where
-      by_slots : (slots : List ChildSlot) → 0 < length slots → slots_shown f.tree.node ≡ map child_shown slots → (s : NamedLsn) × (rest : List NamedLsn) × (slots_shown f.tree.node ≡ s ∷ rest)
+      by_slots : (slots : List ChildSlot) → 0 < length slots → slots_shown f.tree.node ≡ map child_shown slots → (s : NamedLsn) × (rest : List NamedLsn) × (child_slots_of low high f.tree.node ≡ s ∷ rest)
       by_slots [] some is = absurd (omega (arith, some))
-      by_slots (s ∷ slots) some is = (child_shown s, map child_shown slots, is)
+      by_slots (s ∷ slots) some is = let left = cut_some low high (child_shown s) (map child_shown slots) in (left.0, left.1, ap (cut_slots low high) is ∙ left.2)
 
   -- a node of a level with a low within the bounds of one that was found
   abbrev Finds : ℕ → Name → Type 0
@@ -146,7 +150,7 @@ module _ (es : Placed) (keeps : Bool) (most : ℕ) (home : ℕ → Home) (d : �
   descend (suc k) low high at j q f le some inside =
       let slot = some_child k low high at f in
       let found = find_child (λ (c : Child). IsFound k c.low c.high c.at) q low high slot.0 slot.1
-      (subst (λ (l : List NamedLsn). AllByRecursion (λ (c : Child). IsFound k c.low c.high c.at) (children low high l)) slot.2 (children_found k low high at f)) inside in
+      (subst (λ (l : List NamedLsn). AllByRecursion (λ (c : Child). IsFound k c.low c.high c.at) (side_by_side low high l)) slot.2 (children_found k low high at f)) inside in
       by_order (cases_order j (suc k)) (λ below. descend k found.0.low found.0.high found.0.at j q found.1 below some found.2)
     where
       by_order : (j ≡ suc k) ⊎ ((j < suc k) ⊎ (suc k < j)) → (j ≤ k → Finds j q) → Finds j q
@@ -242,7 +246,8 @@ module _ (es : Placed) (keeps : Bool) (most : ℕ) (home : ℕ → Home) (d : �
           own = (is_own last le (suc k) low high at n f there).own;
           sound = sound es keeps most home last d entries whole le (suc k) low high at nodes f.shown f.tree;
           below = subst (λ (l : List NamedLsn). AllByRecursion (IsChildNode (row_of rows k)) (children low high l)) (slots_of_sound es keeps most home last d entries whole le k low high at nodes f.shown f.tree)
-              (all_weaker (λ (c : Child). IsFound k c.low c.high c.at) (IsChildNode (row_of rows k)) (child_node k) (children low high (slots_shown f.tree.node)) (children_found k low high at f));
+              (subst (AllByRecursion (IsChildNode (row_of rows k))) (sym (children_cut low high (slots_shown f.tree.node) f.tree.up))
+              (all_weaker (λ (c : Child). IsFound k c.low c.high c.at) (IsChildNode (row_of rows k)) (child_node k) (side_by_side low high (child_slots_of low high f.tree.node)) (children_found k low high at f)));
         }
 
     pub as_read : (k : ℕ) (low : Name) (high : Option Name) (at : ℕ) (n : Node) → IsFound k low high at → value_at low (row_of rows k) ≡ Some n → IsAsRead es home last d rows k low n

@@ -21,6 +21,7 @@ use Rattle.log_trees.specs.Changes.{Written, unwritten, last_of}
 use Rattle.log_trees.specs.Images.{level_of, level_at}
 use Rattle.log_trees.specs.Trees.{shows_by_level, tree_shows, written_at, rows_of_roots, root_of}
 use Rattle.log_trees.specs.Sound.{Home, IsTreeAt, at_home, IsRootAt}
+use Rattle.log_trees.proofs.Bounds.{within_from, none_below_least}
 use Rattle.log_trees.proofs.Rooted.{roots_show_rows}
 use Rattle.log_trees.specs.Walk.{read_roots}
 use Rattle.log_trees.proofs.LongerLogs.{readings_stay}
@@ -145,7 +146,7 @@ module _ (es : Placed) (base at : ℕ) (home : ℕ → Home) (last redo : ℕ) (
   root_shows : (d : ℕ) (tree : DbTree) (image : ℕ) (x : Name) → trees d ≡ Some tree → root_image tree ≡ Some image → tree_shows es image x ≡ shows es (top_of tree) image x
   root_shows d tree image x is named =
       ap (λ (l : ℕ). shows_by_level es l image x) (tree_level d (top_of tree) image least None (root_is d tree image is named))
-      ∙ images_show es home last d (top_of tree) least None image x (root_sound d tree image is named)
+      ∙ images_show es home last d (top_of tree) least None image x (root_sound d tree image is named) (within_from least None x (none_below_least x) refl)
 
   -- the data that is committed under a name stands where its cell says
   held_data : (d : ℕ) (x : Name) (cells : List (Name × Cell)) → AreRecorded es d cells → (written_at es d x (held_by cells x)).value ≡ data_under (value_at x cells)

@@ -1,5 +1,5 @@
 -- What holds of all trees that fit a log.
-use Rattle.std.specs.Prelude.{◌≡◌, ◌≤◌, ◌<◌, ℕ, List, [], ◌∷◌, ◌++◌, Bool, Option, Some, IfSome, Box, if◌then◌else◌}
+use Rattle.std.specs.Prelude.{◌≡◌, ◌≤◌, ◌<◌, ℕ, true, List, [], ◌∷◌, ◌++◌, Bool, Option, Some, IfSome, Box, if◌then◌else◌}
 use Rattle.std.specs.List.{AllByRecursion}
 use Rattle.std.specs.Ordering.{is_eq}
 use Rattle.std.specs.Global.{Global}
@@ -15,6 +15,7 @@ use Rattle.log_trees.specs.Trees.{data_of}
 use Rattle.tree_nodes.specs.Nodes.{NodeRow}
 use Rattle.log_trees.specs.Changes.{unwritten, last_of}
 use Rattle.log_trees.specs.Trees.{rows_of_roots, shows as shows_slot}
+use Rattle.log_trees.specs.Bounds.{is_within}
 use Rattle.log_trees.specs.Sound.{IsTreeAt, Home, at_home, IsRootAt}
 use Rattle.log_meaning.specs.Stands.{Covered}
 use Rattle.log_meaning.specs.Recovery.{AreRootsRead}
@@ -34,14 +35,14 @@ abbrev pub SoundImagesAreTrees : Type 0
 SoundImagesAreTrees = (es : Placed) (home : ℕ → Home) (last d level : ℕ) (low : Name) (high : Option Name) (at : ℕ) → IsSoundImage es home last d level low high at →
     IsTreeAt es (at_home home d) d level low high at
 
--- which shows of each name what the tree takes it to show
+-- which shows of each name within its bounds what the tree takes it to show
 abbrev pub SoundImagesShow : Type 0
-SoundImagesShow = (es : Placed) (home : ℕ → Home) (last d level : ℕ) (low : Name) (high : Option Name) (at : ℕ) (x : Name) → IsSoundImage es home last d level low high at →
+SoundImagesShow = (es : Placed) (home : ℕ → Home) (last d level : ℕ) (low : Name) (high : Option Name) (at : ℕ) (x : Name) → IsSoundImage es home last d level low high at → is_within low high x ≡ true →
     shows_slot es level at x ≡ shows es level at x
 
--- the images that are read for a name are there
+-- the images that are read for a name within the bounds are there
 abbrev pub SoundImagesAreRead : Type 0
-SoundImagesAreRead = (es : Placed) (home : ℕ → Home) (last d level : ℕ) (low : Name) (high : Option Name) (at : ℕ) (x : Name) → IsSoundImage es home last d level low high at → IsRead es level at x
+SoundImagesAreRead = (es : Placed) (home : ℕ → Home) (last d level : ℕ) (low : Name) (high : Option Name) (at : ℕ) (x : Name) → IsSoundImage es home last d level low high at → is_within low high x ≡ true → IsRead es level at x
 
 -- a home and another one agree on the numbers that were allocated
 abbrev pub AgreesUpTo : ℕ → (ℕ → Home) → (ℕ → Home) → Type 0

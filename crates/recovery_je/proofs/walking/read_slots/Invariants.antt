@@ -1,6 +1,7 @@
-use Rattle.std.proofs.Common.{ℕ, IsSome, map, drop}
+use Rattle.std.proofs.Common.{ℕ, IsSome, map, drop, option_copied}
 use Rattle.std.specs.List.{flat_map}
 use Rattle.log_trees.specs.Images.{slot_shown}
+use Rattle.log_trees.specs.Bounds.{slots_inside}
 use Rattle.log_trees.specs.Walk.{Walk, read_record}
 use Rattle.je_order.specs.declared.name.Name.{Name}
 use Rattle.recovery_je.specs.Putting.{HasPut, none_put}
@@ -12,7 +13,7 @@ abbrev pub invariant-loop-marked : goal.invariant-loop-marked
 invariant-loop-marked g l = record {
   walk :
       (walk : Walk) → IsWalking (g.T.Loads.stored l.initial.walking.trees) l.initial.walking.seen.keys l.initial.walking.node l.initial.walking.db walk →
-      IsWalkingOn (read_record (map (λ f. f.0) l.files) l.entries l.d l.at) (flat_map slot_shown l.slots) (flat_map slot_shown (drop l.marked-index l.slots))
+      IsWalkingOn (read_record (map (λ f. f.0) l.files) l.entries l.d l.at) (slots_inside l.low (option_copied l.high) (flat_map slot_shown l.slots)) (slots_inside l.low (option_copied l.high) (flat_map slot_shown (drop l.marked-index l.slots)))
       (IsWalking (g.T.Loads.stored l.walking.trees) l.walking.seen.keys l.walking.node l.walking.db) walk;
   nodes : (k : ℕ) (x : Name) → IsSome (g.T.Loads.nodes l.initial.walking.trees l.d k x) → HasPut g.T.Loads.nodes none_put l.initial.walking l.walking;
 }
