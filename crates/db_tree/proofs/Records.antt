@@ -1,5 +1,6 @@
 -- Changes of a tree's records keep that it fits its log.
 use Rattle.std.proofs.Common.{◌≡◌, ◌<◌, ◌≤◌, ◌⊎◌, ℕ, List, Bool, true, false, cond, Option, None, Some, IsSome, option_map, refl, ap, sym, subst, ◌∙◌, inl, inr, arith, is_eq}
+use Rattle.std.proofs.lemmas.Bool.{true≢false}
 use Rattle.std.proofs.lemmas.Option.{same_Some}
 use Rattle.je_order.specs.Order.{name_cmp}
 use Rattle.je_order.specs.declared.name.Name.{Name}
@@ -14,6 +15,7 @@ use Rattle.tree_nodes.specs.Nodes.{NodeRow, IsUpTo, IsOver, earlier, marked}
 use Rattle.tree_nodes.specs.Levels.{row_of, HasMarkedAt, HasPutAt}
 use Rattle.db_tree.specs.Images.{Placed}
 use Rattle.db_tree.specs.Content.{held_by, lsn_of, lsn_under}
+use Rattle.db_tree.specs.Stored.{with_logged, version_logged}
 use Rattle.db_tree.specs.Trees.{IsTreeOf, IsBehind, IsMark, IsTree, HasCell, cell_or_fresh, given_up}
 use Rattle.db_tree.proofs.Order.{same_up}
 use Rattle.db_tree.proofs.Over.{over_low, over_once}
@@ -122,6 +124,18 @@ kept_cell cells name cell there x = by_name (same_or_other name x)
         subst (λ (y : Name). value_at y cells ≡ cond (is_eq (name_cmp name y)) (Some (cell_or_fresh (value_at name cells))) (value_at y cells)) same
         (sym here ∙ sym (same_gets name (Some (cell_or_fresh (value_at name cells))) (value_at name cells)))
     by_name (inr apart) = sym (other_stays name x (Some (cell_or_fresh (value_at name cells))) (value_at x cells) apart)
+
+pub there_cell : (cells : List (Name × Cell)) (name : Name) → IsSome (value_at name cells) → HasCell cells cells name (cell_or_fresh (value_at name cells))
+there_cell cells name some = by_value (value_at name cells) refl some
+  where
+    by_value : (o : Option Cell) → value_at name cells ≡ o → IsSome o → HasCell cells cells name (cell_or_fresh (value_at name cells))
+    by_value None is some = absurd (true≢false (sym some))
+    by_value (Some cell) is some = kept_cell cells name cell is
+
+-- what is committed of a cell that was logged
+pub logged_version : (value : Option (List ℕ)) (at commit : ℕ) (last : Option ℕ) (cell : Cell) → (with_logged value at commit last cell).version ≡ version_logged at value
+logged_version None at commit last cell = refl
+logged_version (Some value) at commit last cell = refl
 
 pub cell_there : (old new : List (Name × Cell)) (name : Name) (cell : Cell) → HasCell old new name cell → value_at name new ≡ Some cell
 cell_there old new name cell has = has name ∙ same_gets name (Some cell) (value_at name old)

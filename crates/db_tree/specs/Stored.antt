@@ -47,3 +47,14 @@ pub record HasLogged (old new : List (Name × Cell)) (name : Name) (value : Opti
   pub commit : ℕ
   pub last : Option ℕ
   pub cell : HasCell old new name (with_logged value lsn commit last (cell_or_fresh (value_at name old)))
+
+-- ---- a change that is redone
+
+-- what is committed where a change was logged at an LSN: the record there, or that it was deleted
+abbrev pub version_logged : ℕ → Option (List ℕ) → Version
+version_logged at None = Deleted
+version_logged at (Some value) = There at
+
+-- this is committed of a name already
+abbrev pub IsLoggedAlready : List (Name × Cell) → Name → ℕ → Option (List ℕ) → Type 0
+IsLoggedAlready cells name at value = (cell_or_fresh (value_at name cells)).version ≡ version_logged at value

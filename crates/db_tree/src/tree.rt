@@ -13,7 +13,7 @@ ghost use Rattle.db_tree.specs.Content.{slot_for, record_slots, bin_image};
 ghost use Rattle.db_tree.specs.Trees.{IsTree, HasCell, cell_or_fresh, given_up};
 ghost use Rattle.db_tree.specs.Seen.{occupied, seen, with_change, with_value};
 ghost use Rattle.db_tree.specs.Stored.{with_logged};
-ghost use Rattle.db_tree.specs.Stored.{HasLogged, loaded_cell};
+ghost use Rattle.db_tree.specs.Stored.{HasLogged, loaded_cell, version_logged, IsLoggedAlready};
 ghost use Rattle.record_tree.specs.Occupied.{after_commit, after_abort};
 ghost use Rattle.db_tree.specs.NodeSteps.{AreSameNodes, IsMarkedFrom, IsOneNode, written_lsn};
 ghost use Rattle.std.specs.Map.{set_value};
@@ -76,6 +76,29 @@ fn behind(last: &Option<Lsn>, at: Lsn) -> Lsn {
     match last {
         Some(image) if *image >= at => Lsn::from_u64(image.as_u64().saturating_add(1)),
         _ => at,
+    }
+}
+
+// What is committed where a change was logged at `at`: the record there, or that it was deleted.
+fn version_logged(value: &Option<Octets>, at: Lsn) -> Version
+    ensures { result ≡ version_logged at value.now }
+{
+    match value {
+        Some(_) => Version::There(at),
+        None => Version::Deleted,
+    }
+}
+
+// Whether two versions are the same.
+fn is_same(a: Version, b: Version) -> bool
+    ensures yes { result ≡ true → a ≡ b }
+    ensures no { a ≡ b → result ≡ true }
+{
+    match (a, b) {
+        (Version::There(a), Version::There(b)) => a == b,
+        (Version::Deleted, Version::Deleted) => true,
+        (Version::Unset, Version::Unset) => true,
+        _ => false,
     }
 }
 
@@ -226,9 +249,44 @@ impl DbTree {
         let _after = self.cells.len();
     }
 
-    /// Sets what is committed of the name: the record that was logged at `at`, or none. Its BIN is marked: the
-    /// log has the change from `first` on, and the BIN's last image lacks it. Running out of memory changes nothing.
-    pub fn redo(
+    // Whether what was logged at `at` is committed of the name already.
+    fn has_logged(&self, name: &SortKey, value: &Option<Octets>, at: Lsn) -> bool
+        ensures yes { result ≡ true → IsLoggedAlready self.now.cells name.now at value.now }
+        ensures no { IsLoggedAlready self.now.cells name.now at value.now → result ≡ true }
+        ensures there { result ≡ true → IsSome (value_at name.now self.now.cells) }
+    {
+        match self.cells.get(name) {
+            Some(cell) => is_same(cell.version, version_logged(value, at)),
+            None => false,
+        }
+    }
+
+    // The LSN of the Commit that gave the name what is committed of it.
+    fn touched(&self, name: &SortKey) -> Lsn {
+        match self.cells.get(name) {
+            Some(cell) => cell.touched,
+            None => Lsn::from_u64(0),
+        }
+    }
+
+    // Sets what is committed of the name where it is committed already. No node is marked: what its image lacks, it lacked before.
+    fn redo_again(&mut self, name: &SortKey, value: Option<Octets>, at: Lsn)
+        requires there { IsSome (value_at name.now self.old.cells) }
+        requires already { IsLoggedAlready self.old.cells name.now at value }
+        ensures cells { (x : Name) → value_at x (occupied self.new.cells) ≡ (if is_eq (name_cmp name.now x) then with_value value (value_at x (occupied self.old.cells)) else value_at x (occupied self.old.cells)) }
+        ensures logged { HasLogged self.old.cells self.new.cells name.now value at }
+        ensures rising { IsRising self.new.cells }
+        ensures levels { self.new.levels ≡ self.old.levels }
+        ensures tree { (es : Placed) (base : ℕ) (newest : Name → ℕ) → IsTree es base newest self.old.levels self.old.cells → IsTree es base newest self.new.levels self.new.cells }
+    {
+        let _before = self.cells.len();
+        let commit = self.touched(name);
+        set_logged(&mut self.cells, name, value, at, commit, &None);
+    }
+
+    // Sets what is committed of the name: the record that was logged at `at`, or none. Its BIN is marked: the
+    // log has the change from `first` on, and the BIN's last image lacks it. Running out of memory changes nothing.
+    fn redo_first(
         &mut self,
         alloc: Global,
         name: &SortKey,
@@ -255,6 +313,35 @@ impl DbTree {
         let commit = behind(&last, at);
         set_logged(&mut self.cells, name, value, at, commit, &last);
         Ok(())
+    }
+
+    /// Sets what is committed of the name: the record that was logged at `at`, or none. Its BIN is marked, unless this is committed
+    /// already: the log has the change from `first` on, and the BIN's last image lacks it. Running out of memory changes nothing.
+    pub fn redo(
+        &mut self,
+        alloc: Global,
+        name: &SortKey,
+        value: Option<Octets>,
+        first: Lsn,
+        at: Lsn,
+    ) -> Result<(), AllocError>
+        ensures cells { OnOk result ((x : Name) → value_at x (occupied self.new.cells) ≡ (if is_eq (name_cmp name.now x) then with_value value (value_at x (occupied self.old.cells)) else value_at x (occupied self.old.cells))) }
+        ensures logged { OnOk result (HasLogged self.old.cells self.new.cells name.now value at) }
+        ensures was_rising { IsRising self.old.cells }
+        ensures rising { IsRising self.new.cells }
+        ensures err { OnErr result (self.new.cells ≡ self.old.cells) }
+        ensures waits { AreAlike self.old.levels self.new.levels }
+        ensures nodes { AreSameNodes self.old.levels self.new.levels }
+        ensures tree { (es : Placed) (base : ℕ) (newest : Name → ℕ) → (first ≤ newest name.now) ⊎ (first < base) → IsTree es base newest self.old.levels self.old.cells → IsTree es base newest self.new.levels self.new.cells }
+        ensures already { IsLoggedAlready self.old.cells name.now at value → OnOk result (self.new.levels ≡ self.old.levels) }
+    {
+        let _height = self.levels.height();
+        let _before = self.cells.len();
+        if self.has_logged(name, &value, at) {
+            self.redo_again(name, value, at);
+            return Ok(());
+        }
+        self.redo_first(alloc, name, value, first, at)
     }
 
     // The LSN of the name's change, where it has one.

@@ -31,6 +31,8 @@ mod phantoms;
 #[cfg(test)]
 mod range_phantoms;
 #[cfg(test)]
+mod reopened;
+#[cfg(test)]
 mod reports;
 #[cfg(test)]
 mod splitting;
