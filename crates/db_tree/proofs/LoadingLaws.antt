@@ -1,7 +1,9 @@
 -- Nodes that are put while a log is read again.
-use Rattle.std.proofs.Common.{◌≡◌, ◌<◌, ◌≤◌, ◌+◌, ◌-◌, ◌⊎◌, ℕ, zero, suc, List, [], Bool, true, false, cond, Option, None, Some, IsSome, length, refl, ap, sym, subst, ◌∙◌, inl, inr, arith, is_eq, Result, Ok, Err, OnOk}
+use Rattle.std.proofs.Common.{◌≡◌, ◌<◌, ◌≤◌, ◌+◌, ◌-◌, ◌⊎◌, ◌&&◌, ◌||◌, ◌∷◌, ◌++◌, not, ℕ, zero, suc, List, [], Bool, true, false, cond, Option, None, Some, IsSome, length, take, get_or, refl, ap, sym, subst, ◌∙◌, inl, inr, arith, is_eq, Result, Ok, Err, OnOk}
+use Rattle.std.specs.List.{list_any}
 use Rattle.std.proofs.lemmas.Bool.{cases_order, true≢false}
-use Rattle.std.proofs.lemmas.List.{get_or_past}
+use Rattle.std.proofs.lemmas.List.{get_or_past, take_more}
+use Rattle.std.proofs.lemmas.List.Folds.{list_any-append}
 use Rattle.std.proofs.lemmas.Option.{none-some}
 use Rattle.je_order.specs.Order.{name_cmp}
 use Rattle.je_order.specs.declared.name.Name.{Name}
@@ -10,9 +12,14 @@ use Rattle.record_map.proofs.NameLaws.{same_or_other}
 use Rattle.tree_nodes.specs.declared.node.Node.{Node}
 use Rattle.tree_nodes.specs.Nodes.{NodeRow, least}
 use Rattle.tree_nodes.specs.Levels.{row_of, AreParts, HasPutAt, HasRaised}
-use Rattle.db_tree.specs.Loading.{HasMore, HasLoaded}
+use Rattle.db_tree.specs.Loading.{HasMore, HasLoaded, deleted_cell, has_version, GetsDeletions}
 use Rattle.db_tree.specs.Splits.{one_if}
 use Rattle.db_tree.specs.Waiting.{is_forced, waiting_of, waits_at, count_lows}
+use Rattle.node_core.specs.declared.slot.Version.{Version}
+use Rattle.node_core.specs.declared.slot.Version.TheVariants.{Deleted}
+use Rattle.node_core.specs.declared.slot.Marked.{Marked}
+use Rattle.record_map.specs.declared.cell.Cell.{Cell}
+use Rattle.record_tree.specs.LoadedSlots.{is_deletion, shows_deletion}
 use Rattle.db_tree.proofs.NodeSteps.{IsElsewhere, place_of, put_elsewhere, put_here}
 use Rattle.db_tree.proofs.Over.{there_is}
 use Rattle.db_tree.proofs.WaitCounts.{put_few, put_net}
@@ -126,3 +133,79 @@ net_three a b c d m n waits waited first next last = omega (arith, first, next, 
 
 pub both_few : (m n : ℕ) → m ≤ 256 → n ≤ 256 → m + n + 1 ≤ 513
 both_few m n first next = omega (arith, first, next)
+
+-- ---- slots of records that were deleted
+
+or_false : (b : Bool) → (b || false) ≡ b
+or_false true = refl
+or_false false = refl
+
+pub gets_none : (at : ℕ) (cells : List (Name × Cell)) → GetsDeletions (λ x. false) at cells cells
+gets_none at cells x = refl
+
+-- some names, and then others
+pub gets_then : (s t : Name → Bool) (at : ℕ) (a b c : List (Name × Cell)) → GetsDeletions s at a b → GetsDeletions t at b c → GetsDeletions (λ x. s x || t x) at a c
+gets_then s t at a b c first next x =
+    next x
+    ∙ ap (λ (o : Option Cell). cond (t x && not (has_version o)) (Some (deleted_cell at)) o) (first x)
+    ∙ by_tests (s x) (t x) (has_version (value_at x a)) (value_at x a) refl
+  where
+    by_tests : (p q h : Bool) (o : Option Cell) → has_version o ≡ h →
+        cond (q && not (has_version (cond (p && not h) (Some (deleted_cell at)) o))) (Some (deleted_cell at)) (cond (p && not h) (Some (deleted_cell at)) o) ≡ cond ((p || q) && not h) (Some (deleted_cell at)) o
+    by_tests false q h o is = ap (λ (v : Bool). cond (q && not v) (Some (deleted_cell at)) o) is
+    by_tests true true true o is = ap (λ (v : Bool). cond (not v) (Some (deleted_cell at)) o) is
+    by_tests true false true o is = refl
+    by_tests true true false o is = refl
+    by_tests true false false o is = refl
+
+-- the names that a test finds are those that another one finds
+gets_by : (s t : Name → Bool) (at : ℕ) (a b : List (Name × Cell)) → ((x : Name) → t x ≡ s x) → GetsDeletions s at a b → GetsDeletions t at a b
+gets_by s t at a b same got x = got x ∙ sym (ap (λ (v : Bool). cond (v && not (has_version (value_at x a))) (Some (deleted_cell at)) (value_at x a)) (same x))
+
+-- one slot: that of a record that was deleted, or another one
+pub gets_one : (m : Marked) (at : ℕ) (a b : List (Name × Cell)) → m.slot.version ≡ Deleted → GetsDeletions (λ x. is_eq (name_cmp m.slot.name x)) at a b → GetsDeletions (shows_deletion (m ∷ [])) at a b
+gets_one m at a b deleted got =
+    gets_by (λ x. is_eq (name_cmp m.slot.name x)) (shows_deletion (m ∷ [])) at a b
+    (λ x. ap (λ (v : Version). (is_deletion v && is_eq (name_cmp m.slot.name x)) || false) deleted ∙ or_false (is_eq (name_cmp m.slot.name x))) got
+
+pub gets_no : (m : Marked) (at : ℕ) (a : List (Name × Cell)) → is_deletion m.slot.version ≡ false → GetsDeletions (shows_deletion (m ∷ [])) at a a
+gets_no m at a other = gets_by (λ x. false) (shows_deletion (m ∷ [])) at a a (λ x. ap (λ (v : Bool). (v && is_eq (name_cmp m.slot.name x)) || false) other) (gets_none at a)
+
+-- a slot more
+pub gets_next : (slots : List Marked) (i : ℕ) (m : Marked) (at : ℕ) (a b c : List (Name × Cell)) → i < length slots → m ≡ get_or slots i m → GetsDeletions (shows_deletion (take i slots)) at a b →
+    GetsDeletions (shows_deletion (m ∷ [])) at b c → GetsDeletions (shows_deletion (take (i + 1) slots)) at a c
+gets_next slots i m at a b c within is first next =
+    gets_by (λ x. shows_deletion (take i slots) x || shows_deletion (m ∷ []) x) (shows_deletion (take (i + 1) slots)) at a c all
+    (gets_then (shows_deletion (take i slots)) (shows_deletion (m ∷ [])) at a b c first next)
+  where
+    all : (x : Name) → shows_deletion (take (i + 1) slots) x ≡ (shows_deletion (take i slots) x || shows_deletion (m ∷ []) x)
+    all x =
+        ap (λ (l : List Marked). shows_deletion l x) (take_more slots i m within ∙ ap (λ (y : Marked). take i slots ++ y ∷ []) (sym is))
+        ∙ list_any-append (λ (y : Marked). is_deletion y.slot.version && is_eq (name_cmp y.slot.name x)) (take i slots) (m ∷ [])
+
+-- a name that has a slot, and one that has none
+pub gets_had : (name : Name) (at : ℕ) (cells : List (Name × Cell)) → has_version (value_at name cells) ≡ true → GetsDeletions (λ x. is_eq (name_cmp name x)) at cells cells
+gets_had name at cells had x = by_name (same_or_other name x)
+  where
+    by_test : (t : Bool) (o : Option Cell) → has_version o ≡ true → o ≡ cond (t && not (has_version o)) (Some (deleted_cell at)) o
+    by_test false o is = refl
+    by_test true o is = sym (ap (λ (v : Bool). cond (not v) (Some (deleted_cell at)) o) is)
+
+    by_name : (name ≡ x) ⊎ (is_eq (name_cmp name x) ≡ false) → value_at x cells ≡ cond (is_eq (name_cmp name x) && not (has_version (value_at x cells))) (Some (deleted_cell at)) (value_at x cells)
+    by_name (inl same) = by_test (is_eq (name_cmp name x)) (value_at x cells) (subst (λ (y : Name). has_version (value_at y cells) ≡ true) same had)
+    by_name (inr apart) = sym (ap (λ (t : Bool). cond (t && not (has_version (value_at x cells))) (Some (deleted_cell at)) (value_at x cells)) apart)
+
+pub gets_put : (name : Name) (at : ℕ) (cell : Cell) (a b : List (Name × Cell)) → cell ≡ deleted_cell at → has_version (value_at name a) ≡ false →
+    ((x : Name) → value_at x b ≡ cond (is_eq (name_cmp name x)) (Some cell) (value_at x a)) → GetsDeletions (λ x. is_eq (name_cmp name x)) at a b
+gets_put name at cell a b is none put x = put x ∙ ap (λ (c : Cell). cond (is_eq (name_cmp name x)) (Some c) (value_at x a)) is ∙ by_name (same_or_other name x)
+  where
+    by_test : (t : Bool) (o : Option Cell) → has_version o ≡ false → cond t (Some (deleted_cell at)) o ≡ cond (t && not (has_version o)) (Some (deleted_cell at)) o
+    by_test false o away = refl
+    by_test true o away = sym (ap (λ (v : Bool). cond (not v) (Some (deleted_cell at)) o) away)
+
+    by_name : (name ≡ x) ⊎ (is_eq (name_cmp name x) ≡ false) →
+        cond (is_eq (name_cmp name x)) (Some (deleted_cell at)) (value_at x a) ≡ cond (is_eq (name_cmp name x) && not (has_version (value_at x a))) (Some (deleted_cell at)) (value_at x a)
+    by_name (inl same) = by_test (is_eq (name_cmp name x)) (value_at x a) (subst (λ (y : Name). has_version (value_at y a) ≡ false) same none)
+    by_name (inr apart) =
+        ap (λ (t : Bool). cond t (Some (deleted_cell at)) (value_at x a)) apart
+        ∙ sym (ap (λ (t : Bool). cond (t && not (has_version (value_at x a))) (Some (deleted_cell at)) (value_at x a)) apart)

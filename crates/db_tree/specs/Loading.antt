@@ -1,6 +1,9 @@
--- Nodes that are put while a log is read again.
-use Rattle.std.specs.Prelude.{◌≡◌, ◌≤◌, ◌⊎◌, ℕ, List, Option, Some, IsSome, option_map}
+-- Nodes that are put while a log is read again, and the slots of records that were deleted.
+use Rattle.std.specs.Prelude.{◌≡◌, ◌≤◌, ◌⊎◌, ◌&&◌, not, ℕ, Bool, false, List, [], Option, None, Some, IsSome, option_map, if◌then◌else◌}
 use Rattle.je_order.specs.declared.name.Name.{Name}
+use Rattle.node_core.specs.Changes.{is_committed}
+use Rattle.node_core.specs.declared.slot.Version.TheVariants.{Deleted}
+use Rattle.record_map.specs.declared.cell.Cell.{Cell}
 use Rattle.record_map.specs.Cells.{value_at}
 use Rattle.record_tree.specs.LoadedNodes.{LoadedNode}
 use Rattle.tree_nodes.specs.declared.node.Node.{Node}
@@ -32,3 +35,18 @@ pub record IsLoaded (old new : List NodeRow) (level : ℕ) (low : Name) (as_read
   pub node : Node
   pub is : loaded_by node ≡ as_read
   pub put : HasLoaded old new level low node
+
+-- ---- slots of records that were deleted
+
+-- whether the next image of its BIN has a slot of a cell's name
+abbrev pub has_version : Option Cell → Bool
+has_version None = false
+has_version (Some cell) = is_committed cell.version
+
+-- the cell of a record that was deleted, as the image of its BIN at an LSN shows it
+abbrev pub deleted_cell : ℕ → Cell
+deleted_cell at = record { version = Deleted; shown = Deleted; touched = at; «data» = []; write = None }
+
+-- of the names that a test finds, each that has no slot got that cell; all else is as before
+abbrev pub GetsDeletions : (Name → Bool) → ℕ → List (Name × Cell) → List (Name × Cell) → Type 0
+GetsDeletions shown at old new = (x : Name) → value_at x new ≡ (if shown x && not (has_version (value_at x old)) then Some (deleted_cell at) else value_at x old)

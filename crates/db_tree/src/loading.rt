@@ -1,10 +1,13 @@
 // Records and nodes that a log has are put into a tree.
-ghost use Rattle.std.specs.Prelude.{◌≡◌, ◌<◌, ◌≤◌, ◌+◌, ◌-◌, ℕ, suc, length, OnOk, OnErr, IsSome, IfOk};
+ghost use Rattle.std.specs.Prelude.{◌≡◌, ◌<◌, ◌≤◌, ◌+◌, ◌-◌, ◌∷◌, [], Bool, ℕ, suc, length, OnOk, OnErr, IsSome, IfOk};
+ghost use Rattle.std.specs.Ordering.{is_eq};
+ghost use Rattle.je_order.specs.Order.{name_cmp};
 ghost use Rattle.je_order.specs.declared.name.Name.{Name};
 ghost use Rattle.record_map.specs.Cells.{value_at, IsRising};
 ghost use Rattle.tree_nodes.specs.Levels.{row_of};
 ghost use Rattle.record_tree.specs.LoadedNodes.{node_read};
-ghost use Rattle.db_tree.specs.Loading.{loaded_by, HasMore, HasLoaded, IsLoaded};
+ghost use Rattle.record_tree.specs.LoadedSlots.{shows_deletion};
+ghost use Rattle.db_tree.specs.Loading.{deleted_cell, has_version, loaded_by, GetsDeletions, HasMore, HasLoaded, IsLoaded};
 ghost use Rattle.db_tree.specs.Trees.{HasCell};
 ghost use Rattle.db_tree.specs.Stored.{loaded_cell};
 ghost use Rattle.db_tree.specs.Shapes.{count_in};
@@ -13,8 +16,9 @@ ghost use Rattle.db_tree.specs.Waiting.{waiting_of, count_lows, waits_at};
 
 use crate::{DbTree, NewWaits};
 use je_lsn::Lsn;
+use je_order::{Name as Key, copy_of};
 use node_core::{Marked, Node as Image, Version};
-use record_map::{Cell, Data, SortKey};
+use record_map::{Cell, Cells, Data, SortKey};
 use std::alloc::{AllocError, Global};
 use tree_nodes::{Levels, Node};
 
@@ -31,15 +35,78 @@ fn loaded_cell(alloc: Global, at: Lsn, value: &[u8]) -> Result<Cell, AllocError>
     })
 }
 
-// How many of the slots name a record or a child.
-fn count_there(slots: &[Marked]) -> u32
+// The cell of a record that was deleted, as the image at `at` shows it.
+fn deleted_cell(at: Lsn) -> Cell
+    ensures { result ≡ deleted_cell at }
+{
+    Cell {
+        version: Version::Deleted,
+        shown: Version::Deleted,
+        touched: at,
+        data: Data::empty(),
+        write: None,
+    }
+}
+
+// Whether the name has a slot that an image shows.
+fn has_version(cells: &Cells, name: &SortKey) -> bool
+    ensures { result ≡ has_version (value_at name.now cells.now) }
+{
+    match cells.get(name) {
+        Some(cell) => cell.version.is_committed(),
+        None => false,
+    }
+}
+
+// Puts the slot of a name whose record was deleted, where it has none. Running out of memory changes nothing.
+fn put_deletion(cells: &mut Cells, alloc: Global, name: &Key, at: Lsn) -> Result<(), AllocError>
+    ensures got { OnOk result (GetsDeletions (λ x. is_eq (name_cmp name.now x)) at cells.old cells.new) }
+    ensures err { OnErr result (cells.new ≡ cells.old) }
+{
+    let copy = copy_of(name)?;
+    let name = SortKey::new(alloc, copy)?;
+    if has_version(cells, &name) {
+        drop(name);
+        return Ok(());
+    }
+    cells.insert(name, deleted_cell(at))
+}
+
+// Puts the slot, if it is that of a record that was deleted.
+fn put_slot(cells: &mut Cells, alloc: Global, marked: &Marked, at: Lsn) -> Result<(), AllocError>
+    ensures got { OnOk result (GetsDeletions (shows_deletion (marked.now ∷ [])) at cells.old cells.new) }
+    ensures err { OnErr result (cells.new ≡ cells.old) }
+{
+    match marked.slot.version {
+        Version::Deleted => put_deletion(cells, alloc, &marked.slot.name, at),
+        Version::There(_) | Version::Unset => Ok(()),
+    }
+}
+
+// Puts those of the slots that are of records that were deleted.
+fn put_deletions(
+    cells: &mut Cells,
+    alloc: Global,
+    slots: &[Marked],
+    at: Lsn,
+) -> Result<(), AllocError>
+    ensures got { OnOk result (GetsDeletions (shows_deletion slots.now) at cells.old cells.new) }
+    ensures some { (shown : Name → Bool) × GetsDeletions shown at cells.old cells.new }
+{
+    for marked in slots {
+        put_slot(cells, alloc, marked, at)?;
+    }
+    Ok(())
+}
+
+// How many of the slots an image shows.
+fn count_shown(slots: &[Marked]) -> u32
     requires { length slots.now ≤ 128 }
 {
     let mut count = 0;
     for marked in slots {
-        match marked.slot.version {
-            Version::There(_) => count += 1,
-            Version::Deleted | Version::Unset => {}
+        if marked.slot.version.is_committed() {
+            count += 1;
         }
     }
     count
@@ -49,7 +116,7 @@ fn count_there(slots: &[Marked]) -> u32
 fn shown_node(image: &Image, at: Lsn, keeps: bool) -> Node
     ensures { loaded_by result ≡ node_read image.now.number at keeps }
 {
-    let slots = count_there(image.slots.as_slice());
+    let slots = count_shown(image.slots.as_slice());
     if keeps {
         return Node {
             number: image.number,
@@ -208,7 +275,8 @@ fn put_node(
 }
 
 impl DbTree {
-    /// Puts a node as its image at `at` shows it. No name in it is below the low. Where that image is not to be kept as its last one, the
+    /// Puts a node as its image at `at` shows it, with the slots that this has of records that were deleted; those of its records come
+    /// later. No name in it is below the low. Where that image is not to be kept as its last one, the
     /// node waits to be logged. Where the levels had no such low, other nodes stand there that wait to be logged, until their images
     /// come. It gives how many nodes wait more at most, and whether one that waited gave its place to this one.
     pub fn load_node(
@@ -219,13 +287,20 @@ impl DbTree {
         at: Lsn,
         keeps: bool,
     ) -> Result<NewWaits, AllocError>
-        ensures cells { self.new.cells ≡ self.old.cells }
+        ensures slots { OnOk result (GetsDeletions (shows_deletion image.now.slots) at self.old.cells self.new.cells) }
+        ensures some { (shown : Name → Bool) × GetsDeletions shown at self.old.cells self.new.cells }
+        ensures was_rising { IsRising self.old.cells }
+        ensures rising { IsRising self.new.cells }
         ensures loaded { OnOk result (IsLoaded self.old.levels self.new.levels (image.now.level - 1) low.now (node_read image.now.number at keeps)) }
         ensures few { IfOk result (λ waits. count_in self.new + one_if waits.replaced ≤ count_in self.old + waits.more) }
         ensures made { IfOk result (λ waits. waits.more ≤ 513) }
         ensures most { count_in self.new ≤ count_in self.old + 513 }
     {
         let node = shown_node(image, at, keeps);
+        let _before = self.cells.len();
+        let done = put_deletions(&mut self.cells, alloc, image.slots.as_slice(), at);
+        let _after = self.cells.len();
+        done?;
         put_node(&mut self.levels, alloc, level_of(image), low, node)
     }
 

@@ -136,6 +136,7 @@ impl DbTree {
         ensures errors { IfErr result (λ e. (e ≡ Reason.IdsEnded) ⊎ (e ≡ Reason.Memory)) }
         ensures err { OnErr result (self.new.levels ≡ self.old.levels) }
         ensures err_cells { OnErr result (self.new.cells ≡ self.old.cells) }
+        ensures idle { IsSome (value_at name.now self.old.cells) → OnOk result (self.new ≡ self.old) }
     {
         let _before = self.cells.len();
         let _height = self.levels.height();

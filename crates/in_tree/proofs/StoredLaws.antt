@@ -1,5 +1,5 @@
 -- What is committed in trees while a log is read again, and how it changes where one cell does.
-use Rattle.std.proofs.Common.{◌≡◌, ◌==◌, ◌&&◌, ◌||◌, ◌⊎◌, ℕ, List, [], ◌∷◌, ◌++◌, Bool, true, false, cond, Option, None, Some, find, is_some, option_map, map, refl, ap, sym, subst, ◌∙◌, inl, inr, Less, is_eq, Box}
+use Rattle.std.proofs.Common.{◌≡◌, ◌==◌, ◌&&◌, ◌||◌, not, ◌⊎◌, ℕ, List, [], ◌∷◌, ◌++◌, Bool, true, false, cond, Option, None, Some, IsSome, find, is_some, option_map, map, refl, ap, sym, subst, ◌∙◌, inl, inr, Less, is_eq, Box}
 use Rattle.std.specs.Global.{Global}
 use Rattle.std.specs.List.{AllByRecursion, list_any}
 use Rattle.std.specs.List.Sorted.{IsStrictlySortedBy}
@@ -18,15 +18,18 @@ use Rattle.record_map.specs.declared.write.Write.{Write}
 use Rattle.record_map.specs.Cells.{value_at, IsRising, from_edge}
 use Rattle.record_map.proofs.NameLaws.{same_or_other, name_same, other_stays, same_gets}
 use Rattle.record_tree.specs.Occupied.{Occupied, is_occupied, committed_value}
+use Rattle.record_tree.specs.LoadedSlots.{AllSlots, AreSlotsStill, HasMoreSlots}
 use Rattle.record_tree.specs.Stored.{Stored, stored_at, HasStored, AreStoredStill}
+use Rattle.node_core.specs.Changes.{is_committed}
+use Rattle.db_tree.specs.Loading.{deleted_cell, has_version, GetsDeletions}
 use Rattle.db_tree.specs.declared.tree.DbTree.{DbTree}
 use Rattle.db_tree.specs.Trees.{HasCell, cell_or_fresh}
 use Rattle.in_tree.specs.Forest.{Forest, cells_of, cells_at, is_there, cells_seen}
 use Rattle.db_tree.specs.Seen.{occupied}
-use Rattle.db_tree.specs.Stored.{with_logged}
+use Rattle.db_tree.specs.Stored.{with_logged, version_logged, IsLoggedAlready}
 use Rattle.db_tree.specs.Stored.{stored_by, stored_under, with_name, stored_in, AreQuiet, HasLogged}
-use Rattle.in_tree.specs.Stored.{stored_of, committed_cell, IsQuiet, IsSlotFor}
-use Rattle.tree_nodes.proofs.RisingLists.{none_behind}
+use Rattle.in_tree.specs.Stored.{slots_held, stored_of, committed_cell, IsQuiet, IsSlotFor}
+use Rattle.tree_nodes.proofs.RisingLists.{none_behind, same_lists}
 use Rattle.in_tree.specs.Forest.{Replaces}
 use Rattle.in_tree.proofs.Forests.{number_cases, number_same, replaced, others}
 
@@ -271,6 +274,16 @@ stored_without old new db has d = by_number (number_cases db d)
         (ap (λ (t : Option DbTree). stored_in (cells_of t)) (replaced old new db None has) ∙ sym (ap (λ (t : Bool). cond t [] (stored_of old db)) (eq-eqb db db refl)))
     by_number (inr apart) = ap (λ (t : Option DbTree). stored_in (cells_of t)) (others old new db None has d apart.1) ∙ sym (ap (λ (t : Bool). cond t [] (stored_of old d)) apart.0)
 
+-- nor where a tree that was written over has the same records
+pub stored_still : (old new : Forest) (db : ℕ) (before after : DbTree) → Some before ≡ get nat_cmp old db → Replaces old new db (Some after) → stored_in after.cells ≡ stored_in before.cells → AreStoredStill (stored_of old) (stored_of new)
+stored_still old new db before after there has same d = by_number (number_cases db d)
+  where
+    by_number : (db ≡ d) ⊎ ((d == db ≡ false) × (is_eq (nat_cmp db d) ≡ false)) → stored_of new d ≡ stored_of old d
+    by_number (inl is) =
+        subst (λ (e : ℕ). stored_of new e ≡ stored_of old e) is
+        (ap (λ (t : Option DbTree). stored_in (cells_of t)) (replaced old new db (Some after) has) ∙ same ∙ ap (λ (t : Option DbTree). stored_in (cells_of t)) there)
+    by_number (inr apart) = ap (λ (t : Option DbTree). stored_in (cells_of t)) (others old new db (Some after) has d apart.1)
+
 -- trees stay quiet where the new cells of one database are
 pub forest_quiet : (old new : Forest) (db : ℕ) (o : Option DbTree) → Replaces old new db o → AreQuiet (cells_of o) → IsQuiet old → IsQuiet new
 forest_quiet old new db o has now quiet d = by_number (number_cases db d)
@@ -311,3 +324,143 @@ quiet_put old new db before after there has keeps quiet = forest_quiet old new d
 -- the cells of a database that has a tree, from the first edge on
 pub cells_from_first : (forest : Forest) (db : ℕ) (tree : DbTree) → Some tree ≡ get nat_cmp forest db → from_edge First tree.cells ≡ cells_at forest db
 cells_from_first forest db tree there = from_first tree.cells ∙ ap cells_of there
+
+-- ---- slots
+
+or_false : (b : Bool) → (b || false) ≡ b
+or_false true = refl
+or_false false = refl
+
+or_true : (b : Bool) → (b || true) ≡ true
+or_true true = refl
+or_true false = refl
+
+-- names that get slots of records that were deleted get no record
+pub deletions_stored : (shown : Name → Bool) (at : ℕ) (old new : List (Name × Cell)) → IsRising old → IsRising new → GetsDeletions shown at old new → stored_in new ≡ stored_in old
+deletions_stored shown at old new up_old up_new got =
+    same_lists (stored_in new) (stored_in old) (stored_rises new up_new) (stored_rises old up_old)
+    (λ x. stored_at_name new x up_new ∙ ap stored_under (got x) ∙ none_more (shown x) (has_version (value_at x old)) (value_at x old) refl ∙ sym (stored_at_name old x up_old))
+  where
+    by_version : (version : Version) (value : List ℕ) → is_committed version ≡ false → stored_by version value ≡ None
+    by_version (There lsn) value is = absurd (true≢false is)
+    by_version Deleted value is = absurd (true≢false is)
+    by_version Unset value is = refl
+
+    unshown : (o : Option Cell) → has_version o ≡ false → stored_under o ≡ None
+    unshown None is = refl
+    unshown (Some cell) is = by_version cell.version cell.«data» is
+
+    none_more : (t h : Bool) (o : Option Cell) → has_version o ≡ h → stored_under (cond (t && not h) (Some (deleted_cell at)) o) ≡ stored_under o
+    none_more false h o is = refl
+    none_more true true o is = refl
+    none_more true false o is = sym (unshown o is)
+
+pub deletions_quiet : (shown : Name → Bool) (at : ℕ) (old new : List (Name × Cell)) → IsRising new → GetsDeletions shown at old new → AreQuiet old → AreQuiet new
+deletions_quiet shown at old new up_new got quiet = record { rising = up_new; quiet = λ x c found. by_test x c (shown x && not (has_version (value_at x old))) (sym (got x) ∙ found) }
+  where
+    by_test : (x : Name) (c : Cell) (t : Bool) → cond t (Some (deleted_cell at)) (value_at x old) ≡ Some c → c.write ≡ None
+    by_test x c true is = subst (λ (k : Cell). k.write ≡ None) (same_Some (deleted_cell at) c is) refl
+    by_test x c false is = quiet.quiet x c is
+
+-- which names have a slot then
+pub deletions_slots : (shown : Name → Bool) (at : ℕ) (old new : List (Name × Cell)) → GetsDeletions shown at old new → (x : Name) → has_version (value_at x new) ≡ (has_version (value_at x old) || shown x)
+deletions_slots shown at old new got x = ap has_version (got x) ∙ by_tests (shown x) (has_version (value_at x old)) (value_at x old) refl
+  where
+    by_tests : (t h : Bool) (o : Option Cell) → has_version o ≡ h → has_version (cond (t && not h) (Some (deleted_cell at)) o) ≡ (h || t)
+    by_tests false h o is = is ∙ sym (or_false h)
+    by_tests true true o is = is
+    by_tests true false o is = refl
+
+pub slots_change : (old new : List (Name × Cell)) (name : Name) (cell : Cell) → is_committed cell.version ≡ true → HasCell old new name cell → (x : Name) →
+    has_version (value_at x new) ≡ (has_version (value_at x old) || is_eq (name_cmp name x))
+slots_change old new name cell shown has x = ap has_version (has x) ∙ by_test (is_eq (name_cmp name x))
+  where
+    by_test : (t : Bool) → has_version (cond t (Some cell) (value_at x old)) ≡ (has_version (value_at x old) || t)
+    by_test true = shown ∙ sym (or_true (has_version (value_at x old)))
+    by_test false = sym (or_false (has_version (value_at x old)))
+
+logged_shown : (value : Option (List ℕ)) (lsn commit : ℕ) (last : Option ℕ) (cell : Cell) → is_committed (with_logged value lsn commit last cell).version ≡ true
+logged_shown None lsn commit last cell = refl
+logged_shown (Some value) lsn commit last cell = refl
+
+pub slots_logged : (old new : List (Name × Cell)) (name : Name) (value : Option (List ℕ)) (lsn : ℕ) → HasLogged old new name value lsn → (x : Name) →
+    has_version (value_at x new) ≡ (has_version (value_at x old) || is_eq (name_cmp name x))
+slots_logged old new name value lsn logged =
+    let before : Cell = cell_or_fresh (value_at name old) in
+    slots_change old new name (with_logged value lsn logged.commit logged.last before) (logged_shown value lsn logged.commit logged.last before) logged.cell
+
+-- names of one database get slots
+pub slots_put : (old new : Forest) (db : ℕ) (before after : DbTree) (got : Name → Bool) → Some before ≡ get nat_cmp old db → Replaces old new db (Some after) →
+    ((x : Name) → has_version (value_at x after.cells) ≡ (has_version (value_at x before.cells) || got x)) → HasMoreSlots (slots_held old) (slots_held new) db got
+slots_put old new db before after got there has is d x = by_number (apart_cases db d)
+  where
+    here : slots_held new db x ≡ (slots_held old db x || got x)
+    here =
+        ap (λ (t : Option DbTree). has_version (value_at x (cells_of t))) (replaced old new db (Some after) has)
+        ∙ is x
+        ∙ ap (λ (t : Option DbTree). has_version (value_at x (cells_of t)) || got x) there
+
+    by_number : (db ≡ d) ⊎ ((db == d ≡ false) × (is_eq (nat_cmp db d) ≡ false)) → slots_held new d x ≡ (slots_held old d x || ((db == d) && got x))
+    by_number (inl same) =
+        subst (λ (e : ℕ). slots_held new e x ≡ (slots_held old e x || ((db == e) && got x))) same (here ∙ sym (ap (λ (t : Bool). slots_held old db x || (t && got x)) (eq-eqb db db refl)))
+    by_number (inr apart) =
+        ap (λ (t : Option DbTree). has_version (value_at x (cells_of t))) (others old new db (Some after) has d apart.1)
+        ∙ sym (ap (λ (t : Bool). slots_held old d x || (t && got x)) apart.0 ∙ or_false (slots_held old d x))
+
+-- no slot changes where the cells of one database are as before
+pub slots_still : (old new : Forest) (db : ℕ) (o : Option DbTree) → Replaces old new db o → cells_of o ≡ cells_at old db → AreSlotsStill (slots_held old) (slots_held new)
+slots_still old new db o has same d x = by_number (number_cases db d)
+  where
+    by_number : (db ≡ d) ⊎ ((d == db ≡ false) × (is_eq (nat_cmp db d) ≡ false)) → slots_held new d x ≡ slots_held old d x
+    by_number (inl is) =
+        subst (λ (e : ℕ). slots_held new e x ≡ slots_held old e x) is
+        (ap (λ (t : Option DbTree). has_version (value_at x (cells_of t))) (replaced old new db o has) ∙ ap (λ (cells : List (Name × Cell)). has_version (value_at x cells)) same)
+    by_number (inr apart) = ap (λ (t : Option DbTree). has_version (value_at x (cells_of t))) (others old new db o has d apart.1)
+
+-- the slots of a database go with its tree
+pub slots_without : (old new : Forest) (db : ℕ) → Replaces old new db None → (d : ℕ) (x : Name) → slots_held new d x ≡ cond (d == db) false (slots_held old d x)
+slots_without old new db has d x = by_number (number_cases db d)
+  where
+    by_number : (db ≡ d) ⊎ ((d == db ≡ false) × (is_eq (nat_cmp db d) ≡ false)) → slots_held new d x ≡ cond (d == db) false (slots_held old d x)
+    by_number (inl is) =
+        subst (λ (e : ℕ). slots_held new e x ≡ cond (e == db) false (slots_held old e x)) is
+        (ap (λ (t : Option DbTree). has_version (value_at x (cells_of t))) (replaced old new db None has) ∙ sym (ap (λ (t : Bool). cond t false (slots_held old db x)) (eq-eqb db db refl)))
+    by_number (inr apart) =
+        ap (λ (t : Option DbTree). has_version (value_at x (cells_of t))) (others old new db None has d apart.1) ∙ sym (ap (λ (t : Bool). cond t false (slots_held old d x)) apart.0)
+
+-- a tree is made first
+pub slots_then : (a b c : AllSlots) (db : ℕ) (got : Name → Bool) → AreSlotsStill a b → HasMoreSlots b c db got → HasMoreSlots a c db got
+slots_then a b c db got first next d x = next d x ∙ ap (λ (t : Bool). t || ((db == d) && got x)) (first d x)
+
+-- ---- a change that is redone
+
+-- a name with a slot of which the record is as it was logged, or deleted
+pub logged_already : (cells : List (Name × Cell)) (name : Name) (at : ℕ) (value : Option (List ℕ)) → has_version (value_at name cells) ≡ true → stored_under (value_at name cells) ≡ stored_at at value → IsLoggedAlready cells name at value
+logged_already cells name at value = by_cell (value_at name cells)
+  where
+    by_version : (version : Version) (own : List ℕ) (logged : Option (List ℕ)) → is_committed version ≡ true → stored_by version own ≡ stored_at at logged → version ≡ version_logged at logged
+    by_version (There lsn) own (Some v) shown same = ap (λ (s : Stored). There s.at) (same_Some (record { at = lsn; value = own }) (record { at = at; value = v }) same)
+    by_version (There lsn) own None shown same = absurd (none-some (record { at = lsn; value = own }) (sym same))
+    by_version Deleted own (Some v) shown same = absurd (none-some (record { at = at; value = v }) same)
+    by_version Deleted own None shown same = refl
+    by_version Unset own logged shown same = absurd (true≢false (sym shown))
+
+    by_cell : (o : Option Cell) → has_version o ≡ true → stored_under o ≡ stored_at at value → (cell_or_fresh o).version ≡ version_logged at value
+    by_cell None shown same = absurd (true≢false (sym shown))
+    by_cell (Some cell) shown same = by_version cell.version cell.«data» value shown same
+
+-- what is committed already has a cell
+pub already_there : (cells : List (Name × Cell)) (name : Name) (at : ℕ) (value : Option (List ℕ)) → IsLoggedAlready cells name at value → IsSome (value_at name cells)
+already_there cells name at value = by_cell (value_at name cells)
+  where
+    unset : (logged : Option (List ℕ)) → is_committed (version_logged at logged) ≡ true
+    unset None = refl
+    unset (Some v) = refl
+
+    by_cell : (o : Option Cell) → (cell_or_fresh o).version ≡ version_logged at value → IsSome o
+    by_cell None is = absurd (true≢false (sym (ap is_committed is ∙ unset value)))
+    by_cell (Some cell) is = refl
+
+-- where the slot that is there stays
+pub logged_stays : (old mid : DbTree) (name : Name) (at : ℕ) (value : Option (List ℕ)) → mid ≡ old → IsLoggedAlready old.cells name at value → IsLoggedAlready mid.cells name at value
+logged_stays old mid name at value same is = subst (λ (t : DbTree). IsLoggedAlready t.cells name at value) (sym same) is

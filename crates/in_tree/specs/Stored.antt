@@ -6,8 +6,10 @@ use Rattle.je_order.specs.declared.name.Name.{Name}
 use Rattle.record_map.specs.declared.cell.Cell.{Cell}
 use Rattle.record_map.specs.Cells.{value_at}
 use Rattle.record_tree.specs.Occupied.{Occupied}
+use Rattle.record_tree.specs.LoadedSlots.{AllSlots}
 use Rattle.record_tree.specs.Stored.{Stored, AllStored}
 use Rattle.db_tree.specs.declared.tree.DbTree.{DbTree}
+use Rattle.db_tree.specs.Loading.{has_version}
 use Rattle.db_tree.specs.Stored.{stored_in, AreQuiet}
 use Rattle.db_tree.specs.Trees.{cell_or_fresh}
 use Rattle.in_tree.specs.Forest.{Forest, cells_of, cells_at}
@@ -15,6 +17,10 @@ use Rattle.in_tree.specs.Forest.{Forest, cells_of, cells_at}
 -- the records of each database
 abbrev pub stored_of : Forest → AllStored
 stored_of forest d = stored_in (cells_at forest d)
+
+-- whether a name of a database has a slot that the next image of its BIN shows
+abbrev pub slots_held : Forest → AllSlots
+slots_held forest d x = has_version (value_at x (cells_at forest d))
 
 -- a record as transactions see it: committed, and without a change
 abbrev pub committed_cell : Name × Stored → Name × Occupied

@@ -1,5 +1,5 @@
 // The trees of all databases, by their numbers.
-ghost use Rattle.std.specs.Prelude.{◌≡◌, ◌≤◌, ◌<◌, ◌⊎◌, ◌+◌, ◌*◌, ◌^◌, ℕ, true, false, [], Option, None, Some, IfOk, IfErr, OnOk, OnErr, if◌then◌else◌, ◌==◌};
+ghost use Rattle.std.specs.Prelude.{◌≡◌, ◌≤◌, ◌<◌, ◌⊎◌, ◌+◌, ◌*◌, ◌^◌, ℕ, true, false, [], Option, None, Some, IsSome, IfOk, IfErr, OnOk, OnErr, if◌then◌else◌, ◌==◌};
 ghost use Rattle.std.specs.Ordering.{is_eq, nat_cmp};
 ghost use Rattle.je_order.specs.Order.{name_cmp};
 ghost use Rattle.std.specs.BTreeMap.{get};
@@ -11,7 +11,7 @@ ghost use Rattle.record_tree.specs.declared.tree_err.TreeErr.{TreeErr as Reason}
 ghost use Rattle.db_tree.specs.Seen.{occupied, with_change, with_value};
 ghost use Rattle.db_tree.specs.Shapes.{shape_in};
 ghost use Rattle.db_tree.specs.Splits.{count_waiting};
-ghost use Rattle.db_tree.specs.Stored.{AreQuiet, HasLogged};
+ghost use Rattle.db_tree.specs.Stored.{AreQuiet, HasLogged, IsLoggedAlready};
 ghost use Rattle.db_tree.specs.Splits.{passes_top};
 ghost use Rattle.db_tree.specs.declared.tree.DbTree.{DbTree as Kept};
 ghost use Rattle.tree_images.specs.RedoSteps.{IsSplitFor, HasRedone};
@@ -20,11 +20,13 @@ ghost use Rattle.in_tree.specs.Forest.{Forest, Replaces, cells_at, cells_seen, i
 ghost use Rattle.tree_nodes.specs.Levels.{AreParts};
 ghost use Rattle.db_tree.specs.Images.{Placed as Entries};
 ghost use Rattle.db_tree.specs.Trees.{IsTree};
-ghost use Rattle.in_tree.specs.Loaded.{AreAllParts};
+ghost use Rattle.in_tree.specs.Loaded.{AreAllParts, nodes_of};
+ghost use Rattle.record_tree.specs.LoadedNodes.{AreNodesStill};
 ghost use Rattle.in_tree.specs.Placing.{IsPlacedIn, IsFittedIn};
 ghost use Rattle.in_tree.specs.Shapes.{shapes_of};
-ghost use Rattle.in_tree.specs.Stored.{stored_of, IsQuiet, IsSlotFor};
+ghost use Rattle.in_tree.specs.Stored.{slots_held, stored_of, IsQuiet, IsSlotFor};
 ghost use Rattle.in_tree.specs.Waits.{waits_in};
+ghost use Rattle.record_tree.specs.LoadedSlots.{HasMoreSlots, AreSlotsStill};
 ghost use Rattle.record_tree.specs.Stored.{stored_at, HasStored, AreStoredStill};
 
 use db_tree::{DbTree, SlotRoom};
@@ -164,6 +166,7 @@ pub(crate) fn make(
     ensures err { OnErr result (IsSameForest trees.old trees.new) }
     ensures waits { waits_in trees.new ≤ waits_in trees.old }
     ensures stored { AreStoredStill (stored_of trees.old) (stored_of trees.new) }
+    ensures slots { AreSlotsStill (slots_held trees.old) (slots_held trees.new) }
     ensures quiet { IsQuiet trees.old → IsQuiet trees.new }
 {
     let tree = DbTree::new(alloc, number)?;
@@ -205,6 +208,7 @@ fn redo_in(
     ensures quiet { AreQuiet tree.old.cells → AreQuiet tree.new.cells }
     ensures same { OnErr result (occupied tree.new.cells ≡ occupied tree.old.cells) }
     ensures step { IfOk result (λ made. HasRedone fanout number name.now value first at made tree.old tree.new) }
+    ensures already { IsLoggedAlready tree.old.cells name.now at value → OnOk result (tree.new.levels ≡ tree.old.levels) }
     ensures parts { AreParts tree.new.levels }
     ensures few { IfOk result (λ made. made ≤ 64) }
     ensures waits { IfOk result (λ made. count_waiting (shape_in tree.new) ≤ count_waiting (shape_in tree.old) + 2 * made) }
@@ -237,6 +241,7 @@ fn split_for(
 ) -> Result<usize, AllocError>
     ensures same { occupied tree.new.cells ≡ occupied tree.old.cells }
     ensures slot { IsSlotFor name.now tree.old.cells tree.new.cells }
+    ensures idle { IsSome (value_at name.now tree.old.cells) → OnOk result (tree.new ≡ tree.old) }
     ensures split { IfOk result (λ made. IsSplitFor fanout number name.now made tree.old tree.new.levels) }
     ensures keeps { (es : Entries) (base : ℕ) (newest : Name → ℕ) → mark < base → IsTree es base newest tree.old.levels tree.old.cells → IsTree es base newest tree.new.levels tree.new.cells }
     ensures rising { IsRising tree.old.cells → IsRising tree.new.cells }
@@ -271,9 +276,11 @@ pub(crate) fn redo(
     requires { is_there trees.old db ≡ true }
     ensures cells { OnOk result (HasChange (cells_seen trees.old) (cells_seen trees.new) db name.now (with_value value)) }
     ensures stored { OnOk result (HasStored (stored_of trees.old) (stored_of trees.new) db name.now (stored_at at value)) }
+    ensures slots { OnOk result (HasMoreSlots (slots_held trees.old) (slots_held trees.new) db (λ x. is_eq (name_cmp name.now x))) }
     ensures quiet { IsQuiet trees.old → IsQuiet trees.new }
     ensures same { OnErr result (AreSame (cells_seen trees.old) (cells_seen trees.new)) }
     ensures step { IfOk result (λ made. IsStepIn db (HasRedone fanout number name.now value first at made) trees.old trees.new) }
+    ensures already { IsLoggedAlready (cells_at trees.old db) name.now at value → OnOk result (AreNodesStill (nodes_of trees.old) (nodes_of trees.new)) }
     ensures parts { AreAllParts trees.old → AreAllParts trees.new }
     ensures trees { HasSameTrees trees.old trees.new }
     ensures few { IfOk result (λ made. made ≤ 64) }
@@ -305,6 +312,7 @@ pub(crate) fn drop_db(trees: &mut BTreeMap<u32, DbTree>, db: u32)
     ensures parts { AreAllParts trees.old → AreAllParts trees.new }
     ensures waits { waits_in trees.new ≤ waits_in trees.old }
     ensures stored { (d : ℕ) → stored_of trees.new d ≡ (if d == db then [] else stored_of trees.old d) }
+    ensures slots { (d : ℕ) (x : Name) → slots_held trees.new d x ≡ (if d == db then false else slots_held trees.old d x) }
     ensures quiet { IsQuiet trees.old → IsQuiet trees.new }
 {
     drop(trees.remove(&db));

@@ -114,7 +114,7 @@ impl Loads for LoadedTrees {
     ghost use Rattle.std.specs.Ordering.{nat_cmp};
     ghost use Rattle.std.specs.BTreeMap.{get};
     ghost use Rattle.in_tree.specs.Forest.{is_there};
-    ghost use Rattle.in_tree.specs.Stored.{stored_of, none_stored};
+    ghost use Rattle.in_tree.specs.Stored.{slots_held, stored_of, none_stored};
     ghost use Rattle.in_tree.specs.Whole.{last_number_of};
     ghost use Rattle.in_tree.specs.LoadedFits.{formed_within, nodes_within, fits_within};
     ghost use Rattle.in_tree.specs.LoadedNodes.{no_nodes};
@@ -126,6 +126,8 @@ impl Loads for LoadedTrees {
     ghost well_formed = { formed_within };
 
     ghost nodes = { nodes_within };
+
+    ghost slots = { λ x. slots_held x.forest };
 
     ghost last_number = { last_number_of };
 

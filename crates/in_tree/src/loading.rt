@@ -1,15 +1,20 @@
 // Records and nodes that a log has are put into trees.
-ghost use Rattle.std.specs.Prelude.{◌≡◌, ◌≤◌, ◌+◌, ◌-◌, true, IfOk, OnOk, Some};
+ghost use Rattle.std.specs.Prelude.{◌≡◌, ◌≤◌, ◌+◌, ◌-◌, true, Bool, IfOk, OnOk, Some};
+ghost use Rattle.std.specs.Ordering.{is_eq};
+ghost use Rattle.je_order.specs.Order.{name_cmp};
+ghost use Rattle.je_order.specs.declared.name.Name.{Name as Named};
+ghost use Rattle.record_map.specs.Cells.{IsRising};
 ghost use Rattle.record_tree.specs.LoadedNodes.{node_read, HasPutNode, AreNodesStill};
+ghost use Rattle.record_tree.specs.LoadedSlots.{shows_deletion, HasMoreSlots, AreSlotsStill};
 ghost use Rattle.record_tree.specs.Stored.{stored_at, HasStored, AreStoredStill};
 ghost use Rattle.tree_nodes.specs.Levels.{AreParts};
-ghost use Rattle.db_tree.specs.Loading.{IsLoaded};
+ghost use Rattle.db_tree.specs.Loading.{GetsDeletions, IsLoaded};
 ghost use Rattle.db_tree.specs.Shapes.{count_in};
 ghost use Rattle.db_tree.specs.Splits.{one_if};
 ghost use Rattle.in_tree.specs.Forest.{is_there, IsStepIn};
 ghost use Rattle.in_tree.specs.Loaded.{AreAllParts, nodes_of};
 ghost use Rattle.in_tree.specs.LoadedNodes.{IsEnsured, HasLoadedIn};
-ghost use Rattle.in_tree.specs.Stored.{stored_of, IsQuiet};
+ghost use Rattle.in_tree.specs.Stored.{slots_held, stored_of, IsQuiet};
 ghost use Rattle.in_tree.specs.Waits.{waits_in};
 
 use crate::forest;
@@ -39,6 +44,7 @@ pub(crate) fn load(
 ) -> Result<(), AllocError>
     requires { is_there trees.old db ≡ true }
     ensures stored { OnOk result (HasStored (stored_of trees.old) (stored_of trees.new) db name (stored_at at (Some value.now))) }
+    ensures slots { OnOk result (HasMoreSlots (slots_held trees.old) (slots_held trees.new) db (λ x. is_eq (name_cmp name x))) }
     ensures quiet { IsQuiet trees.old → IsQuiet trees.new }
     ensures waits { waits_in trees.new ≡ waits_in trees.old }
     ensures nodes { AreNodesStill (nodes_of trees.old) (nodes_of trees.new) }
@@ -61,6 +67,7 @@ fn ensure_tree(
     ensures made { OnOk result (IsEnsured db number trees.old trees.new) }
     ensures parts { AreAllParts trees.old → AreAllParts trees.new }
     ensures stored { AreStoredStill (stored_of trees.old) (stored_of trees.new) }
+    ensures slots { AreSlotsStill (slots_held trees.old) (slots_held trees.new) }
     ensures quiet { IsQuiet trees.old → IsQuiet trees.new }
     ensures waits { waits_in trees.new ≤ waits_in trees.old }
 {
@@ -81,7 +88,10 @@ fn put_in(
 ) -> Result<NewWaits, AllocError>
     ensures loaded { OnOk result (IsLoaded tree.old.levels tree.new.levels (image.now.level - 1) low.now (node_read image.now.number at keeps)) }
     ensures parts { AreParts tree.new.levels }
-    ensures cells { tree.new.cells ≡ tree.old.cells }
+    ensures slots { OnOk result (GetsDeletions (shows_deletion image.now.slots) at tree.old.cells tree.new.cells) }
+    ensures some { (shown : Named → Bool) × GetsDeletions shown at tree.old.cells tree.new.cells }
+    ensures was_rising { IsRising tree.old.cells }
+    ensures rising { IsRising tree.new.cells }
     ensures few { IfOk result (λ waits. count_in tree.new + one_if waits.replaced ≤ count_in tree.old + waits.more) }
     ensures made { IfOk result (λ waits. waits.more ≤ 513) }
     ensures most { count_in tree.new ≤ count_in tree.old + 513 }
@@ -106,6 +116,7 @@ fn put_image(
     ensures loaded { OnOk result (IsStepIn db (HasLoadedIn (image.now.level - 1) low.now (node_read image.now.number at keeps)) trees.old trees.new) }
     ensures parts { AreAllParts trees.old → AreAllParts trees.new }
     ensures stored { AreStoredStill (stored_of trees.old) (stored_of trees.new) }
+    ensures slots { OnOk result (HasMoreSlots (slots_held trees.old) (slots_held trees.new) db (shows_deletion image.now.slots)) }
     ensures quiet { IsQuiet trees.old → IsQuiet trees.new }
     ensures few { IfOk result (λ waits. waits.more ≤ 513) }
     ensures waits { IfOk result (λ waits. waits_in trees.new + one_if waits.replaced ≤ waits_in trees.old + waits.more) }
@@ -117,9 +128,9 @@ fn put_image(
     }
 }
 
-// Puts a node as its image at `at` shows it. No name in it is below `low`. It gives how many nodes wait more at most, those that are
-// still to come for it, and the node where that image is not to be kept as its last one; and whether one that waited gave its place
-// to this one.
+// Puts a node as its image at `at` shows it, with the slots that this has of records that were deleted. No name in it is below `low`. It gives
+// how many nodes wait more at most, those that are still to come for it, and the node where that image is not to be kept as its last one; and
+// whether one that waited gave its place to this one.
 pub(crate) fn load_node(
     trees: &mut BTreeMap<u32, DbTree>,
     alloc: Global,
@@ -131,6 +142,7 @@ pub(crate) fn load_node(
     ensures nodes { OnOk result (HasPutNode (nodes_of trees.old) (nodes_of trees.new) image.now.db (image.now.level - 1) low.now (node_read image.now.number at keeps)) }
     ensures parts { AreAllParts trees.old → AreAllParts trees.new }
     ensures stored { AreStoredStill (stored_of trees.old) (stored_of trees.new) }
+    ensures slots { OnOk result (HasMoreSlots (slots_held trees.old) (slots_held trees.new) image.now.db (shows_deletion image.now.slots)) }
     ensures quiet { IsQuiet trees.old → IsQuiet trees.new }
     ensures few { IfOk result (λ waits. waits.more ≤ 513) }
     ensures waits { IfOk result (λ waits. waits_in trees.new + one_if waits.replaced ≤ waits_in trees.old + waits.more) }

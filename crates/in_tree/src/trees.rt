@@ -1,17 +1,22 @@
 // The trees of an environment.
 ghost use Rattle.std.specs.Prelude.{◌≡◌, ◌≤◌, ◌<◌, ◌+◌, ◌*◌, ◌==◌, ℕ, suc, List as Items, [], true, false, if◌then◌else◌, IfOk, IfSome, OnOk, OnErr, option_map};
+ghost use Rattle.std.specs.Ordering.{is_eq};
+ghost use Rattle.je_order.specs.Order.{name_cmp};
+ghost use Rattle.je_order.specs.declared.name.Name.{Name};
 ghost use Rattle.record_map.specs.Cells.{value_at, IsRising, first_of, last_of, from_edge, below_edge, edge_of};
 ghost use Rattle.record_tree.specs.Logged.{IsEndOf};
 ghost use Rattle.record_tree.specs.Occupied.{AreSame, occupied_by};
 ghost use Rattle.record_tree.specs.declared.tree_err.TreeErr.{TreeErr as Reason};
 ghost use Rattle.record_tree.specs.Stored.{stored_at, HasStored, AreStoredStill};
-ghost use Rattle.in_tree.specs.Forest.{cells_seen, is_there, HasSameTrees, IsSameForest, HasChange};
-ghost use Rattle.record_tree.specs.LoadedNodes.{IsLoggedAt};
+ghost use Rattle.in_tree.specs.Forest.{cells_at, cells_seen, is_there, HasSameTrees, IsSameForest, HasChange};
+ghost use Rattle.record_tree.specs.LoadedNodes.{AreNodesStill, IsLoggedAt};
+ghost use Rattle.db_tree.specs.Stored.{IsLoggedAlready};
 ghost use Rattle.log_trees.specs.Placed.{Placed};
-ghost use Rattle.in_tree.specs.Loaded.{AreAllParts, FitsUpTo};
+ghost use Rattle.in_tree.specs.Loaded.{AreAllParts, nodes_of, FitsUpTo};
 ghost use Rattle.in_tree.specs.Waits.{waits_in};
 ghost use Rattle.db_tree.specs.Seen.{with_value};
-ghost use Rattle.in_tree.specs.Stored.{stored_of, IsQuiet};
+ghost use Rattle.record_tree.specs.LoadedSlots.{HasMoreSlots};
+ghost use Rattle.in_tree.specs.Stored.{slots_held, stored_of, IsQuiet};
 
 use crate::{forest, reading};
 use db_tree::DbTree;
@@ -116,6 +121,7 @@ impl Trees {
         ensures trees { (d : ℕ) → is_there self.new.forest d ≡ (if d == db then false else is_there self.old.forest d) }
         ensures waits { waits_in self.new.forest ≤ waits_in self.old.forest }
         ensures stored { (d : ℕ) → stored_of self.new.forest d ≡ (if d == db then [] else stored_of self.old.forest d) }
+        ensures slots { (d : ℕ) (x : Name) → slots_held self.new.forest d x ≡ (if d == db then false else slots_held self.old.forest d x) }
         ensures quiet { IsQuiet self.old.forest → IsQuiet self.new.forest }
         ensures parts { AreAllParts self.old.forest → AreAllParts self.new.forest }
         ensures fits { (es : Items Placed) (base : ℕ) → FitsUpTo self.old.last_node self.old.forest es base → FitsUpTo self.new.last_node self.new.forest es base }
@@ -136,7 +142,8 @@ impl Trees {
     /// Sets what is committed of a name, as the log has it: the record that was logged at `at`, or none where the record was
     /// deleted there. A redo finds the change again from the LSN `first` on, which is `at` or before it. Nothing is
     /// logged: nodes that are split for the name wait to be logged, and it gives how many were made. None is split where fewer
-    /// than 65 node numbers are left, or the root is at the last level. Running out of memory changes no record.
+    /// than 65 node numbers are left, or the root is at the last level. Where this is committed already, no node changes. Running out of
+    /// memory changes no record.
     pub fn redo(
         &mut self,
         alloc: Global,
@@ -149,6 +156,8 @@ impl Trees {
         requires { is_there self.old.forest db ≡ true }
         ensures cells { OnOk result (HasChange (cells_seen self.old.forest) (cells_seen self.new.forest) db name.now (with_value value)) }
         ensures stored { OnOk result (HasStored (stored_of self.old.forest) (stored_of self.new.forest) db name.now (stored_at at value)) }
+        ensures slots { OnOk result (HasMoreSlots (slots_held self.old.forest) (slots_held self.new.forest) db (λ x. is_eq (name_cmp name.now x))) }
+        ensures already { IsLoggedAlready (cells_at self.old.forest db) name.now at value → OnOk result (AreNodesStill (nodes_of self.old.forest) (nodes_of self.new.forest)) }
         ensures quiet { IsQuiet self.old.forest → IsQuiet self.new.forest }
         ensures same { OnErr result (AreSame (cells_seen self.old.forest) (cells_seen self.new.forest)) }
         ensures fits { (es : Items Placed) (base : ℕ) → first < base → IsLoggedAt es db name.now at value → IsQuiet self.old.forest → FitsUpTo self.old.last_node self.old.forest es base → OnOk result (FitsUpTo self.new.last_node self.new.forest es base) }

@@ -1,10 +1,13 @@
 // Trees that are made of a log.
 ghost use Rattle.std.specs.Prelude.{◌≡◌, ◌≤◌, ◌<◌, ◌-◌, ◌==◌, ◌||◌, ◌&&◌, nat_le, min, ℕ, List, [], length, option_map, find, not, None, Some, IsSome, OnOk, IfOk, Bool, true, false, if◌then◌else◌};
 ghost use Rattle.std.specs.List.{list_any};
+ghost use Rattle.std.specs.Ordering.{is_eq};
+ghost use Rattle.je_order.specs.Order.{name_cmp};
 ghost use Rattle.je_order.specs.declared.name.Name.{Name as Named};
 ghost use Rattle.log_entry.specs.declared.entry.Entry.{Entry};
 ghost use Rattle.record_map.specs.Cells.{IsRising, value_at};
 ghost use Rattle.record_tree.specs.LoadedNodes.{AllNodes, node_read, HasPutNode, AreNodesStill, IsLoggedAt};
+ghost use Rattle.record_tree.specs.LoadedSlots.{AllSlots, shows_deletion, HasMoreSlots, AreSlotsStill};
 ghost use Rattle.record_tree.specs.Stored.{AllStored, stored_at, HasStored, AreStoredStill, lent, values_of};
 
 use crate::{LoadErr, RecordRef, StoredRecord};
@@ -28,6 +31,9 @@ pub trait Loads {
     /// The nodes of each database.
     ghost nodes: { Self → AllNodes };
 
+    /// Whether a name of a database has a slot that the next image of its BIN shows: that of a record, or of one that was deleted.
+    ghost slots: { Self → AllSlots };
+
     /// The node number that was allocated last, at most 2^63 - 1.
     ghost last_number: { Self → ℕ };
 
@@ -44,6 +50,7 @@ pub trait Loads {
         ensures nodes { AreNodesStill (nodes self.old) (nodes self.new) }
         ensures numbers { min last_node 0x7fffffffffffffff ≤ last_number self.new }
         ensures stored { AreStoredStill (stored self.old) (stored self.new) }
+        ensures slots { AreSlotsStill (slots self.old) (slots self.new) }
         ensures trees { (d : ℕ) → has_tree self.new d ≡ has_tree self.old d };
 
     /// Whether the database has a tree.
@@ -60,11 +67,13 @@ pub trait Loads {
         requires { has_tree self.old db ≡ false }
         ensures fits { (es : List (ℕ × Entry)) (base : ℕ) → fits self.old es base → OnOk result (fits self.new es base) }
         ensures stored { OnOk result (AreStoredStill (stored self.old) (stored self.new)) }
+        ensures slots { OnOk result (AreSlotsStill (slots self.old) (slots self.new)) }
         ensures trees { OnOk result ((d : ℕ) → has_tree self.new d ≡ ((d == db) || has_tree self.old d)) };
 
     /// Puts a node of a database's tree as the image at `at` shows it: no name in it is below `low`. The
     /// nodes of a tree come from the left, each behind those above it, and a BIN before its records. Where the image is not
-    /// to be kept as the node's last one, the node waits to be logged.
+    /// to be kept as the node's last one, the node waits to be logged. The slots that the image has of records that were deleted are put with
+    /// it, so that the node's next image has them too.
     fn load_node(
         &mut self,
         alloc: Global,
@@ -74,6 +83,7 @@ pub trait Loads {
         keeps: bool,
     ) -> Result<(), LoadErr>
         ensures stored { OnOk result (AreStoredStill (stored self.old) (stored self.new)) }
+        ensures slots { OnOk result (HasMoreSlots (slots self.old) (slots self.new) node.now.db (shows_deletion node.now.slots)) }
         ensures nodes { OnOk result (HasPutNode (nodes self.old) (nodes self.new) node.now.db (node.now.level - 1) low.now (node_read node.now.number at keeps)) };
 
     /// Puts a record of the BIN that was put last, which was logged at `at`.
@@ -86,17 +96,19 @@ pub trait Loads {
         value: &[u8],
     ) -> Result<(), LoadErr>
         ensures stored { OnOk result (HasStored (stored self.old) (stored self.new) db name.now (stored_at at (Some value.now))) }
+        ensures slots { OnOk result (HasMoreSlots (slots self.old) (slots self.new) db (λ x. is_eq (name_cmp name.now x))) }
         ensures nodes { (k : ℕ) (low : Named) → IsSome (nodes self.old db k low) → OnOk result (AreNodesStill (nodes self.old) (nodes self.new)) };
 
     /// Takes the tree of a database out, with its records. It takes no memory.
     fn drop_db(&mut self, db: u32)
         ensures stored { (d : ℕ) → stored self.new d ≡ (if d == db then [] else stored self.old d) }
+        ensures slots { (d : ℕ) (x : Named) → slots self.new d x ≡ (if d == db then false else slots self.old d x) }
         ensures trees { (d : ℕ) → has_tree self.new d ≡ (if d == db then false else has_tree self.old d) }
         ensures fits { (es : List (ℕ × Entry)) (base : ℕ) → fits self.old es base → fits self.new es base };
 
     /// Makes a committed change, which was logged at `at`: the record's new data, or none where it is
     /// deleted. A redo finds the change again from the LSN `first` on. Nodes that are split for it take the
-    /// next node numbers.
+    /// next node numbers. A record that is deleted keeps its slot. Where all this is committed already, no node changes.
     fn redo(
         &mut self,
         alloc: Global,
@@ -109,6 +121,8 @@ pub trait Loads {
         requires { has_tree self.old db ≡ true }
         ensures fits { (es : List (ℕ × Entry)) (base : ℕ) → first < base → IsLoggedAt es db name at value → fits self.old es base → OnOk result (fits self.new es base) }
         ensures stored { OnOk result (HasStored (stored self.old) (stored self.new) db name (stored_at at value)) }
+        ensures slots { OnOk result (HasMoreSlots (slots self.old) (slots self.new) db (λ x. is_eq (name_cmp name x))) }
+        ensures nodes { slots self.old db name ≡ true → value_at name (stored self.old db) ≡ stored_at at value → OnOk result (AreNodesStill (nodes self.old) (nodes self.new)) }
         ensures trees { OnOk result ((d : ℕ) → has_tree self.new d ≡ has_tree self.old d) };
 
     /// How many records the database has.

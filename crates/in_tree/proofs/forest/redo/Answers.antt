@@ -1,8 +1,13 @@
-use Rattle.std.proofs.Common.{◌*◌, ℕ, is_some, ap, sym}
+use Rattle.std.proofs.Common.{◌*◌, ℕ, Option, is_some, is_eq, ap, subst, sym}
+use Rattle.je_order.specs.Order.{name_cmp}
 use Rattle.record_tree.specs.Stored.{stored_at}
 use Rattle.db_tree.proofs.Ending.{ok_then}
-use Rattle.in_tree.proofs.StoredLaws.{stored_put, logged_change}
+use Rattle.in_tree.proofs.StoredLaws.{slots_logged, slots_put, stored_put, logged_change}
 use Rattle.db_tree.specs.Seen.{with_value}
+use Rattle.db_tree.specs.Stored.{IsLoggedAlready}
+use Rattle.db_tree.specs.declared.tree.DbTree.{DbTree}
+use Rattle.in_tree.specs.Forest.{cells_of}
+use Rattle.in_tree.proofs.LoadedLaws.{nodes_still}
 use Rattle.in_tree.proofs.Checked.{if_ok_then}
 use Rattle.in_tree.proofs.Forests.{tree_change, tree_same}
 use Rattle.in_tree.proofs.Written.{err_then}
@@ -41,3 +46,18 @@ returns-clause-same c =
     (tree_same c.args.trees.now (c.get_mut.follows.lender c.redo_in.new.tree) c.args.db c.in-Some.tree.now c.redo_in.new.tree c.in-Some.ensures.value
     ((c.get_mut.follows.holds c.redo_in.new.tree).3 (sym (ap is_some c.in-Some.ensures.value))).0)
     c.redo_in.ensures.same
+
+pub returns-clause-slots : goal.returns-clause-slots
+returns-clause-slots c =
+    ok_then c.redo_in.result
+    (λ logged. slots_put c.args.trees.now (c.get_mut.follows.lender c.redo_in.new.tree) c.args.db c.in-Some.tree.now c.redo_in.new.tree (λ x. is_eq (name_cmp c.args.name.now x)) c.in-Some.ensures.value
+    ((c.get_mut.follows.holds c.redo_in.new.tree).3 (sym (ap is_some c.in-Some.ensures.value))).0
+    (slots_logged c.in-Some.tree.now.cells c.redo_in.new.tree.cells c.args.name.now c.args.value c.args.at logged))
+    c.redo_in.ensures.logged
+
+pub returns-clause-already : goal.returns-clause-already
+returns-clause-already c = λ already.
+    ok_then c.redo_in.result
+    (nodes_still c.args.trees.now (c.get_mut.follows.lender c.redo_in.new.tree) c.args.db c.in-Some.tree.now c.redo_in.new.tree (sym c.in-Some.ensures.value)
+    ((c.get_mut.follows.holds c.redo_in.new.tree).3 (sym (ap is_some c.in-Some.ensures.value))).0)
+    (c.redo_in.ensures.already (subst (λ (o : Option DbTree). IsLoggedAlready (cells_of o) c.args.name.now c.args.at c.args.value) (sym c.in-Some.ensures.value) already))

@@ -1,5 +1,5 @@
 use Rattle.std.proofs.Common.{◌≤◌}
-use Rattle.db_tree.proofs.loading.count_there.Given as goal
+use Rattle.db_tree.proofs.loading.count_shown.Given as goal
 
 abbrev pub invariant-loop-marked : goal.invariant-loop-marked
 invariant-loop-marked l = record {
