@@ -4,8 +4,6 @@ pub mod FinishLaws
 pub mod ReadingLaws
 -- Writing one text after another.
 pub mod OutputLaws
--- The digits of a number, the last one first.
-pub mod Digits
 -- How a program ends whose arguments are valid and whose input is a script.
 pub mod EndLaws
 -- A disk that was left as it was.

@@ -17,7 +17,7 @@ use Rattle.script_text.specs.Report.{report_text}
 use Rattle.je_program.specs.declared.reading.TheConstants.{MOST_INPUT}
 use Rattle.je_program.specs.declared.cause.Cause.{Cause}
 use Rattle.je_program.specs.declared.cause.Cause.TheVariants.{Done, Usage, BadScript, Disk, Unreadable, WrongIndex, Memory, Input, InputTooLong, LogFull, IdsEnded}
-use Rattle.std.specs.Fmt.{digits}
+use Rattle.text_out.specs.Lsn.{lsn_text}
 use Rattle.je_lsn.specs.Naming.{name_of}
 use Rattle.log_replay.specs.declared.corruption.Corruption.{Corruption}
 use Rattle.log_replay.specs.declared.corruption.Corruption.TheVariants.{Damaged, Missing, Tree, VersionUnknown}
@@ -125,10 +125,6 @@ pub record IsRunOf (file_max : ℕ) (observable : Bool) (old new : History) (bef
   pub files : is_run_through cause ≡ true → observable ≡ true → MeanStore (now new).reads (final_store st journal)
   pub lengths : (is_run_through cause ≡ true) ⊎ (HasRisen before after → ⊥) → observable ≡ true → AreLengthsWithin file_max (now old).reads (now new).reads
   pub totals : counted ≡ totals_of (final_store st journal)
-
--- an LSN as it is printed: its file and its offset there, in hexadecimal digits
-abbrev pub lsn_text : ℕ → List ℕ
-lsn_text lsn = codes "0x" ++ digits 16 false (lsn / 2 ^ 32) ++ codes "/0x" ++ digits 16 false (lsn % 2 ^ 32)
 
 -- the line that tells why files cannot be opened
 abbrev pub corruption_text : Corruption → List ℕ

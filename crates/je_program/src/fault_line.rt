@@ -2,15 +2,16 @@
 ghost use Rattle.std.specs.Prelude.{◌≡◌, ◌+◌, ◌++◌, ◌≤◌, codes, decimal, length, false};
 ghost use Rattle.std.specs.Fmt.{digits};
 ghost use Rattle.arrayvec.specs.ArrayVec.{array_vec_len};
-ghost use Rattle.je_program.specs.Program.{fault_text, corruption_text, lsn_text};
+ghost use Rattle.text_out.specs.Lsn.{lsn_text};
+ghost use Rattle.je_program.specs.Program.{fault_text, corruption_text};
 
 use crate::cause::Cause;
-use crate::hexadecimal::write_hexadecimal;
 use arrayvec::ArrayVec;
 use itoa::Buffer;
 use je_lsn::{FileNo, Lsn, file_name};
 use je_order::Word;
 use log_replay::Corruption;
+use text_out::write_hexadecimal;
 
 // Puts bytes at the end of a line that has room for them.
 fn put(line: &mut ArrayVec<u8, 80>, bytes: &[u8])

@@ -7,7 +7,6 @@
 mod cause;
 mod ending;
 mod fault_line;
-mod hexadecimal;
 mod home_folder;
 mod output;
 mod program;

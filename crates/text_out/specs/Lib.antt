@@ -1,1 +1,2 @@
 pub mod OutBuffer
+pub mod Lsn

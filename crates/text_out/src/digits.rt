@@ -1,11 +1,15 @@
 // Numbers and bytes as digits.
-ghost use Rattle.std.specs.Prelude.{◌≡◌, ◌∷◌, [], decimal};
+ghost use Rattle.std.specs.Prelude.{◌≡◌, ◌∷◌, [], decimal, false};
+ghost use Rattle.std.specs.Fmt.{digits as digits_in};
 ghost use Rattle.hex.specs.Hex.{encode_lower};
 ghost use Rattle.text_out.specs.OutBuffer.{Adds, point};
+ghost use Rattle.text_out.specs.Lsn.{lsn_text};
 
+use crate::hexadecimal::write_hexadecimal;
 use crate::out_buffer::OutBuffer;
 use itoa::Buffer;
 use je_io::Sink;
+use je_lsn::Lsn;
 
 /// Sends a number's decimal digits.
 pub fn put_number<K: Sink>(buffer: &mut OutBuffer, out: &mut K, number: u64)
@@ -35,4 +39,27 @@ pub fn put_digits<K: Sink>(buffer: &mut OutBuffer, out: &mut K, bytes: &[u8])
     for byte in bytes {
         buffer.put(out, &digits_of(*byte));
     }
+}
+
+/// Sends a number's lower-case hexadecimal digits, without leading zeros.
+pub fn put_hexadecimal<K: Sink>(buffer: &mut OutBuffer, out: &mut K, number: u32)
+    ensures { Adds (point (K.written out.old) (K.faults out.old) buffer.old)
+        (point (K.written out.new) (K.faults out.new) buffer.new)
+        (digits_in 16 false number) }
+{
+    let mut piece = [0u8; 8];
+    let start = write_hexadecimal(number, &mut piece);
+    buffer.put(out, &piece[start..]);
+}
+
+/// Sends an LSN: its file and its offset there, in hexadecimal digits.
+pub fn put_lsn<K: Sink>(buffer: &mut OutBuffer, out: &mut K, at: Lsn)
+    ensures { Adds (point (K.written out.old) (K.faults out.old) buffer.old)
+        (point (K.written out.new) (K.faults out.new) buffer.new)
+        (lsn_text at) }
+{
+    buffer.put(out, b"0x");
+    put_hexadecimal(buffer, out, at.file().0);
+    buffer.put(out, b"/0x");
+    put_hexadecimal(buffer, out, at.offset());
 }

@@ -1,6 +1,6 @@
 use Rattle.std.proofs.Common.{◌≡◌, ◌<◌, ◌≤◌, ◌%◌, drop, false, ◌+◌, ◌^◌, slice_index, length}
 use Rattle.std.specs.Fmt.{digit_glyph, digits, digits_onto}
-use Rattle.je_program.proofs.hexadecimal.write_hexadecimal.Given as goal
+use Rattle.text_out.proofs.hexadecimal.write_hexadecimal.Given as goal
 
 -- the digits from `start` on are the last ones, the first of them that of what is left
 abbrev pub invariant-loop-rest : goal.invariant-loop-rest

@@ -1,0 +1,2 @@
+-- The lines of entries, one entry after another.
+mod EntryLines
