@@ -46,7 +46,7 @@ module _ {D : Type 0} (observable : Bool) (history : D → History) (sync_out re
         (abandoned most observable history old new st a its (ap (λ (s : ℕ). active_of s st.actives) own ∙ some) (λ calm. sound.numbers) at);
     numbered = tt;
     fault = ended_fault (active_of session st.actives) st ∙ none;
-    logged = inl (its.log, refl);
+    logged = inl (its.log, refl, refl);
     near = within_more old new [] (abandoned_near most observable history old new st a its at.sessions_at);
   })
     where

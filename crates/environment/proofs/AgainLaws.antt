@@ -23,7 +23,7 @@ use Rattle.environment.specs.declared.outcome.Outcome.{Outcome}
 use Rattle.environment.specs.declared.written.Written.{Written}
 use Rattle.environment.specs.Access.{HasAccessed, IsTakenUp, with_move}
 use Rattle.environment.specs.Ending.{HasAbandoned}
-use Rattle.environment.specs.Steps.{HasNotCome, IsLogStep, StandsAt}
+use Rattle.environment.specs.Steps.{HasNotCome, IsCallStep, StandsAt}
 use Rattle.environment.specs.Valid.{AreBare}
 use Rattle.environment.proofs.Answering.{owed_is, within_more}
 use Rattle.environment.proofs.CallChanges.{none_changed}
@@ -57,7 +57,7 @@ module _ {D : Type 0} (observable : Bool) (history : D → History) (sync_out re
         here = abandoned most observable history (in_sessions s before) new after a h its (λ none. up.sound.numbers) here;
         numbered = unnumbered answer st.commits calm;
         fault = up.valid ∙ ap (λ (b : Bool). cond b (Some Disk) None) (sym (faultless answer calm));
-        logged = subst (λ (b : Bool). IsLogStep observable history sync_out read_out read_of b before.engine.trees.log new.engine.trees.log []) (sym (faultless answer calm)) (inl (h.log, refl));
+        logged = subst (λ (b : Bool). IsCallStep observable history sync_out read_out read_of b before.engine new.engine.trees.log [] []) (sym (faultless answer calm)) (inl (h.log, refl, refl));
         near = within_more before new [] (within_then before (in_sessions s before) new (near_owed before s (owed_is s after stands_now ∙ owes ∙ sym (owed_is before.sessions st up.here.sessions_at))) ended_near);
       }
 

@@ -39,6 +39,7 @@ use Rattle.engine.specs.Limits.{IsBounded, IsWithin, last_number, limit_by, most
 use Rattle.engine.proofs.GuardedCalls.{guarded_along}
 use Rattle.engine.proofs.GuardedEvents.{guarded_idle, guarded_grown, guarded_tried}
 use Rattle.engine.proofs.ReachLaws.{planned_few}
+use Rattle.engine.specs.declared.engine.Engine.{Engine}
 use Rattle.serial_replay.proofs.Attempts.{reached_goes-on}
 use Rattle.environment.specs.declared.environment.Environment.{Environment}
 use Rattle.environment.specs.declared.outcome.Outcome.{Outcome}
@@ -49,7 +50,7 @@ use Rattle.log_buffer.specs.Growth.{longer}
 use Rattle.log_buffer.specs.Log.{HasLog}
 use Rattle.crash_recovery.specs.Recovery.{RecoversLog}
 use Rattle.store_model.specs.declared.record_change.RecordChange.{RecordChange}
-use Rattle.environment.specs.Steps.{CallsTo, HasCalled, IsLogStep, RecoversWith}
+use Rattle.environment.specs.Steps.{CallsTo, HasCalled, IsCallStep, IsLogStep, RecoversWith}
 use Rattle.environment.specs.Valid.{owed_by}
 use Rattle.environment.specs.Whole.{HasDone, HasLimit, IsAt, disk_of, end_file, limit_found, reach_of}
 use Rattle.je_lsn.specs.Naming.{last_file}
@@ -159,6 +160,13 @@ module _ {D : Type 0} where
                 (less observed log has g.kept.first st.store g.base g.kept.logged g.kept.recovers))
             by_either (inr all) = inr (all observed log has g.kept.first st.store g.base g.kept.logged g.kept.recovers)
 
+    -- what a call did to the log
+    pub log_step : (b : Bool) (old : Engine D) (new : LogBuffer D) (wrote more : List (List Change)) → IsCallStep observable history sync_out read_out read_of b old new wrote more →
+        IsLogStep observable history sync_out read_out read_of b old.trees.log new more
+    log_step false old new wrote more (inl idle) = inl (idle.0, idle.1)
+    log_step false old new wrote more (inr logged) = inr logged.1.grown
+    log_step true old new wrote more failed = failed
+
     -- ---- a call of a session
 
     module _ (old new : Environment D) (session line : ℕ) (call : Call) (valid : old.engine.kept.fault ≡ None) where
@@ -187,7 +195,7 @@ module _ {D : Type 0} where
       pub answers_call : (result : Result Outcome AllocError) →
           ((most : ℕ) (st : Standing) → IsAt most observable (now (history (disk_of old))) old st → CallsTo observable history sync_out read_out read_of most old new st session line call result) →
           ((P : Unit {0}) → OnErr result (IsWithin (reach_of new) (reach_of old))) →
-          AnswersCall observable history old new session line call result
+          AnswersCall observable history sync_out read_out read_of old new session line call result
       answers_call (Ok o) comes near = record {
         goes_on = λ most st here. at_done most st o.answer o.victims here (comes most st here);
         exact = λ most st here. let has = comes most st here in (has.limit, has.has_limit, has.answers);
@@ -195,7 +203,8 @@ module _ {D : Type 0} where
         grows = λ most st here. (comes most st here).near;
         crash = λ observed most st start journal here is.
             let has = comes most (after_events st journal) here in
-            guarded_step st start old.engine.trees.log new.engine.trees.log journal (called session line call o) _ is.0 observed refl has.logged refl refl (fault_none most (after_events st journal) here) has.fault is.1;
+            guarded_step st start old.engine.trees.log new.engine.trees.log journal (called session line call o) _ is.0 observed refl (log_step (is_disk_fault o.answer) old.engine new.engine.trees.log _ _ has.logged) refl refl (fault_none most (after_events st journal) here) has.fault is.1;
+        appends = λ most st here. (comes most st here).logged;
         stays = tt;
       }
       answers_call (Err error) comes near = record {
@@ -206,5 +215,6 @@ module _ {D : Type 0} where
         crash = λ observed most st start journal here is.
             let has = comes most (after_events st journal) here in
             (is.0, guarded_along history st is.0 start old.engine.trees.log new.engine.trees.log journal has.log is.1 (fault_none most (after_events st journal) here));
+        appends = λ most st here. tt;
         stays = near tt;
       }

@@ -44,7 +44,7 @@ use Rattle.environment.specs.declared.environment.Environment.{Environment}
 use Rattle.environment.specs.declared.outcome.Outcome.{Outcome as Told}
 use Rattle.environment.specs.Auto.{IsAutoAt, alone_in, changes_auto, outcome_auto}
 use Rattle.environment.specs.Calls.{HasCause, IsOnRecords}
-use Rattle.environment.specs.Steps.{ComesTo, HasCome, HasNotCome, IsLogStep}
+use Rattle.environment.specs.Steps.{ComesTo, HasCome, HasNotCome, IsCallStep}
 use Rattle.environment.specs.Valid.{AreBare, fitting}
 use Rattle.environment.specs.Whole.{reach_of}
 use Rattle.environment.proofs.Answering.{owed_is, within_more}
@@ -155,7 +155,7 @@ module _ {D : Type 0} (observable : Bool) (history : D → History) (sync_out re
         };
         numbered = unnumbered answer after.commits calm;
         fault = leaves.fault ∙ may.valid ∙ ap (λ (b : Bool). cond b (Some Disk) None) (sym (faultless answer calm));
-        logged = subst (λ (b : Bool). IsLogStep observable history sync_out read_out read_of b e.engine.trees.log e.engine.trees.log []) (sym (faultless answer calm)) (inl (same_buffer e.engine.trees.log, refl));
+        logged = subst (λ (b : Bool). IsCallStep observable history sync_out read_out read_of b e.engine e.engine.trees.log [] []) (sym (faultless answer calm)) (inl (same_buffer e.engine.trees.log, refl, refl));
         near = within_more e (with_begun e last s) [] (near_fewer e s last (omega (arith, owed_new, owed_old, fewer, same)));
       })
 
@@ -213,7 +213,7 @@ module _ {D : Type 0} (observable : Bool) (history : D → History) (sync_out re
             here = drawn_after most observable history e s last st after (omega (arith, last_is, next)) leaves stands may.at.apart may.at;
             numbered = unnumbered answer after.commits calm;
             fault = may.valid ∙ ap (λ (b : Bool). cond b (Some Disk) None) (sym (faultless answer calm));
-            logged = subst (λ (b : Bool). IsLogStep observable history sync_out read_out read_of b e.engine.trees.log e.engine.trees.log []) (sym (faultless answer calm)) (inl (same_buffer e.engine.trees.log, refl));
+            logged = subst (λ (b : Bool). IsCallStep observable history sync_out read_out read_of b e.engine e.engine.trees.log [] []) (sym (faultless answer calm)) (inl (same_buffer e.engine.trees.log, refl, refl));
             near = within_more e (with_begun e last s) [] (near_fewer e s last (omega (arith, owed_new, owed_old, fewer)));
           }
 

@@ -74,7 +74,7 @@ use Rattle.environment.specs.declared.environment.Environment.{Environment}
 use Rattle.environment.specs.Auto.{IsAutoAt, IsLoggedAuto, alone_in, changes_auto, outcome_auto}
 use Rattle.environment.specs.Calls.{IsOnRecords}
 use Rattle.environment.specs.Changing.{IsRightIn}
-use Rattle.environment.specs.Steps.{HasCome, HasNotCome, HasStepped, IsLogStep, StandsAt}
+use Rattle.environment.specs.Steps.{HasCome, HasNotCome, HasStepped, IsCallStep, StandsAt}
 use Rattle.environment.specs.Valid.{IsValidWith, owed_by, fitting, KnowsDatabases}
 use Rattle.environment.specs.Whole.{HasLimit, limit_found, reach_of}
 use Rattle.environment.proofs.Answering.{owed_is}
@@ -247,7 +247,7 @@ module _ {D : Type 0} (observable : Bool) (history : D → History) (sync_out re
 
     comes_by : (n : Engine D) (s : Sessions) (answer : Answer) (old after : Standing) → After_ answer ≡ after → Logs_ n (Ok answer) → Near_ n (Ok answer) → StandsAt most observable history (with_engine e n) old → LeavesSame old after →
         AreSessionsAt s after → HaveOwnWaits after.waiting → owing after ≤ owing st → IsLogged (log_limit Found) (due there_ a_ ev_) answer → Rattle.engine.specs.Steps.IsNumbered answer after.commits →
-        after.fault ≡ cond (is_disk_fault answer) (Some Disk) None → IsLogStep observable history sync_out read_out read_of (is_disk_fault answer) e.engine.trees.log n.trees.log (tried all_ (fate_of answer)) →
+        after.fault ≡ cond (is_disk_fault answer) (Some Disk) None → IsCallStep observable history sync_out read_out read_of (is_disk_fault answer) e.engine n.trees.log (tried all_ (fate_of answer)) (tried all_ (fate_of answer)) →
         HasCome observable history sync_out read_out read_of most e (with_both e n s) st session line call answer []
     comes_by n s answer old after is logs near stands leaves sessions apart less answers numbered fault step =
         come_ready observable history sync_out read_out read_of most e (with_both e n s) st session line call g answer may.db ev_ may.records may.late may.outside may.target free refl
@@ -278,7 +278,7 @@ module _ {D : Type 0} (observable : Bool) (history : D → History) (sync_out re
     -- it is refused
     refused : (n : Engine D) (s : Sessions) (answer : Answer) → Logs_ n (Ok answer) → Near_ n (Ok answer) → StandsAt most observable history (with_engine e n) (record st { last_txn = next_txn st.last_txn }) → Closed s →
         fate_of answer ≡ Rattle.je_answers.specs.After.IsRefused → is_disk_fault answer ≡ false → ((k : ℕ) → Rattle.engine.specs.Steps.IsNumbered answer k) → IsLogged (log_limit Found) (due there_ a_ ev_) answer →
-        IsLogStep observable history sync_out read_out read_of false e.engine.trees.log n.trees.log [] → HasCome observable history sync_out read_out read_of most e (with_both e n s) st session line call answer []
+        IsCallStep observable history sync_out read_out read_of false e.engine n.trees.log [] [] → HasCome observable history sync_out read_out read_of most e (with_both e n s) st session line call answer []
     refused n s answer logs near stands closed fate calm numbered answers step =
         let after : Standing = ended a_ (answered a_ call g there_) in
         let drawn : Standing = record st { last_txn = next_txn st.last_txn } in
@@ -288,8 +288,8 @@ module _ {D : Type 0} (observable : Bool) (history : D → History) (sync_out re
         let sessions : AreSessionsAt s after = sessions_closed observable history sync_out read_out read_of most e st session call g may s [] after closed refl (λ u. u) refl own_is (λ n. refl) refl refl in
         comes_by n s answer drawn after (ap (λ (f : Rattle.je_answers.specs.After.Fate). after_fate f st there_ a_ call g ev_) fate) logs near stands leaves sessions may.at.apart less answers (numbered _)
         (may.valid ∙ ap (λ (b : Bool). cond b (Some Disk) None) (sym calm))
-        (subst (λ (b : Bool). IsLogStep observable history sync_out read_out read_of b e.engine.trees.log n.trees.log (tried all_ (fate_of answer))) (sym calm)
-        (subst (λ (f : Rattle.je_answers.specs.After.Fate). IsLogStep observable history sync_out read_out read_of false e.engine.trees.log n.trees.log (tried all_ f)) (sym fate) step))
+        (subst (λ (b : Bool). IsCallStep observable history sync_out read_out read_of b e.engine n.trees.log (tried all_ (fate_of answer)) (tried all_ (fate_of answer))) (sym calm)
+        (subst (λ (f : Rattle.je_answers.specs.After.Fate). IsCallStep observable history sync_out read_out read_of false e.engine n.trees.log (tried all_ f) (tried all_ f)) (sym fate) step))
 
     -- it is logged
     low_of : planned.last_db ≤ LAST_DATABASE → ArePlanned rows_ st.last_db log.change log.more planned.changes.items None
@@ -357,11 +357,11 @@ module _ {D : Type 0} (observable : Bool) (history : D → History) (sync_out re
     pub comes_full : (n : Engine D) (s : Sessions) → Logs_ n (Ok LogFull) → Near_ n (Ok LogFull) → Rattle.engine.specs.Whole.AreSameCells e.engine.trees n.trees → AreSameMaps e.engine.kept n.kept → Closed s →
         HasCome observable history sync_out read_out read_of most e (with_both e n s) st session line call LogFull []
     comes_full n s logs near cells maps closed =
-        refused n s LogFull logs near (drawn_on n logs.1 logs.2 cells maps) closed refl refl (λ k. tt) (subst (λ (l : Option Answer). IsLogged (log_limit l) (Logged (st.commits + 1)) LogFull) (sym logs.0) refl) (inl (logs.2, refl))
+        refused n s LogFull logs near (drawn_on n logs.1 logs.2 cells maps) closed refl refl (λ k. tt) (subst (λ (l : Option Answer). IsLogged (log_limit l) (Logged (st.commits + 1)) LogFull) (sym logs.0) refl) (inl (logs.2, refl, refl))
 
     pub comes_ended : (n : Engine D) (s : Sessions) → Logs_ n (Ok IdsEnded) → Near_ n (Ok IdsEnded) → Rattle.engine.specs.Whole.AreSameCells e.engine.trees n.trees → AreSameMaps e.engine.kept n.kept → Closed s → e.engine.kept.last_db ≤ LAST_DATABASE →
         HasCome observable history sync_out read_out read_of most e (with_both e n s) st session line call IdsEnded []
-    comes_ended n s logs near cells maps closed few = refused n s IdsEnded logs near (drawn_on n logs.1 logs.2 cells maps) closed refl refl (λ k. tt) (by_limit logs.0) (inl (logs.2, refl))
+    comes_ended n s logs near cells maps closed few = refused n s IdsEnded logs near (drawn_on n logs.1 logs.2 cells maps) closed refl refl (λ k. tt) (by_limit logs.0) (inl (logs.2, refl, refl))
       where
         by_limit : (Found ≡ Some IdsEnded) ⊎ ((Found ≡ None) × (LAST_DATABASE < planned.last_db)) → IsLogged (log_limit Found) (Logged (st.commits + 1)) IdsEnded
         by_limit (inl is) = subst (λ (l : Option Answer). IsLogged (log_limit l) (Logged (st.commits + 1)) IdsEnded) (sym is) refl

@@ -217,7 +217,7 @@ module _ {D : Type 0} (observable : Bool) (history : D → History) (sync_out re
             (subst (λ (n : ℕ). StandsAt most observable history e (record st { last_txn = n })) (sym (ap (λ (b : Bool). cond b (st.last_txn + 1) st.last_txn) ended)) at);
         numbered = tt;
         fault = drawn_fault (active_of session st.actives) ∙ none;
-        logged = inl (same_buffer e.engine.trees.log, refl);
+        logged = inl (same_buffer e.engine.trees.log, refl, refl);
         near = within_more e e [] (same_reach e);
       })
     where
@@ -239,7 +239,7 @@ module _ {D : Type 0} (observable : Bool) (history : D → History) (sync_out re
         here = subst (λ (x : TxnId). StandsAt most observable history (with_begun e last s) (begun_with (a x) st)) same (begun_at most observable history e s last st (a t) sound left is next at sessions_now);
         numbered = tt;
         fault = none;
-        logged = inl (same_buffer e.engine.trees.log, refl);
+        logged = inl (same_buffer e.engine.trees.log, refl, refl);
         near = within_more e (with_begun e last s) []
             (near_owed e s (owed_is s (begun_with (a t) st) sessions_now ∙ owing_begun st (a t) (none_own st (a t) sound left is) ∙ sym (owed_is e.sessions st at.sessions_at)));
       })

@@ -60,7 +60,7 @@ use Rattle.environment.specs.declared.environment.Environment.{Environment}
 use Rattle.environment.specs.Calls.{ChangesCatalog}
 use Rattle.environment.specs.Catalog.{IsFreeToChange, IsUsedBy, IsUserOf, changed_number, IsUserBefore}
 use Rattle.environment.specs.Limits.{owing_with, written_evaluated}
-use Rattle.environment.specs.Steps.{HasCome, IsLogStep, PerformsAnswer, StandsAt}
+use Rattle.environment.specs.Steps.{Appends, HasCome, IsCallStep, PerformsAnswer, StandsAt}
 use Rattle.environment.specs.Valid.{active_number, fitting, Lives}
 use Rattle.environment.specs.Whole.{CanGoOn, HasLimit, reach_of}
 use Rattle.environment.proofs.Answering.{within_more}
@@ -336,7 +336,7 @@ module _ {D : Type 0} where
         HasLimit old (owing st + 1) changes limit → IsEvaluated (late_refusal st session call) limit st session line call answer [] →
         after_evaluated (late_refusal st session call) st session line call answer [] ≡ with_alone after st →
         StandsAt most observable history new (with_alone after st) → IsNumbered answer after.commits → after.fault ≡ cond (is_disk_fault answer) (Some Disk) None →
-        IsLogStep observable history sync_out read_out read_of (is_disk_fault answer) old.engine.trees.log new.engine.trees.log (tried changes (fate_of answer)) →
+        IsCallStep observable history sync_out read_out read_of (is_disk_fault answer) old.engine new.engine.trees.log (tried changes (fate_of answer)) (tried changes (fate_of answer)) →
         IsWithin (reach_of new) (reach_after (reach_of old) changes) → HasCome observable history sync_out read_out read_of most old new st session line call answer []
     come most old new st session line call answer changes limit after none written committed_ has answers_ leaves here numbered fault logged near = record {
       limit = limit;
@@ -346,7 +346,8 @@ module _ {D : Type 0} where
       here = subst (StandsAt most observable history new) (sym leaves) here;
       numbered = subst (λ (s : Standing). IsNumbered answer s.commits) (sym leaves) numbered;
       fault = ap (λ (s : Standing). s.fault) leaves ∙ fault;
-      logged = subst (λ (cs : List Change). IsLogStep observable history sync_out read_out read_of (is_disk_fault answer) old.engine.trees.log new.engine.trees.log (tried cs (fate_of answer))) (sym committed_) logged;
+      logged = subst (λ (cs : List Change). Appends observable history sync_out read_out read_of old new cs (tried (changes_evaluated (late_refusal st session call) st session call) (fate_of answer)) answer) (sym written)
+          (subst (λ (cs : List Change). Appends observable history sync_out read_out read_of old new changes (tried cs (fate_of answer)) answer) (sym committed_) logged);
       near = subst (λ (cs : List Change). IsWithin (reach_of new) (reach_after (reach_of old) cs)) (sym written) near;
     }
 
@@ -355,7 +356,7 @@ module _ {D : Type 0} where
         early_refusal st session call ≡ None → st.fault ≡ None → (outcome_alone (alone_of st) session call).changes ≡ changes → (late_refusal (alone (alone_of st)) session call ≡ None → IsFreeToChange st call) →
         HasLimit old (owing st + 1) changes limit → EndsAlone limit (alone_of st) session call answer after →
         StandsAt most observable history new (with_alone after st) → IsNumbered answer after.commits → after.fault ≡ cond (is_disk_fault answer) (Some Disk) None →
-        IsLogStep observable history sync_out read_out read_of (is_disk_fault answer) old.engine.trees.log new.engine.trees.log (tried changes (fate_of answer)) →
+        IsCallStep observable history sync_out read_out read_of (is_disk_fault answer) old.engine new.engine.trees.log (tried changes (fate_of answer)) (tried changes (fate_of answer)) →
         IsWithin (reach_of new) (reach_after (reach_of old) changes) → HasCome observable history sync_out read_out read_of most old new st session line call answer []
     come_alone most old new st session line call answer changes limit after is early none outcome free has ends here numbered fault logged near =
         let p : Alone = alone_of st in
@@ -399,7 +400,7 @@ module _ {D : Type 0} where
             let late = ended_late (alone_of st) session call (none_left st.last_txn past) in
             come_alone most e e st session line call IdsEnded [] None (alone_of st) is early none
             (ap (λ (l : Option Answer). (outcome_unless l (performed_outcome (alone_of st) session call)).changes) late) (λ unrefused_. absurd (not_some IdsEnded (sym late ∙ unrefused_))) refl
-            (no_number_ends None (alone_of st) session call none past) at tt none (inl (same_buffer e.engine.trees.log, refl)) (within_more e e [] (same_reach e));
+            (no_number_ends None (alone_of st) session call none past) at tt none (inl (same_buffer e.engine.trees.log, refl, refl)) (within_more e e [] (same_reach e));
         near = tt;
         bounds = bounds;
         cause = record { never_falls = omega arith; fault = λ done. absurd (never_ended done) };
@@ -424,7 +425,7 @@ module _ {D : Type 0} where
             (λ late. free most st at sound (unrefused p session call answer is late (sym (ap (λ (l : Option Answer). outcome_unless l (performed_outcome p session call)) late) ∙ planned))) refl
             (answered_ends None (known (contents_of e.engine)) p session call answer none (auto_is call is) planned)
             (drawn_here most e st below at) (unnumbered answer st.commits calm) (none ∙ ap (λ (b : Bool). cond b (Some Disk) None) (sym (faultless answer calm)))
-            (subst (λ (b : Bool). IsLogStep observable history sync_out read_out read_of b e.engine.trees.log e.engine.trees.log []) (sym (faultless answer calm)) (inl (same_buffer e.engine.trees.log, refl)))
+            (subst (λ (b : Bool). IsCallStep observable history sync_out read_out read_of b e.engine e.engine.trees.log [] []) (sym (faultless answer calm)) (inl (same_buffer e.engine.trees.log, refl, refl)))
             (within_more e (with_begun e (e.engine.kept.last_txn + 1) e.sessions) [] (record { file = omega arith; node = omega arith }));
         near = tt;
         bounds = let within : e.engine.kept.commits ≤ e.engine.kept.last_txn = bounds in omega (arith, within);

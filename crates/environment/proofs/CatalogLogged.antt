@@ -92,7 +92,7 @@ use Rattle.environment.specs.declared.environment.Environment.{Environment}
 use Rattle.environment.specs.declared.written.OwnNames.{OwnNames}
 use Rattle.environment.specs.Calls.{ChangesCatalog}
 use Rattle.environment.specs.Catalog.{FollowMaps, FollowsCall, made_logged, names_logged, IsFreeToChange, IsPlannedAs, IsUsedBy}
-use Rattle.environment.specs.Steps.{ComesToAnswer, HasCome, IsLogStep, StandsAt, PerformsAnswer}
+use Rattle.environment.specs.Steps.{ComesToAnswer, HasCome, IsCallStep, StandsAt, PerformsAnswer}
 use Rattle.environment.specs.Valid.{IsValidWith, owed_by, fitting, Forest, KnowsDatabases, HaveDatabases, made_at, name_at, index_made}
 use Rattle.environment.specs.Whole.{HasLimit, limit_found, reach_of, CanGoOn}
 use Rattle.environment.proofs.BeginLaws.{next_is, with_begun}
@@ -415,20 +415,25 @@ module _ {D : Type 0} where
 
       -- the log got the entries, or tried them
       pub logged_step : (n : Engine D) → HasAppended observable history sync_out read_out read_of e.engine.trees.log n.trees.log (txn_of (e.engine.kept.last_txn + 1)) planned.changes.items →
-          IsLogStep observable history sync_out read_out read_of false e.engine.trees.log n.trees.log ((log.change ∷ log.more) ∷ [])
+          IsCallStep observable history sync_out read_out read_of false e.engine n.trees.log ((log.change ∷ log.more) ∷ []) ((log.change ∷ log.more) ∷ [])
       logged_step n a =
           let added : HasAdded observable history sync_out read_out read_of e.engine.trees.log n.trees.log (LogsTransaction (txn_of (e.engine.kept.last_txn + 1)) planned.changes.items) =
           record { entries = a.entries; logs = a.logs; grew = a.grew; room = record { max = e.engine.trees.log.max; entries_are = a.fits.entries_are; room = a.fits.room } } in
-          inr (record {
-            entries = a.entries;
-            grew = a.grew;
-            recovers = commit_recovered_in observable history sync_out read_out read_of (at.valid none).log e.engine.trees.log n.trees.log (committed (cells_of e.engine.trees))
-                (rows_after planned.changes.items planned.gone (committed (cells_of e.engine.trees))) e.engine.kept.last_txn e.engine.kept.last_db (e.engine.kept.last_db + made_by (log.change ∷ log.more)) (λ t. false) (λ t. [])
-                (λ d. is_gone d planned.gone) (txn_of (e.engine.kept.last_txn + 1)) [] planned.changes.items (log.change ∷ log.more) given_of may_of leaves_of.store added;
+          inr (txn_of (e.engine.kept.last_txn + 1), record {
+            grown = record {
+              entries = a.entries;
+              grew = a.grew;
+              recovers = commit_recovered_in observable history sync_out read_out read_of (at.valid none).log e.engine.trees.log n.trees.log (committed (cells_of e.engine.trees))
+                  (rows_after planned.changes.items planned.gone (committed (cells_of e.engine.trees))) e.engine.kept.last_txn e.engine.kept.last_db (e.engine.kept.last_db + made_by (log.change ∷ log.more)) (λ t. false) (λ t. [])
+                  (λ d. is_gone d planned.gone) (txn_of (e.engine.kept.last_txn + 1)) [] planned.changes.items (log.change ∷ log.more) given_of may_of leaves_of.store added;
+            };
+            planned = planned.changes.items;
+            rows = log.rows 0;
+            logs = a.logs;
           })
 
       pub tried_step : (n : Engine D) → HasTried observable history sync_out read_out read_of e.engine.trees.log n.trees.log (txn_of (e.engine.kept.last_txn + 1)) planned.changes.items →
-          IsLogStep observable history sync_out read_out read_of true e.engine.trees.log n.trees.log ((log.change ∷ log.more) ∷ [])
+          IsCallStep observable history sync_out read_out read_of true e.engine n.trees.log ((log.change ∷ log.more) ∷ []) ((log.change ∷ log.more) ∷ [])
       tried_step n a =
           let failed : HasFailed observable history sync_out read_out read_of e.engine.trees.log n.trees.log (LogsTransaction (txn_of (e.engine.kept.last_txn + 1)) planned.changes.items) =
           record { entries = a.entries; front = a.front; logs = a.logs; is_front = a.is_front; tried = a.tried; room = record { max = e.engine.trees.log.max; entries_are = a.fits.entries_are; room = a.fits.room } } in
@@ -512,7 +517,7 @@ module _ {D : Type 0} where
           EndsNear e.engine.trees n.trees (length planned.changes.items) (Ok answer) →
           EndsAlone limit_of (alone_of st) session call answer after → StandsAt most observable history (with_engine e n) (with_alone after st) → IsNumbered answer after.commits →
           after.fault ≡ cond (is_disk_fault answer) (Some Disk) None →
-          IsLogStep observable history sync_out read_out read_of (is_disk_fault answer) e.engine.trees.log n.trees.log (tried (log.change ∷ log.more) (fate_of answer)) →
+          IsCallStep observable history sync_out read_out read_of (is_disk_fault answer) e.engine n.trees.log (tried (log.change ∷ log.more) (fate_of answer)) (tried (log.change ∷ log.more) (fate_of answer)) →
           HasCome observable history sync_out read_out read_of most e (with_engine e n) st session line call answer []
       comes_by n answer after logs near ends here numbered fault step =
           come_alone observable history sync_out read_out read_of most e (with_engine e n) st session line call answer (log.change ∷ log.more) limit_of after is early none log.changes (λ late. free)
@@ -572,14 +577,14 @@ module _ {D : Type 0} where
           let p : Alone = alone_of st in
           comes_by n LogFull (drawn_alone p) logs near
           (subst (λ (l : Option Answer). EndsAlone l p session call LogFull (drawn_alone p)) (sym logs.0) (full_ends (known (contents_of e.engine)) p session call planned none (auto_is call is) log))
-          (drawn_same most e n st at below logs.1 logs.2 same (λ calm. knows)) tt none (inl (logs.2, refl))
+          (drawn_same most e n st at below logs.1 logs.2 same (λ calm. knows)) tt none (inl (logs.2, refl, refl))
 
       comes_ended : (n : Engine D) →
           LogsChanges observable history sync_out read_out read_of e.engine.trees.log n.trees.log (contents_of e.engine) (contents_of n) planned (limit_found fills e.engine.trees planned.changes.items (owing st + 1)) (Ok IdsEnded) →
           EndsNear e.engine.trees n.trees (length planned.changes.items) (Ok IdsEnded) → AreSameCells e.engine.trees n.trees → KnowsDatabases st n.kept → e.engine.kept.last_db ≤ LAST_DATABASE →
           HasCome observable history sync_out read_out read_of most e (with_engine e n) st session line call IdsEnded []
       comes_ended n logs near same knows few =
-          comes_by n IdsEnded (drawn_alone (alone_of st)) logs near (by_limit logs.0) (drawn_same most e n st at below logs.1 logs.2 same (λ calm. knows)) tt none (inl (logs.2, refl))
+          comes_by n IdsEnded (drawn_alone (alone_of st)) logs near (by_limit logs.0) (drawn_same most e n st at below logs.1 logs.2 same (λ calm. knows)) tt none (inl (logs.2, refl, refl))
         where
           by_limit : (limit_of ≡ Some IdsEnded) ⊎ ((limit_of ≡ None) × (LAST_DATABASE < planned.last_db)) → EndsAlone limit_of (alone_of st) session call IdsEnded (drawn_alone (alone_of st))
           by_limit (inl ended) = subst (λ (l : Option Answer). EndsAlone l (alone_of st) session call IdsEnded (drawn_alone (alone_of st))) (sym ended)
@@ -683,7 +688,7 @@ module _ {D : Type 0} where
           (has_limit_as e (owing st + 1) p session call fills planned its)
           (subst (λ (l : Option Answer). IsEvaluated l limit st session line call (DatabaseInUse t) []) (sym late) (in_use_answers limit st session line call t is (used most st at sound)))
           (ap (λ (l : Option Answer). after_evaluated l st session line call (DatabaseInUse t) []) late ∙ in_use_leaves st session line call t is out)
-          (drawn_here observable history sync_out read_out read_of most e st below at) tt none (inl (same_buffer e.engine.trees.log, refl))
+          (drawn_here observable history sync_out read_out read_of most e st below at) tt none (inl (same_buffer e.engine.trees.log, refl, refl))
           (within_more e (with_begun e (e.engine.kept.last_txn + 1) e.sessions) (log.change ∷ log.more) (record { file = omega arith; node = omega arith }));
       near = tt;
       bounds = let within : e.engine.kept.commits ≤ e.engine.kept.last_txn = bounds in omega (arith, within);
@@ -713,7 +718,7 @@ module _ {D : Type 0} where
           refl
           (subst (λ (l : Option Answer). IsEvaluated l None st session line call (DatabaseInUse t) []) (sym late) (in_use_answers None st session line call t is (used most st at sound)))
           (ap (λ (l : Option Answer). after_evaluated l st session line call (DatabaseInUse t) []) late ∙ in_use_leaves st session line call t is out)
-          (drawn_here observable history sync_out read_out read_of most e st below at) tt none (inl (same_buffer e.engine.trees.log, refl))
+          (drawn_here observable history sync_out read_out read_of most e st below at) tt none (inl (same_buffer e.engine.trees.log, refl, refl))
           (within_more e (with_begun e (e.engine.kept.last_txn + 1) e.sessions) [] (record { file = omega arith; node = omega arith }));
       near = tt;
       bounds = let within : e.engine.kept.commits ≤ e.engine.kept.last_txn = bounds in omega (arith, within);

@@ -21,7 +21,11 @@ use Rattle.je_answers.specs.After.{after_fate, answered, closed, ended, fate_of,
 use Rattle.je_answers.specs.After.{committed as committed_to}
 use Rattle.je_answers.specs.After.Fate.{Succeeds}
 use Rattle.je_answers.specs.Journal.{changes_closed, is_disk_fault}
+use Rattle.je_order.specs.declared.txn_id.TxnId.{TxnId}
 use Rattle.log_entry.specs.declared.entry.Entry.{Entry}
+use Rattle.log_entry.specs.declared.entry.Entry.TheVariants.{Commit as Committed}
+use Rattle.record_tree.specs.Logged.{LogsChanges}
+use Rattle.engine.specs.declared.engine.Engine.{Engine}
 use Rattle.log_file.specs.Log.{Log}
 use Rattle.log_buffer.specs.declared.buffer.LogBuffer.{LogBuffer}
 use Rattle.log_buffer.specs.Buffer.{IsUnchanged, end_of, file_max_of}
@@ -31,7 +35,7 @@ use Rattle.log_entry.specs.Encoding.{size_of}
 use Rattle.log_buffer.specs.Growth.{Grew, log_with_all, longer}
 use Rattle.log_buffer.proofs.GrowthLaws.{grew_then, grew_unchanged, tried_then, with_all-append}
 use Rattle.crash_recovery.specs.Recovery.{RecoversLog}
-use Rattle.standing_laws.specs.Right.{AreNumbered}
+use Rattle.standing_laws.specs.Right.{AreNumbered, txn_id}
 use Rattle.engine.proofs.CalmAnswers.{IsCalm, faultless}
 use Rattle.engine.specs.Limits.{IsWithin, reach_after}
 use Rattle.environment.specs.declared.environment.Environment.{Environment}
@@ -41,7 +45,7 @@ use Rattle.environment.specs.Committing.{HasNotSettled, HasSettled, is_set}
 use Rattle.environment.specs.Ending.{HasAbandoned}
 use Rattle.environment.specs.Limits.{owing_with}
 use Rattle.environment.specs.OwnEnds.{AreEndedBy, HasPushedAndLogged, answer_for}
-use Rattle.environment.specs.Steps.{HasFailedWith, HasGrown, HasStepped, IsLogStep, RecoversWith, StandsAt}
+use Rattle.environment.specs.Steps.{HasFailedWith, HasGrown, HasLoggedCall, HasStepped, IsCallStep, RecoversWith, StandsAt}
 use Rattle.environment.specs.Whole.{HasLimit, reach_of}
 use Rattle.environment.specs.Written.{had_at}
 use Rattle.environment.proofs.CommitLaws.{failed_then, grown_then, had_within, is_under_way, owing_one, settled, settled_near}
@@ -112,11 +116,6 @@ module _ {D : Type 0} (observable : Bool) (history : D → History) (sync_out re
     recovers = λ observed log has f o base ts rec. subst (λ (l : List (List Change)). RecoversLog f o base l log) (sym (append-nil ts)) rec;
   }
 
-  is_grown : (x y : LogBuffer D) (b : Bool) → b ≡ false → IsLogStep observable history sync_out read_out read_of b x y [] → HasGrown observable history sync_out read_out read_of x y []
-  is_grown x y true is step = absurd (true≢false is)
-  is_grown x y false is (inl h) = none_more x y h.0
-  is_grown x y false is (inr h) = h
-
   both_grown : (x y z : LogBuffer D) (more : List (List Change)) → HasGrown observable history sync_out read_out read_of x y [] → HasGrown observable history sync_out read_out read_of y z more →
       HasGrown observable history sync_out read_out read_of x z more
   both_grown x y z more first second = record {
@@ -124,6 +123,26 @@ module _ {D : Type 0} (observable : Bool) (history : D → History) (sync_out re
     grew = grew_then observable history sync_out read_out read_of x y z first.entries second.entries first.grew second.grew;
     recovers = recovers_then x y first.entries second.entries more first.grew first.recovers second.recovers;
   }
+
+  -- a Commit behind the entries of changes
+  committed_behind : (x : Engine D) (y z : LogBuffer D) (wrote : List (List Change)) (changes : List Change) (txn : TxnId) → HasLoggedCall observable history sync_out read_out read_of x y wrote [] txn →
+      (second : HasGrown observable history sync_out read_out read_of y z (changes ∷ [])) → second.entries ≡ Committed txn ∷ [] → HasLoggedCall observable history sync_out read_out read_of x z wrote (changes ∷ []) txn
+  committed_behind x y z wrote changes txn first second is = record {
+    grown = both_grown x.trees.log y z (changes ∷ []) first.grown second;
+    planned = first.planned;
+    rows = first.rows;
+    logs = (first.grown.entries, first.logs, ap (λ (l : List Entry). first.grown.entries ++ l) is);
+  }
+
+  -- nothing more
+  idle_then : (x : Engine D) (y z : LogBuffer D) → IsCallStep observable history sync_out read_out read_of false x y [] [] → IsUnchanged y z → IsCallStep observable history sync_out read_out read_of false x z [] []
+  idle_then x y z (inl h) same = inr (txn_id 0, record { grown = both_grown x.trees.log y z [] (none_more x.trees.log y h.0) (none_more y z same); planned = []; rows = refl; logs = refl })
+  idle_then x y z (inr h) same = inr (h.0, record {
+    grown = both_grown x.trees.log y z [] h.1.grown (none_more y z same);
+    planned = h.1.planned;
+    rows = h.1.rows;
+    logs = subst (LogsChanges h.0 h.1.planned) (sym (append-nil h.1.grown.entries)) h.1.logs;
+  })
 
   -- a log that failed was to commit more, or not
   more_failed : (x y : LogBuffer D) (more : List (List Change)) → HasFailedWith observable history sync_out read_out read_of x y [] → HasFailedWith observable history sync_out read_out read_of x y more
@@ -188,10 +207,10 @@ module _ {D : Type 0} (observable : Bool) (history : D → History) (sync_out re
     named : changes_named then_ (then_.own a.txn.0) ≡ all_
     named = ap (changes_named then_) own_then ∙ names_in st cs each
 
-    pub ends_done : (records : ℕ) → Up Done → HasSettled observable history sync_out read_out read_of faults old new a.session a.txn records →
+    pub ends_done : (records : ℕ) → Up Done → HasLoggedCall observable history sync_out read_out read_of before.engine old.engine.trees.log (all_ ∷ []) [] a.txn → HasSettled observable history sync_out read_out read_of faults old new a.session a.txn records →
         records + had_at a.txn old.written.by_txn.entries ≡ old.engine.kept.totals.records + count_by (λ (c : ℕ × RecordChange). is_set c.1) (then_.own a.txn.0) →
         Ends (λ b. closed b a all_ then_) (Logged (st.commits + 1))
-    ends_done records w h sum = subst (Autos (λ b. closed b a all_ then_) (Logged (st.commits + 1))) (sym auto) (record {
+    ends_done records w logs h sum = subst (Autos (λ b. closed b a all_ then_) (Logged (st.commits + 1))) (sym auto) (record {
       limit = w.limit;
       has_limit = w.has_limit;
       answers = (logged_well w.limit ev.answer (Logged (st.commits + 1)) well w.answers, refl);
@@ -199,9 +218,9 @@ module _ {D : Type 0} (observable : Bool) (history : D → History) (sync_out re
           (settled observable history sync_out read_out read_of faults old new then_ a records most h its some_then sum none w.here);
       numbered = refl;
       fault = none;
-      logged = inr (both_grown before.engine.trees.log old.engine.trees.log new.engine.trees.log (all_ ∷ []) (is_grown before.engine.trees.log old.engine.trees.log (is_disk_fault ev.answer) (faultless ev.answer calm) w.logged)
-          (subst (λ (l : List Change). HasGrown observable history sync_out read_out read_of old.engine.trees.log new.engine.trees.log (l ∷ [])) named
-          (grown_then observable history sync_out read_out read_of faults old new then_ a records (w.here.valid none) h its)));
+      logged = inr (a.txn, subst (λ (l : List Change). HasLoggedCall observable history sync_out read_out read_of before.engine new.engine.trees.log (all_ ∷ []) (l ∷ []) a.txn) named
+          (committed_behind before.engine old.engine.trees.log new.engine.trees.log (all_ ∷ []) (changes_named then_ (then_.own a.txn.0)) a.txn logs
+          (grown_then observable history sync_out read_out read_of faults old new then_ a records (w.here.valid none) h its) refl));
       near = far before old new all_ w.near (settled_near observable history sync_out read_out read_of faults old new then_ a records h its some_then w.here.sessions_at (w.here.valid none).works);
     })
 
@@ -213,7 +232,7 @@ module _ {D : Type 0} (observable : Bool) (history : D → History) (sync_out re
       here = abandoned most observable history old new (answered a call g st) a h its (λ calm. numbers) w.here;
       numbered = tt;
       fault = none;
-      logged = inr (both_grown before.engine.trees.log old.engine.trees.log new.engine.trees.log [] (is_grown before.engine.trees.log old.engine.trees.log false refl w.logged) (none_more old.engine.trees.log new.engine.trees.log h.log));
+      logged = idle_then before.engine old.engine.trees.log new.engine.trees.log w.logged h.log;
       near = far before old new all_ w.near (abandoned_near most observable history old new (answered a call g st) a h w.here.sessions_at);
     })
       where
@@ -228,7 +247,7 @@ module _ {D : Type 0} (observable : Bool) (history : D → History) (sync_out re
       here = abandoned most observable history old new (answered a call g st) a h its (λ calm. numbers) w.here;
       numbered = tt;
       fault = none;
-      logged = inr (both_grown before.engine.trees.log old.engine.trees.log new.engine.trees.log [] (is_grown before.engine.trees.log old.engine.trees.log false refl w.logged) (none_more old.engine.trees.log new.engine.trees.log h.log));
+      logged = idle_then before.engine old.engine.trees.log new.engine.trees.log w.logged h.log;
       near = far before old new all_ w.near (abandoned_near most observable history old new (answered a call g st) a h w.here.sessions_at);
     })
       where
@@ -288,7 +307,7 @@ module _ {D : Type 0} (observable : Bool) (history : D → History) (sync_out re
           };
           numbered = tt;
           fault = refl;
-          logged = both_failed before.engine.trees.log old.engine.trees.log new.engine.trees.log (all_ ∷ []) w.1
+          logged = both_failed before.engine.trees.log old.engine.trees.log new.engine.trees.log (all_ ∷ []) w.1.grown
               (subst (λ (l : List Change). HasFailedWith observable history sync_out read_out read_of old.engine.trees.log new.engine.trees.log (l ∷ [])) named_own
               (failed_then observable history sync_out read_out read_of faults old new own_ a 0 w.0 h its));
           near = record {
@@ -414,7 +433,7 @@ module _ {D : Type 0} (observable : Bool) (history : D → History) (sync_out re
         (subst (λ (l : List Changed). HasStepped observable history sync_out read_out read_of most before new (owing_with (Some a) st) (with_names cs_) (changes_closed a.is_auto (with_names cs_))
         (λ limit. IsLogged (log_limit limit) (cond a.is_auto (Logged (st.commits + 1)) outcome_.answer) (Logged (st.commits + 1)) × (◌≡◌ {A = List Victim} [] []))
         (closed a.is_auto a (with_names cs_) (with_changes a call outcome_.place (with_numbers l) (answered a call g st))) (Logged (st.commits + 1))) (sym (answered_changes st a call g outcome_.changes))
-        (by_first (Ends_ new (Logged (st.commits + 1)) (λ l. closed a.is_auto a (with_names l) (with_changes a call outcome_.place (with_numbers l) (answered a call g st)))) (λ c l is. ends_done most before (in_sessions s mid) new st a call g outcome_ c l up.valid bare its_ (each_as c l is) auto calm_ well_ records (up_as mid s Done p stands c l is)
+        (by_first (Ends_ new (Logged (st.commits + 1)) (λ l. closed a.is_auto a (with_names l) (with_changes a call outcome_.place (with_numbers l) (answered a call g st)))) (λ c l is. ends_done most before (in_sessions s mid) new st a call g outcome_ c l up.valid bare its_ (each_as c l is) auto calm_ well_ records (up_as mid s Done p stands c l is) (logs_as mid p c l is).1
         (subst (λ (n : ℕ). HasSettled observable history sync_out read_out read_of faults (in_sessions s mid) new n a.txn records) (sym (found_session session a st.actives up.its)) h)
         (sum_again most before mid mid st a call g outcome_ c l up.valid bare its_ (each_as c l is) auto calm_ well_ records (logs_as mid p c l is) (sum ∙ ap (λ (n : ℕ). before.engine.kept.totals.records + n) (counts_ ∙ ap (λ (m : List Changed). count_by (λ (x : ℕ × RecordChange). is_set x.1) (with_numbers m)) is))))))
 

@@ -81,7 +81,7 @@ use Rattle.environment.specs.declared.environment.Environment.{Environment}
 use Rattle.environment.specs.Committing.{HasNotSettled, HasSettled, is_set}
 use Rattle.environment.specs.Ending.{HasAbandoned}
 use Rattle.environment.specs.Limits.{owing_after, written_evaluated}
-use Rattle.environment.specs.Steps.{HasCome, HasFailedWith, HasGrown, HasStepped, IsLogStep, PerformsAnswer, RecoversWith, StandsAt}
+use Rattle.environment.specs.Steps.{HasCome, HasFailedWith, HasGrown, HasLoggedCall, HasStepped, IsCallStep, PerformsAnswer, RecoversWith, StandsAt}
 use Rattle.environment.specs.Valid.{IsValidWith, active_number, owed_by, fitting, Lives, waiting_in, KnowsDatabases}
 use Rattle.environment.specs.Whole.{CanGoOn, disk_of, reach_of}
 use Rattle.environment.specs.Written.{AreNamesOf, had_at, names_at}
@@ -425,8 +425,9 @@ module _ {D : Type 0} (observable : Bool) (history : D → History) (sync_out re
       here = subst (StandsAt most observable history new) (sym path) (settled most h is nonempty sum none at);
       numbered = subst (λ (s : Standing). IsNumbered answer s.commits) (sym path) (numbered_done a.durability st.commits);
       fault = ap (λ (s : Standing). s.fault) path ∙ (none ∙ sym (ap (λ (b : Bool). cond b (Some Disk) None) quiet));
-      logged = subst (λ (b : Bool). IsLogStep observable history sync_out read_out read_of b log_old log_new (tried (changes_ended (active_of session st.actives) st) (fate_of answer))) (sym quiet)
-          (inr (subst (HasGrown observable history sync_out read_out read_of log_old log_new) (sym tries) (grown_then v h is)));
+      logged = subst (λ (b : Bool). IsCallStep observable history sync_out read_out read_of b old.engine log_new [] (tried (changes_ended (active_of session st.actives) st) (fate_of answer))) (sym quiet)
+          (inr (a.txn, subst (λ (l : List (List Change)). HasLoggedCall observable history sync_out read_out read_of old.engine log_new [] l a.txn) (sym tries)
+          (record { grown = grown_then v h is; planned = []; rows = refl; logs = ([], refl, refl) })));
       near = within_more old new [] (settled_near h is nonempty at.sessions_at v.works);
     })
       where
@@ -560,7 +561,7 @@ module _ {D : Type 0} (observable : Bool) (history : D → History) (sync_out re
       here = subst (StandsAt most observable history new) (sym path) (abandoned most observable history old new st a h is (λ calm_. sound.numbers) at);
       numbered = tt;
       fault = ap (λ (s : Standing). s.fault) path ∙ none;
-      logged = inl (h.log, ap (λ (o : Option Active). tried (changes_ended o st) Succeeds) some ∙ ap (λ (l : List Change). tried l Succeeds) nothing);
+      logged = inl (h.log, ap (λ (o : Option Active). tried (changes_ended o st) Succeeds) some ∙ ap (λ (l : List Change). tried l Succeeds) nothing, refl);
       near = within_more old new [] (abandoned_near most observable history old new st a h at.sessions_at);
     })
       where

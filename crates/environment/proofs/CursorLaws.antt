@@ -224,7 +224,7 @@ module _ {D : Type 0} (observable : Bool) (history : D → History) where
       here = subst (StandsAt most observable history (in_sessions s e)) (sym leaves) (placed_at most e s st session others stands at);
       numbered = tt;
       fault = ap (λ (x : Standing). x.fault) leaves ∙ none;
-      logged = inl (same_buffer e.engine.trees.log, ap (λ (cs : List Change). tried cs (fate_of Done)) (commits_none call st session is));
+      logged = inl (same_buffer e.engine.trees.log, ap (λ (cs : List Change). tried cs (fate_of Done)) (commits_none call st session is), ap (λ (cs : List Change). tried cs (fate_of Done)) (writes_none call st session is));
       near = within_more e (in_sessions s e) (written_performed call st session) (near_placed e s st session others at.sessions_at stands);
     })
       where

@@ -29,7 +29,7 @@ use Rattle.engine.proofs.CalmAnswers.{IsCalm, faultless, unnumbered}
 use Rattle.environment.specs.declared.environment.Environment.{Environment}
 use Rattle.environment.specs.declared.outcome.Outcome.{Outcome}
 use Rattle.environment.specs.Limits.{owing_after, written_unless}
-use Rattle.environment.specs.Steps.{CallsTo, ComesTo, HasCalled, HasStepped, IsLogStep, MayCall, StandsAt}
+use Rattle.environment.specs.Steps.{CallsTo, ComesTo, HasCalled, HasStepped, IsCallStep, MayCall, StandsAt}
 use Rattle.environment.specs.Valid.{AreBare}
 use Rattle.environment.specs.Whole.{reach_of}
 use Rattle.environment.proofs.Answering.{within_more}
@@ -110,7 +110,7 @@ module _ {D : Type 0} where
           here = here;
           numbered = unnumbered refusal st.commits calm;
           fault = none ∙ ap (λ (b : Bool). cond b (Some Disk) None) (sym (faultless refusal calm));
-          logged = subst (λ (b : Bool). IsLogStep observable history sync_out read_out read_of b e.engine.trees.log e.engine.trees.log []) (sym (faultless refusal calm)) (inl (same_buffer e.engine.trees.log, refl));
+          logged = subst (λ (b : Bool). IsCallStep observable history sync_out read_out read_of b e.engine e.engine.trees.log [] []) (sym (faultless refusal calm)) (inl (same_buffer e.engine.trees.log, refl, refl));
           near = within_more e e [] (same_reach e);
         })
       where

@@ -36,7 +36,7 @@ use Rattle.environment.specs.declared.written.OwnNames.{OwnNames}
 use Rattle.environment.specs.declared.written.Written.{Written}
 use Rattle.environment.specs.Access.{HasAccessed, IsTakenUp, with_move}
 use Rattle.environment.specs.Limits.{owing_with, written_taken}
-use Rattle.environment.specs.Steps.{HasStepped, IsLogStep, StandsAt}
+use Rattle.environment.specs.Steps.{HasStepped, IsCallStep, StandsAt}
 use Rattle.environment.specs.Valid.{IsValidWith, fitting, Forest}
 use Rattle.environment.proofs.CallChanges.{none_changed}
 use Rattle.environment.proofs.Answering.{owed_is, within_more}
@@ -145,7 +145,7 @@ module _ {D : Type 0} where
           here = elsewhere_at most observable history e s st after.own after.places after.locks same stands_now at;
           numbered = unnumbered answer st.commits calm;
           fault = none ∙ ap (λ (b : Bool). cond b (Some Disk) None) (sym (faultless answer calm));
-          logged = subst (λ (b : Bool). IsLogStep observable history sync_out read_out read_of b e.engine.trees.log e.engine.trees.log []) (sym (faultless answer calm)) (inl (same_buffer e.engine.trees.log, refl));
+          logged = subst (λ (b : Bool). IsCallStep observable history sync_out read_out read_of b e.engine e.engine.trees.log [] []) (sym (faultless answer calm)) (inl (same_buffer e.engine.trees.log, refl, refl));
           near = within_more e (in_sessions s e) [] (near_owed e s (owed_is s after stands_now ∙ owes ∙ sym (owed_is e.sessions st at.sessions_at)));
         }
 

@@ -21,7 +21,7 @@ use Rattle.environment.specs.Answering.{AnswersCall}
 use Rattle.environment.specs.Limits.{owing_after, written_call, written_unless}
 use Rattle.environment.specs.Whole.{HasLimit, IsAt, disk_of}
 use Rattle.environment.proofs.Answering.{within_more}
-use Rattle.environment.proofs.EarlyLaws.{same_reach}
+use Rattle.environment.proofs.EarlyLaws.{same_buffer, same_reach}
 
 -- what refuses it
 early_invalid : (st : Standing) (session : ℕ) (call : Call) (first : Fault) → st.fault ≡ Some first → early_refusal st session call ≡ Some (Invalid first)
@@ -29,7 +29,7 @@ early_invalid st session call first is =
     let active = active_of session st.actives in
     ap (λ (f : Option Fault). or_refusal (fault_refusal f) (or_refusal (waits_refusal st active) (or_refusal (abort_refusal call active) (txn_refusal call active)))) is
 
-module _ {D : Type 0} (observable : Bool) (history : D → History) (e : Environment D) (session line : ℕ) (call : Call) (first : Fault) (fault : e.engine.kept.fault ≡ Some first) where
+module _ {D : Type 0} (observable : Bool) (history : D → History) (sync_out read_out : D → Option ℕ) (read_of : D → ℕ) (e : Environment D) (session line : ℕ) (call : Call) (first : Fault) (fault : e.engine.kept.fault ≡ Some first) where
   early : (most : ℕ) (st : Standing) → IsAt most observable (now (history (disk_of e))) e st → early_refusal st session call ≡ Some (Invalid first)
   early most st here = early_invalid st session call first (sym here.at.fault ∙ fault)
 
@@ -53,10 +53,10 @@ module _ {D : Type 0} (observable : Bool) (history : D → History) (e : Environ
   limit_none : (changes : List Change) (owed : ℕ) → changes ≡ [] → HasLimit e owed changes None
   limit_none changes owed none = subst (λ (cs : List Change). HasLimit e owed cs None) (sym none) refl
 
-  answers_at : (answer : Answer) (victims : List Victim) → answer ≡ Invalid first → victims ≡ [] → AnswersCall observable history e e session line call (Ok (record { answer = answer; victims = victims }))
+  answers_at : (answer : Answer) (victims : List Victim) → answer ≡ Invalid first → victims ≡ [] → AnswersCall observable history sync_out read_out read_of e e session line call (Ok (record { answer = answer; victims = victims }))
   answers_at answer victims is none =
-      subst (λ (a : Answer). AnswersCall observable history e e session line call (Ok (record { answer = a; victims = victims }))) (sym is)
-      (subst (λ (vs : List Victim). AnswersCall observable history e e session line call (Ok (record { answer = Invalid first; victims = vs }))) (sym none) (record {
+      subst (λ (a : Answer). AnswersCall observable history sync_out read_out read_of e e session line call (Ok (record { answer = a; victims = victims }))) (sym is)
+      (subst (λ (vs : List Victim). AnswersCall observable history sync_out read_out read_of e e session line call (Ok (record { answer = Invalid first; victims = vs }))) (sym none) (record {
         goes_on = λ most st here.
             let i = invalid most st here in
             record {
@@ -71,8 +71,11 @@ module _ {D : Type 0} (observable : Bool) (history : D → History) (e : Environ
         crash = λ observed most st start journal here is_.
             let i = invalid most (after_events st journal) here in
             (is_.0, guarded_quiet st is_.0 start (history (disk_of e)) e.engine.trees.log journal (Called session line call (Invalid first) []) refl i.attempt refl refl (ap (λ (s : Standing). s.fault) i.after) is_.1);
+        appends = λ most st here.
+            let i = invalid most st here in
+            inl (same_buffer e.engine.trees.log, i.attempt, ap (λ (cs : List Change). tried cs (Rattle.je_answers.specs.After.fate_of (Invalid first))) i.written);
         stays = tt;
       }))
 
-  pub answers_invalid : (o : Outcome) → o.answer ≡ Invalid first → o.victims ≡ [] → AnswersCall observable history e e session line call (Ok o)
+  pub answers_invalid : (o : Outcome) → o.answer ≡ Invalid first → o.victims ≡ [] → AnswersCall observable history sync_out read_out read_of e e session line call (Ok o)
   answers_invalid o is none = answers_at o.answer o.victims is none

@@ -141,7 +141,7 @@ module _ {D : Type 0} (observable : Bool) (history : D → History) (sync_out re
     here = subst (λ (o : Option Active). StandsAt most observable history e (drawn_by o st)) (sym some) at;
     numbered = tt;
     fault = drawn_fault (active_of session st.actives) st ∙ none;
-    logged = inl (same_buffer e.engine.trees.log, refl);
+    logged = inl (same_buffer e.engine.trees.log, refl, refl);
     near = within_more e e [] (same_reach e);
   })
 
@@ -159,7 +159,7 @@ module _ {D : Type 0} (observable : Bool) (history : D → History) (sync_out re
             (drawn_at most observable history e last st (let more = next ∙ next_is st.last_txn left in omega (arith, more)) at));
         numbered = tt;
         fault = drawn_fault (active_of session st.actives) st ∙ none;
-        logged = inl (same_buffer e.engine.trees.log, refl);
+        logged = inl (same_buffer e.engine.trees.log, refl, refl);
         near = within_more e (with_begun e last e.sessions) [] (record { file = omega arith; node = omega arith });
       })
 
@@ -175,7 +175,7 @@ module _ {D : Type 0} (observable : Bool) (history : D → History) (sync_out re
             (subst (λ (n : ℕ). StandsAt most observable history e (record st { last_txn = n })) (sym (ap (λ (b : Bool). cond b (st.last_txn + 1) st.last_txn) ended)) at);
         numbered = tt;
         fault = drawn_fault (active_of session st.actives) st ∙ none;
-        logged = inl (same_buffer e.engine.trees.log, refl);
+        logged = inl (same_buffer e.engine.trees.log, refl, refl);
         near = within_more e e [] (same_reach e);
       })
 

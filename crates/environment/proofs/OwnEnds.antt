@@ -35,8 +35,8 @@ use Rattle.je_order.specs.declared.name.Name.{Name}
 use Rattle.je_answers.specs.Locking.{all_got}
 use Rattle.je_answers.specs.Events.{IsDone, IsLogged, due, log_limit}
 use Rattle.je_answers.specs.After.{Fate, after_changes, after_fate, answered, closed, fate_of, faulted, moved, with_locks, with_outcome}
-use Rattle.je_answers.specs.After.Fate.{Succeeds}
-use Rattle.je_answers.specs.Journal.{changes_closed, is_disk_fault}
+use Rattle.je_answers.specs.After.Fate.{IsRefused, Succeeds}
+use Rattle.je_answers.specs.Journal.{changes_closed, is_disk_fault, tried}
 use Rattle.log_buffer.specs.Buffer.{IsUnchanged, disk_of as disk_below, end_of, file_max_of, has_failed}
 use Rattle.log_replay.specs.Logging.{all_row_changes}
 use Rattle.in_tree.specs.Observed.{cells_of, has_tree_of, waits_of}
@@ -72,7 +72,7 @@ use Rattle.store_model.specs.Refusals.{index_refusal}
 use Rattle.environment.proofs.CallChanges.{may_make, one_key, some_changed, some_numbers}
 use Rattle.environment.proofs.IndexKeys.{index_key}
 use Rattle.environment.proofs.ChangeLaws.{Changed, entries_are}
-use Rattle.environment.specs.Steps.{HasNotCome, HasStepped, IsLogStep, StandsAt}
+use Rattle.environment.specs.Steps.{HasNotCome, HasStepped, IsCallStep, StandsAt}
 use Rattle.environment.specs.Valid.{active_number, owed_by, fitting, KnowsDatabases}
 use Rattle.environment.specs.Whole.{CanGoOn, HasLimit, limit_found, reach_of}
 use Rattle.environment.specs.Writing.{IsLeft, IsValidAt, MayWrite, WritesAll, WritesOwn}
@@ -235,7 +235,7 @@ module _ {D : Type 0} (observable : Bool) (history : D → History) (sync_out re
       Writes e new st n cs owed result → Writes before new st n cs owed result
   writes_move e before new st n cs owed (Ok Done) same w = (
     w.0,
-    subst (λ (x : Engine D). Rattle.environment.specs.Steps.HasGrown observable history sync_out read_out read_of x.trees.log new.engine.trees.log []) same w.1,
+    subst (λ (x : Engine D). Rattle.environment.specs.Steps.HasLoggedCall observable history sync_out read_out read_of x new.engine.trees.log (with_names cs ∷ []) [] (Rattle.standing_laws.specs.Right.txn_id n)) same w.1,
     limit_moves e before owed (with_names cs) None same w.2,
     w.3 ∙ ap (λ (x : Engine D). file_max_of x.trees.log) same,
     w.4 ∙ ap (λ (x : Engine D). record x.kept { last_node = x.kept.last_node + numbers_for (length cs) }) same,
@@ -253,6 +253,15 @@ module _ {D : Type 0} (observable : Bool) (history : D → History) (sync_out re
   writes_move e before new st n cs owed (Err error) same w = (w.0, left_moves e before new same w.1)
 
   -- ---- each end
+
+  -- some changes are tried where they are logged, and none where they are refused
+  tried_names : (cs : List Changed) → cs ≢ [] → tried (with_names cs) Succeeds ≡ with_names cs ∷ []
+  tried_names [] some = absurd (some refl)
+  tried_names (c ∷ cs) some = refl
+
+  tried_none : (l : List Change) → tried l IsRefused ≡ []
+  tried_none [] = refl
+  tried_none (c ∷ l) = refl
 
   module _ (most : ℕ) (before mid : Environment D) (s : Sessions) (st : Standing) (a : Active) (call : Call) (g : Target) (due_ : Answer) (place : Option Name) (cs : List Changed) (filled : cs ≢ [])
       (here : StandsAt most observable history before st) (none : st.fault ≡ None) where
@@ -308,15 +317,17 @@ module _ {D : Type 0} (observable : Bool) (history : D → History) (sync_out re
       node = let k = ap (λ (k : Kept). k.last_node) w.4 in let room = node_room in omega (arith, k, room);
     }
 
-    done : Writes before mid st a.txn.0 cs (owing own_) (Ok Done) → AreEndedBy Done s a call place needs_ (with_numbers cs) st → owing own_ ≡ owing_with (Some a) st → IsCalm due_ → Step OwnDone due_
-    done w stands owes calm = record {
+    done : Writes before mid st a.txn.0 cs (owing own_) (Ok Done) → AreEndedBy Done s a call place needs_ (with_numbers cs) st → owing own_ ≡ owing_with (Some a) st → IsCalm due_ → fate_of due_ ≡ Succeeds → Step OwnDone due_
+    done w stands owes calm well = record {
       limit = None;
       has_limit = subst (λ (owed : ℕ). HasLimit before owed (with_names cs) None) owes w.2;
       answers = inl refl;
       here = done_here w stands;
       numbered = unnumbered due_ st.commits calm;
       fault = none ∙ ap (λ (b : Bool). cond b (Some Disk) None) (sym (faultless due_ calm));
-      logged = subst (λ (b : Bool). IsLogStep observable history sync_out read_out read_of b before.engine.trees.log mid.engine.trees.log []) (sym (faultless due_ calm)) (inr w.1);
+      logged = subst (λ (b : Bool). IsCallStep observable history sync_out read_out read_of b before.engine mid.engine.trees.log (tried (with_names cs) (fate_of due_)) []) (sym (faultless due_ calm))
+          (subst (λ (l : List (List Change)). IsCallStep observable history sync_out read_out read_of false before.engine mid.engine.trees.log l []) (sym (ap (tried (with_names cs)) well ∙ tried_names cs filled))
+          (inr (a.txn, w.1)));
       near = done_near w (done_here w stands).sessions_at owes;
     }
 
@@ -347,9 +358,9 @@ module _ {D : Type 0} (observable : Bool) (history : D → History) (sync_out re
       node = let k = ap (λ (k : Kept). k.last_node) left.kept in omega (arith, k);
     }
 
-    refused : (refusal : Answer) → IsCalm refusal → IsLogged (log_limit (Some refusal)) due_ refusal → IsValidAt observable history mid st → IsLeft before mid → HasLimit before (owing own_) (with_names cs) (Some refusal) →
+    refused : (refusal : Answer) → IsCalm refusal → fate_of refusal ≡ IsRefused → IsLogged (log_limit (Some refusal)) due_ refusal → IsValidAt observable history mid st → IsLeft before mid → HasLimit before (owing own_) (with_names cs) (Some refusal) →
         AreSessionsAt s (with_locks a (all_got a.txn needs_ st.locks.at) st) → owing own_ ≡ owing_with (Some a) st → Step OwnRefused refusal
-    refused refusal calm is valid left has stands owes =
+    refused refusal calm fate is valid left has stands owes =
         let within = left_near OwnRefused.locks left stands in
         let file = within.file in
         let node = within.node in
@@ -360,7 +371,8 @@ module _ {D : Type 0} (observable : Bool) (history : D → History) (sync_out re
           here = left_here OwnRefused.locks valid left stands;
           numbered = unnumbered refusal st.commits calm;
           fault = none ∙ ap (λ (b : Bool). cond b (Some Disk) None) (sym (faultless refusal calm));
-          logged = subst (λ (b : Bool). IsLogStep observable history sync_out read_out read_of b before.engine.trees.log mid.engine.trees.log []) (sym (faultless refusal calm)) (inl (left.log, refl));
+          logged = subst (λ (b : Bool). IsCallStep observable history sync_out read_out read_of b before.engine mid.engine.trees.log (tried (with_names cs) (fate_of refusal)) []) (sym (faultless refusal calm))
+              (inl (left.log, refl, ap (tried (with_names cs)) fate ∙ tried_none (with_names cs)));
           near = record { file = omega (arith, file); node = omega (arith, node) };
         }
 
@@ -393,12 +405,12 @@ module _ {D : Type 0} (observable : Bool) (history : D → History) (sync_out re
     }
 
     -- each of them
-    written_by : (wrote : Wrote) → Writes before mid st a.txn.0 cs (owing own_) (Ok wrote) → AreEndedBy wrote s a call place needs_ (with_numbers cs) st → owing own_ ≡ owing_with (Some a) st → IsCalm due_ →
+    written_by : (wrote : Wrote) → Writes before mid st a.txn.0 cs (owing own_) (Ok wrote) → AreEndedBy wrote s a call place needs_ (with_numbers cs) st → owing own_ ≡ owing_with (Some a) st → IsCalm due_ → fate_of due_ ≡ Succeeds →
         Step (standing_by st a call g place cs wrote) (answer_for wrote due_)
-    written_by Done w stands owes calm = done w stands owes calm
-    written_by Full w stands owes calm = refused LogFull refl refl w.0 w.1 w.2 stands owes
-    written_by NoNumbers w stands owes calm = refused IdsEnded refl refl w.0 w.1 w.2 stands owes
-    written_by Failed w stands owes calm = failed w stands owes
+    written_by Done w stands owes calm well = done w stands owes calm well
+    written_by Full w stands owes calm well = refused LogFull refl refl refl w.0 w.1 w.2 stands owes
+    written_by NoNumbers w stands owes calm well = refused IdsEnded refl refl refl w.0 w.1 w.2 stands owes
+    written_by Failed w stands owes calm well = failed w stands owes
 
   -- so it is where the call then stands
   after_is : (st : Standing) (a : Active) (call : Call) (g : Target) (wrote : Wrote) → standing_by st a call g (outcome_of st a call g).place (changes_with st a g (outcome_of st a call g).changes) wrote ≡ after_wrote wrote st a call g (outcome_of st a call g)
@@ -540,7 +552,7 @@ module _ {D : Type 0} (observable : Bool) (history : D → History) (sync_out re
     steps_up mid s wrote some p stands =
         written_by most before mid s st a call g outcome_.answer outcome_.place cs_ (some_numbers cs_ (some_now some)) up.here up.valid wrote
         (writes_move e before mid st a.txn.0 cs_ (owing (with_own a.txn.0 (with_numbers cs_) st)) (Ok wrote) up.engine p.writes)
-        (subst (λ (l : Own). AreEndedBy wrote s a call outcome_.place (needs_in st a call g) l st) p.is stands) (owes_now some) (calm_outcome st a call g up.records)
+        (subst (λ (l : Own). AreEndedBy wrote s a call outcome_.place (needs_in st a call g) l st) p.is stands) (owes_now some) (calm_outcome st a call g up.records) (well_outcome st a call g up.records)
 
     pub writes_up : (mid : Environment D) (s : Sessions) (wrote : Wrote) → changes ≢ [] → (p : HasPushedAndLogged observable history sync_out read_out read_of e mid a (needs_in st a call g) st cs_ (Ok wrote)) →
         AreEndedBy wrote s a call outcome_.place (needs_in st a call g) p.more st → WritesUp observable history sync_out read_out read_of most before (in_sessions s mid) st a call g wrote

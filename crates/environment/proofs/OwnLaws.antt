@@ -55,7 +55,7 @@ use Rattle.txn_core.specs.Totals.{totals_of}
 use Rattle.engine.proofs.CalmAnswers.{IsCalm, faultless, is_loud, unnumbered}
 use Rattle.environment.specs.Calls.{HasCause}
 use Rattle.environment.specs.Limits.{written_taken}
-use Rattle.environment.specs.Steps.{IsLogStep}
+use Rattle.environment.specs.Steps.{IsCallStep}
 use Rattle.environment.specs.Valid.{AreBare}
 use Rattle.environment.proofs.AccessLaws.{calm_cause}
 use Rattle.environment.proofs.Answering.{within_more}
@@ -207,7 +207,7 @@ module _ {D : Type 0} (observable : Bool) (history : D → History) (sync_out re
         here = moved_stands most e s st after same (stop_apart a.waits st a line call g stop.need victims here.apart others) stop.stands here;
         numbered = unnumbered answer after.commits calm;
         fault = same.fault ∙ none ∙ ap (λ (b : Bool). cond b (Some Disk) None) (sym (faultless answer calm));
-        logged = subst (λ (b : Bool). IsLogStep observable history sync_out read_out read_of b e.engine.trees.log e.engine.trees.log []) (sym (faultless answer calm)) (inl (same_buffer e.engine.trees.log, refl));
+        logged = subst (λ (b : Bool). IsCallStep observable history sync_out read_out read_of b e.engine e.engine.trees.log [] []) (sym (faultless answer calm)) (inl (same_buffer e.engine.trees.log, refl, refl));
         near = within_more e new [] (moved_reach e s st after here.sessions_at stop.stands same.owing);
       })
 

@@ -301,10 +301,15 @@ module _ {D : Type 0} (observable : Bool) (history : D → History) (sync_out re
     done w owes = (
       done_valid w (add_ w) w.logged.fits owes,
       record {
-        entries = (add_ w).entries;
-        grew = (add_ w).grew;
-        recovers = changes_recovered_in observable history sync_out read_out read_of v.log old.engine.trees.log new.engine.trees.log rows_ st.last_txn st.last_db (active_number st.actives) st.own txn planned_ given
-            (may_add st txn cs m active) (add_ w);
+        grown = record {
+          entries = (add_ w).entries;
+          grew = (add_ w).grew;
+          recovers = changes_recovered_in observable history sync_out read_out read_of v.log old.engine.trees.log new.engine.trees.log rows_ st.last_txn st.last_db (active_number st.actives) st.own txn planned_ given
+              (may_add st txn cs m active) (add_ w);
+        };
+        planned = planned_;
+        rows = rows_are rows_ st.last_db st v.makes 0 cs m.each ∙ ap (λ (n : ℕ). all_row_changes 0 n (with_names cs) rows_) (sym last);
+        logs = w.logged.logs;
       },
       limit_for old st txn cs owed None last v m (sym (no_limit (limit_in old.engine.trees planned_ owed) old.engine.kept.last_node (length planned_) w.limit w.left)),
       (add_ w).grew.max,

@@ -18,7 +18,7 @@ use Rattle.engine.proofs.CalmAnswers.{IsCalm, faultless, unnumbered}
 use Rattle.environment.specs.declared.environment.Environment.{Environment}
 use Rattle.environment.specs.declared.outcome.Outcome.{Outcome}
 use Rattle.environment.specs.Limits.{owing_after, written_evaluated}
-use Rattle.environment.specs.Steps.{HasCome, HasStepped, IsLogStep, StandsAt}
+use Rattle.environment.specs.Steps.{HasCome, HasStepped, IsCallStep, StandsAt}
 use Rattle.environment.specs.Whole.{reach_of}
 use Rattle.environment.proofs.Answering.{within_more}
 use Rattle.environment.proofs.BeginLaws.{next_is, with_begun}
@@ -49,7 +49,7 @@ module _ {D : Type 0} (observable : Bool) (history : D → History) where
           here = here;
           numbered = unnumbered answer _ calm;
           fault = drawn_fault (active_of session st.actives) st ∙ none ∙ ap (λ (b : Bool). cond b (Some Disk) None) (sym (faultless answer calm));
-          logged = subst (λ (b : Bool). IsLogStep observable history sync_out read_out read_of b old.engine.trees.log new.engine.trees.log []) (sym (faultless answer calm)) (inl (same, refl));
+          logged = subst (λ (b : Bool). IsCallStep observable history sync_out read_out read_of b old.engine new.engine.trees.log [] []) (sym (faultless answer calm)) (inl (same, refl, refl));
           near = within_more old new [] near;
         }))
       where

@@ -28,7 +28,7 @@ use Rattle.je_answers.specs.Standing.{LockState, Standing, active_of, wait_of, w
 use Rattle.je_answers.specs.Refusals.{early_refusal, fault_refusal, waits_refusal, abort_refusal, txn_refusal}
 use Rattle.je_answers.specs.Events.{IsAnswered, IsCallAnswered, IsReady, IsResumed, resumed}
 use Rattle.je_answers.specs.After.{after_call, after_event, after_events, after_resumed, after_session, ended_if_any, fate_of}
-use Rattle.je_answers.specs.Journal.{attempt_of, changes_of, changes_resumed, tried}
+use Rattle.je_answers.specs.Journal.{attempt_of, changes_of, changes_resumed, is_disk_fault, tried}
 use Rattle.je_answers.specs.Locking.{forgotten, released}
 use Rattle.log_buffer.specs.declared.buffer.LogBuffer.{LogBuffer}
 use Rattle.log_buffer.specs.Buffer.{IsUnchanged, disk_of as disk_below}
@@ -47,10 +47,10 @@ use Rattle.environment.specs.declared.outcome.Outcome.{Outcome}
 use Rattle.environment.specs.Calls.{MayResume, resumed_by}
 use Rattle.environment.specs.Limits.{owing_after, owing_with, written_call, written_resumed, written_unless}
 use Rattle.environment.specs.Resuming.{GoesAgain, MayGoOn, ResumesCall}
-use Rattle.environment.specs.Steps.{HasCalled, HasNotCome, MayCall, StandsAt}
+use Rattle.environment.specs.Steps.{Appends, HasCalled, HasNotCome, MayCall, StandsAt}
 use Rattle.environment.specs.Whole.{HasDone, HasLimit, IsAt, disk_of, reach_of}
-use Rattle.environment.proofs.EarlyLaws.{found_unit}
-use Rattle.environment.proofs.Answering.{bounded, guarded_step, owed_is, owed_with}
+use Rattle.environment.proofs.EarlyLaws.{found_unit, same_buffer}
+use Rattle.environment.proofs.Answering.{bounded, guarded_step, log_step, owed_is, owed_with}
 use Rattle.environment.proofs.EndingLaws.{ended_safely, near_owed, own_waits_left, valid_waiting, within_then}
 
 -- ---- the call that waits
@@ -316,7 +316,7 @@ module _ {D : Type 0} where
 
     pub resumes_call : (result : Result Outcome AllocError) →
         ((most : ℕ) (st : Standing) (w : Wait) → AreSessionsAt old.sessions st → StandsAt most observable history (mid old s) (resumed st w) → MayGoOn st session w → GoesAgain observable history sync_out read_out read_of most (mid old s) new st w session result) →
-        IsWithin (reach_of (mid old s)) (reach_of old) → OnErr result (IsWithin (reach_of new) (reach_of (mid old s))) → ResumesCall observable history old new session result
+        IsWithin (reach_of (mid old s)) (reach_of old) → OnErr result (IsWithin (reach_of new) (reach_of (mid old s))) → ResumesCall observable history sync_out read_out read_of old new session result
     resumes_call (Ok o) again before_ near = record {
       goes_on = λ most st line here m. let g = going most st line here m in done most st line o here m g (again most st m.wait here.at.sessions_at g.at_mid g.may);
       exact = λ most st line here m.
@@ -329,8 +329,12 @@ module _ {D : Type 0} where
       crash = λ observed most st start journal line here m is.
           let before = after_events st journal in
           let g = going most before line here m in let has = again most before m.wait here.at.sessions_at g.at_mid g.may in
-          guarded_step observable history sync_out read_out read_of st start old.engine.trees.log new.engine.trees.log journal (resumed_by session line o) _ is.0 observed refl has.logged (attempts before line m o) refl g.none
+          guarded_step observable history sync_out read_out read_of st start old.engine.trees.log new.engine.trees.log journal (resumed_by session line o) _ is.0 observed refl (log_step observable history sync_out read_out read_of (is_disk_fault o.answer) old.engine new.engine.trees.log _ _ has.logged) (attempts before line m o) refl g.none
           (ap (λ (x : Standing). x.fault) (after_is most before line m o g) ∙ has.fault) is.1;
+      appends = λ most st line here m.
+          let g = going most st line here m in let has = again most st m.wait here.at.sessions_at g.at_mid g.may in
+          subst (λ (cs : List Change). Appends observable history sync_out read_out read_of old new cs (attempt_of st (resumed_by session line o)) o.answer) (sym (written_is st line m))
+          (subst (λ (ts : List (List Change)). Appends observable history sync_out read_out read_of old new (written_call (resumed st m.wait) session m.wait.call) ts o.answer) (sym (attempts st line m o)) has.logged);
       stays = tt;
       settles = λ most st line here m.
           let g = going most st line here m in let has = again most st m.wait here.at.sessions_at g.at_mid g.may in
@@ -346,13 +350,14 @@ module _ {D : Type 0} where
           let before = after_events st journal in
           let g = going most before line here m in let left = again most before m.wait here.at.sessions_at g.at_mid g.may in
           (is.0, ended_safely history st is.0 start old.engine.trees.log new.engine.trees.log journal session left.log is.1);
+      appends = λ most st line here m. tt;
       stays = within_then old (mid old s) new before_ near;
       settles = λ most st line here m. ends-settle st session (ap is_some m.its);
     }
 
 -- ---- after a fault
 
-module _ {D : Type 0} (observable : Bool) (history : D → History) (old : Environment D) (s : Sessions) (session : ℕ) (first : Fault) (fault : old.engine.kept.fault ≡ Some first)
+module _ {D : Type 0} (observable : Bool) (history : D → History) (sync_out read_out : D → Option ℕ) (read_of : D → ℕ) (old : Environment D) (s : Sessions) (session : ℕ) (first : Fault) (fault : old.engine.kept.fault ≡ Some first)
     (stands : (st : Standing) (w : Wait) → wait_of session st.waiting ≡ Some w → IsReady st.fault st w.txn → AreSessionsAt old.sessions st → AreSessionsAt s (resumed st w)) where
   abbrev after_ : Environment D
   after_ = mid old s
@@ -407,10 +412,10 @@ module _ {D : Type 0} (observable : Bool) (history : D → History) (old : Envir
       let near = near_mid old s st m.wait here.at.sessions_at (stands st m.wait m.its m.ready here.at.sessions_at) in
       let n1 = near.file in let n2 = near.node in record { file = omega (arith, n1); node = omega (arith, n2) }
 
-  at_result : (answer : Answer) (victims : List Victim) → answer ≡ Invalid first → victims ≡ [] → ResumesCall observable history old after_ session (Ok (record { answer = answer; victims = victims }))
+  at_result : (answer : Answer) (victims : List Victim) → answer ≡ Invalid first → victims ≡ [] → ResumesCall observable history sync_out read_out read_of old after_ session (Ok (record { answer = answer; victims = victims }))
   at_result answer victims is none =
-      subst (λ (a : Answer). ResumesCall observable history old after_ session (Ok (record { answer = a; victims = victims }))) (sym is)
-      (subst (λ (vs : List Victim). ResumesCall observable history old after_ session (Ok (record { answer = Invalid first; victims = vs }))) (sym none) (record {
+      subst (λ (a : Answer). ResumesCall observable history sync_out read_out read_of old after_ session (Ok (record { answer = a; victims = victims }))) (sym is)
+      (subst (λ (vs : List Victim). ResumesCall observable history sync_out read_out read_of old after_ session (Ok (record { answer = Invalid first; victims = vs }))) (sym none) (record {
         goes_on = λ most st line here m.
             let i = faulted_is most st line here m in
             record { limit = None; bounded = inl refl; answered = i.answered; here = at_faulted most st line here m i };
@@ -420,11 +425,13 @@ module _ {D : Type 0} (observable : Bool) (history : D → History) (old : Envir
         crash = λ observed most st start journal line here m is_.
             let i = faulted_is most (after_events st journal) line here m in
             (is_.0, guarded_quiet st is_.0 start (history (disk_of old)) old.engine.trees.log journal (Resume session line (Invalid first) []) refl i.attempt refl refl (ap (λ (x : Standing). x.fault) i.after) is_.1);
+        appends = λ most st line here m.
+            let i = faulted_is most st line here m in inl (same_buffer old.engine.trees.log, i.attempt, ap (λ (cs : List Change). tried cs (fate_of (Invalid first))) i.written);
         stays = tt;
         settles = λ most st line here m.
             let i = faulted_is most st line here m in
             resumes-settle None st session line (Invalid first) [] (inr (first, i.failed)) i.answered;
       }))
 
-  pub resumes_invalid : (o : Outcome) → o.answer ≡ Invalid first → o.victims ≡ [] → ResumesCall observable history old after_ session (Ok o)
+  pub resumes_invalid : (o : Outcome) → o.answer ≡ Invalid first → o.victims ≡ [] → ResumesCall observable history sync_out read_out read_of old after_ session (Ok o)
   resumes_invalid o is none = at_result o.answer o.victims is none

@@ -8,17 +8,19 @@ use Rattle.store_model.specs.declared.event.Event.{Event}
 use Rattle.je_answers.specs.Standing.{Standing}
 use Rattle.je_answers.specs.After.{after_event, after_events}
 use Rattle.je_answers.specs.Events.{IsAnswered}
+use Rattle.je_answers.specs.Journal.{attempt_of}
 use Rattle.engine.specs.Limits.{IsWithin, reach_after}
 use Rattle.engine.specs.Steps.{IsNumbered}
 use Rattle.environment.specs.declared.environment.Environment.{Environment}
 use Rattle.environment.specs.declared.outcome.Outcome.{Outcome}
 use Rattle.environment.specs.Calls.{called}
 use Rattle.environment.specs.Limits.{owing_after, written_call}
+use Rattle.environment.specs.Steps.{Appends}
 use Rattle.environment.specs.Whole.{GoesOn, GoesOnSafely, HasLimit, IsAt, IsGuarded, disk_of, reach_of}
 
 module _ {D : Type 0} where
   -- a call was answered, or there was no memory
-  pub record AnswersCall (observable : Bool) (history : D → History) (old new : Environment D) (session line : ℕ) (call : Call) (result : Result Outcome AllocError) : Type 0 where
+  pub record AnswersCall (observable : Bool) (history : D → History) (sync_out read_out : D → Option ℕ) (read_of : D → ℕ) (old new : Environment D) (session line : ℕ) (call : Call) (result : Result Outcome AllocError) : Type 0 where
     pub goes_on : (most : ℕ) (st : Standing) → IsAt most observable (now (history (disk_of old))) old st
         → GoesOn most observable (now (history (disk_of new))) old new st (called session line call) st result
     pub exact : (most : ℕ) (st : Standing) → IsAt most observable (now (history (disk_of old))) old st
@@ -31,4 +33,6 @@ module _ {D : Type 0} where
         → IsAt most observable (now (history (disk_of old))) old (after_events st journal)
         → IsGuarded most st start (history (disk_of old)) old journal
         → GoesOnSafely most st start (history (disk_of new)) new journal (called session line call) journal result
+    pub appends : (most : ℕ) (st : Standing) → IsAt most observable (now (history (disk_of old))) old st
+        → IfOk result (λ o. Appends observable history sync_out read_out read_of old new (written_call st session call) (attempt_of st (called session line call o)) o.answer)
     pub stays : OnErr result (IsWithin (reach_of new) (reach_of old))

@@ -9,6 +9,7 @@ use Rattle.je_answers.specs.declared.wait.Wait.{Wait}
 use Rattle.je_answers.specs.Standing.{Standing, wait_of}
 use Rattle.je_answers.specs.After.{after_event, after_events, after_session}
 use Rattle.je_answers.specs.Events.{IsAnswered, resumed}
+use Rattle.je_answers.specs.Journal.{attempt_of}
 use Rattle.je_answers.specs.Locking.{was_granted_in}
 use Rattle.standing_laws.specs.Right.{AreRight}
 use Rattle.engine.specs.Limits.{IsWithin, reach_after}
@@ -17,7 +18,7 @@ use Rattle.environment.specs.declared.environment.Environment.{Environment}
 use Rattle.environment.specs.declared.outcome.Outcome.{Outcome}
 use Rattle.environment.specs.Calls.{MayResume, SettlesBy, resumed_by}
 use Rattle.environment.specs.Limits.{owing_after, written_resumed}
-use Rattle.environment.specs.Steps.{HasCalled, HasNotCome}
+use Rattle.environment.specs.Steps.{Appends, HasCalled, HasNotCome}
 use Rattle.environment.specs.Valid.{AreBare}
 use Rattle.environment.specs.Whole.{GoesOn, GoesOnSafely, HasLimit, IsAt, IsGuarded, disk_of, reach_of}
 
@@ -35,7 +36,7 @@ module _ {D : Type 0} where
   GoesAgain observable history sync_out read_out read_of most old new st w session (Err error) = HasNotCome observable history sync_out read_out read_of most old new (after_session session st)
 
   -- a session's call went on, or its session was ended, for all that an environment may stand at
-  pub record ResumesCall (observable : Bool) (history : D → History) (old new : Environment D) (session : ℕ) (result : Result Outcome AllocError) : Type 0 where
+  pub record ResumesCall (observable : Bool) (history : D → History) (sync_out read_out : D → Option ℕ) (read_of : D → ℕ) (old new : Environment D) (session : ℕ) (result : Result Outcome AllocError) : Type 0 where
     pub goes_on : (most : ℕ) (st : Standing) (line : ℕ) → IsAt most observable (now (history (disk_of old))) old st → MayResume st session line
         → GoesOn most observable (now (history (disk_of new))) old new st (resumed_by session line) (after_event st (End session)) result
     pub exact : (most : ℕ) (st : Standing) (line : ℕ) → IsAt most observable (now (history (disk_of old))) old st → MayResume st session line
@@ -48,6 +49,8 @@ module _ {D : Type 0} where
         → IsAt most observable (now (history (disk_of old))) old (after_events st journal) → MayResume (after_events st journal) session line
         → IsGuarded most st start (history (disk_of old)) old journal
         → GoesOnSafely most st start (history (disk_of new)) new journal (resumed_by session line) (journal ++ End session ∷ []) result
+    pub appends : (most : ℕ) (st : Standing) (line : ℕ) → IsAt most observable (now (history (disk_of old))) old st → MayResume st session line
+        → IfOk result (λ o. Appends observable history sync_out read_out read_of old new (written_resumed (wait_of session st.waiting) st session) (attempt_of st (resumed_by session line o)) o.answer)
     pub stays : OnErr result (IsWithin (reach_of new) (reach_of old))
     pub settles : (most : ℕ) (st : Standing) (line : ℕ) → IsAt most observable (now (history (disk_of old))) old st → MayResume st session line
         → SettlesBy st (resumed_by session line) (End session) result

@@ -1,5 +1,5 @@
 -- What a call that nothing refuses early comes to, beside the model.
-use Rattle.std.specs.Prelude.{ℕ, ◌≡◌, ◌⊎◌, ◌==◌, ◌++◌, [], List, Option, None, Some, Bool, true, false, Result, Ok, Err, OnErr, if◌then◌else◌}
+use Rattle.std.specs.Prelude.{ℕ, ◌≡◌, ◌⊎◌, ◌==◌, ◌++◌, ◌∷◌, [], List, Option, None, Some, Bool, true, false, Result, Ok, Err, OnErr, if◌then◌else◌, map}
 use Rattle.std.specs.declared.alloc.AllocError.{AllocError}
 use Rattle.std.specs.List.{AllByRecursion}
 use Rattle.je_disk.specs.Moments.{History, now}
@@ -15,7 +15,14 @@ use Rattle.je_answers.specs.Refusals.{early_refusal, late_refusal}
 use Rattle.je_answers.specs.Events.{IsCallAnswered, IsEvaluated}
 use Rattle.je_answers.specs.After.{after_call, after_evaluated, fate_of}
 use Rattle.je_answers.specs.Journal.{changes_evaluated, changes_of, is_disk_fault, tried}
+use Rattle.je_order.specs.declared.txn_id.TxnId.{TxnId}
 use Rattle.log_entry.specs.declared.entry.Entry.{Entry}
+use Rattle.log_replay.specs.Logging.{all_row_changes}
+use Rattle.record_tree.specs.declared.tree_change.TreeChange.{TreeChange}
+use Rattle.record_tree.specs.Logged.{LogsChanges, LogsTransaction}
+use Rattle.txn_core.specs.Known.{committed as rows_committed}
+use Rattle.txn_core.specs.Planning.{row_by}
+use Rattle.engine.specs.declared.engine.Engine.{Engine}
 use Rattle.log_file.specs.Log.{Log}
 use Rattle.log_buffer.specs.declared.buffer.LogBuffer.{LogBuffer}
 use Rattle.log_buffer.specs.Buffer.{IsUnchanged, disk_of as disk_below}
@@ -40,6 +47,16 @@ pub record MayCall (st : Standing) (session : ℕ) (resumed : Bool) : Type 0 whe
   pub told : (a : Active) → active_of session st.actives ≡ Some a → st.locks.pending a.txn ≡ None
   pub bare : AreBare st
   pub alone : (a : Active) → active_of session st.actives ≡ Some a → AllByRecursion (λ w. (w.session == a.session) ≡ false) st.waiting
+
+-- the changes of a call that was to write some: none, or these
+abbrev pub first_changes : List (List Change) → List Change
+first_changes [] = []
+first_changes (changes ∷ more) = changes
+
+-- entries log changes of a transaction, in order, each behind images of nodes, and its Commit behind them where it commits changes
+abbrev pub LogsAndCommits : TxnId → List TreeChange → List (List Change) → List Entry → Type 0
+LogsAndCommits txn planned [] entries = LogsChanges txn planned entries
+LogsAndCommits txn planned (changes ∷ more) entries = LogsTransaction txn planned entries
 
 -- an answer alone
 abbrev pub IsOnly : Result Answer AllocError → Result Outcome AllocError → Type 0
@@ -77,6 +94,23 @@ module _ {D : Type 0} where
     IsLogStep false old new more = (IsUnchanged old new × (more ≡ [])) ⊎ HasGrown old new more
     IsLogStep true old new more = HasFailedWith old new more
 
+    -- the log got the entries of a call of a transaction: those of the changes of records that make what it wrote, and its Commit, where it committed something
+    pub record HasLoggedCall (old : Engine D) (new : LogBuffer D) (wrote more : List (List Change)) (txn : TxnId) : Type 0 where
+      pub grown : HasGrown old.trees.log new more
+      pub planned : List TreeChange
+      pub rows : map (row_by 0) planned ≡ all_row_changes 0 old.kept.last_db (first_changes wrote) (rows_committed (cells_of old.trees))
+      pub logs : LogsAndCommits txn planned more grown.entries
+
+    -- What a call did to the log that wrote this and committed that: nothing where it did neither, else it got those entries. With a fault it failed with some
+    -- with which it recovers what was to be committed, or none of it.
+    abbrev pub IsCallStep : Bool → Engine D → LogBuffer D → List (List Change) → List (List Change) → Type 0
+    IsCallStep false old new wrote more = (IsUnchanged old.trees.log new × (more ≡ []) × (wrote ≡ [])) ⊎ ((txn : TxnId) × HasLoggedCall old new wrote more txn)
+    IsCallStep true old new wrote more = HasFailedWith old.trees.log new more
+
+    -- What an answered call appended that was to write these changes: by its answer it wrote them, or none. `more` is what it was to commit.
+    abbrev pub Appends : Environment D → Environment D → List Change → List (List Change) → Answer → Type 0
+    Appends old new written more answer = IsCallStep (is_disk_fault answer) old.engine new.engine.trees.log (tried written (fate_of answer)) more
+
     -- A step was answered as the model may, for which `owed` Commits are owed: it wrote these changes, was to commit those, and the environment is
     -- where the model then stands.
     pub record HasStepped (most : ℕ) (old new : Environment D) (owed : ℕ) (written committed : List Change) (Answered : Option Answer → Type 0) (after : Standing) (answer : Answer) : Type 0 where
@@ -86,7 +120,7 @@ module _ {D : Type 0} where
       pub here : StandsAt most observable history new after
       pub numbered : IsNumbered answer after.commits
       pub fault : after.fault ≡ (if is_disk_fault answer then Some Disk else None)
-      pub logged : IsLogStep (is_disk_fault answer) old.engine.trees.log new.engine.trees.log (tried committed (fate_of answer))
+      pub logged : Appends old new written (tried committed (fate_of answer)) answer
       pub near : IsWithin (reach_of new) (reach_after (reach_of old) written)
 
     -- the step of a call that nothing refuses early, and that of a call

@@ -1,5 +1,5 @@
 -- What became of a call's changes that were to be logged.
-use Rattle.std.specs.Prelude.{ℕ, ◌≡◌, ◌≢◌, ◌≤◌, ◌+◌, ◌||◌, ◌++◌, [], List, Option, None, Some, Bool, true, false, length, nat_lt, count_by, Result, Ok, Err, if◌then◌else◌}
+use Rattle.std.specs.Prelude.{ℕ, ◌≡◌, ◌≢◌, ◌≤◌, ◌+◌, ◌||◌, ◌++◌, ◌∷◌, [], List, Option, None, Some, Bool, true, false, length, nat_lt, count_by, Result, Ok, Err, if◌then◌else◌}
 use Rattle.log_trees.specs.Placed.{placed}
 use Rattle.log_buffer.specs.Growth.{longer}
 use Rattle.log_buffer.specs.Flip.{pos_lsn}
@@ -33,6 +33,7 @@ use Rattle.record_tree.specs.declared.tree_err.TreeErr.TheVariants.{Full as TooF
 use Rattle.log_entry.specs.declared.entry.Entry.{Entry}
 use Rattle.sessions.specs.AtStanding.{with_own}
 use Rattle.standing_laws.specs.Laws.{IsOnlyOf}
+use Rattle.standing_laws.specs.Right.{txn_id}
 use Rattle.txn_views.specs.Seen.{seen_value}
 use Rattle.engine.specs.Limits.{last_number, numbers_for}
 use Rattle.engine.specs.Whole.{AreLeft, end_file}
@@ -40,7 +41,7 @@ use Rattle.environment.specs.declared.environment.Environment.{Environment}
 use Rattle.environment.specs.declared.wrote.Wrote.{Wrote}
 use Rattle.environment.specs.declared.wrote.Wrote.TheVariants.{Done, Full, NoNumbers, Failed}
 use Rattle.environment.specs.Changing.{AreApartIn, IsRightIn}
-use Rattle.environment.specs.Steps.{HasFailedWith, HasGrown}
+use Rattle.environment.specs.Steps.{HasFailedWith, HasLoggedCall}
 use Rattle.environment.specs.Valid.{IsValidWith, fitting}
 use Rattle.environment.specs.Whole.{HasLimit}
 use Rattle.environment.specs.Written.{first_at, first_for, had_at, names_at}
@@ -154,7 +155,7 @@ module _ {D : Type 0} where
     abbrev pub WritesOwn : Environment D → Environment D → Standing → ℕ → List (Numbered × RecordChange) → ℕ → Result Wrote AllocError → Type 0
     WritesOwn old new st txn cs owed (Ok Done) =
         IsValidAt observable history new (with_own txn (with_numbers cs) st)
-        × HasGrown observable history sync_out read_out read_of old.engine.trees.log new.engine.trees.log []
+        × HasLoggedCall observable history sync_out read_out read_of old.engine new.engine.trees.log (with_names cs ∷ []) [] (txn_id txn)
         × HasLimit old owed (with_names cs) None
         × (file_max_of new.engine.trees.log ≡ file_max_of old.engine.trees.log)
         × (new.engine.kept ≡ record old.engine.kept { last_node = old.engine.kept.last_node + numbers_for (length cs) })

@@ -38,7 +38,7 @@ impl<D: Disk> Environment<D> {
     ) -> Result<Outcome, AllocError>
         requires here { (most : ℕ) × (st : Standing) × IsAt most D.observable (now (D.history (disk_of self.old))) self.old st }
         requires bounds { CanGoOn self.old }
-        ensures answers { AnswersCall D.observable D.history self.old self.new session line call.now result }
+        ensures answers { AnswersCall D.observable D.history D.sync_out D.read_out D.read_of self.old self.new session line call.now result }
         ensures bounds { CanGoOn self.new }
         ensures cause { HasCause (D.faults (disk_of self.old)) (D.faults (disk_of self.new)) result }
     {
@@ -58,7 +58,7 @@ impl<D: Disk> Environment<D> {
         first: Fault,
     ) -> Outcome
         requires fault { self.now.engine.kept.fault ≡ Some first }
-        ensures answers { AnswersCall D.observable D.history self.now self.now session line call.now (Ok result) }
+        ensures answers { AnswersCall D.observable D.history D.sync_out D.read_out D.read_of self.now self.now session line call.now (Ok result) }
         ensures answer { result.answer ≡ Answer.Invalid first }
     {
         told(alloc, Answer::Invalid { first })
@@ -75,7 +75,7 @@ impl<D: Disk> Environment<D> {
         requires here { (most : ℕ) × (st : Standing) × IsAt most D.observable (now (D.history (disk_of self.old))) self.old st }
         requires bounds { CanGoOn self.old }
         requires valid { self.old.engine.kept.fault ≡ None }
-        ensures answers { AnswersCall D.observable D.history self.old self.new session line call.now result }
+        ensures answers { AnswersCall D.observable D.history D.sync_out D.read_out D.read_of self.old self.new session line call.now result }
         ensures bounds { CanGoOn self.new }
         ensures cause { HasCause (D.faults (disk_of self.old)) (D.faults (disk_of self.new)) result }
     {

@@ -8,13 +8,14 @@ ghost use Rattle.store_model.specs.declared.event.Event.TheVariants.{SyncEnd};
 ghost use Rattle.je_answers.specs.Standing.{Standing, active_of};
 ghost use Rattle.je_answers.specs.After.{after_event, after_events};
 ghost use Rattle.je_answers.specs.Events.{IsAnswered};
-ghost use Rattle.je_answers.specs.Journal.{durability_of as durability_in, first_ready};
+ghost use Rattle.je_answers.specs.Journal.{attempt_of, durability_of as durability_in, first_ready};
 ghost use Rattle.txn_core.specs.Totals.{totals_of};
 ghost use Rattle.serial_replay.specs.Laws.{IsIndexedAt};
 ghost use Rattle.engine.specs.Limits.{IsWithin, reach_after};
 ghost use Rattle.engine.specs.Steps.{IsNumbered};
 ghost use Rattle.environment.specs.Calls.{HasCause, MayResume, called};
 ghost use Rattle.environment.specs.Limits.{owing_after, written_call};
+ghost use Rattle.environment.specs.Steps.{Appends};
 ghost use Rattle.environment.specs.Whole.{BeginsSafely, BeginsSync, CanGoOn, EndsSync, GoesOn, GoesOnSafely, HasLimit, IsAt, IsGuarded, disk_of, reach_of};
 
 use crate::outcome::Outcome;
@@ -62,6 +63,8 @@ impl<D: Disk> Environment<D> {
             → IsAt most D.observable (now (D.history (disk_of self.old))) self.old (after_events st journal)
             → IsGuarded most st start (D.history (disk_of self.old)) self.old journal
             → GoesOnSafely most st start (D.history (disk_of self.new)) self.new journal (called session line call.now) journal result }
+        ensures appends { (most : ℕ) (st : Standing) → IsAt most D.observable (now (D.history (disk_of self.old))) self.old st
+            → IfOk result (λ o. Appends D.observable D.history D.sync_out D.read_out D.read_of self.old self.new (written_call st session call.now) (attempt_of st (called session line call.now o)) o.answer) }
         ensures same_reach { OnErr result (IsWithin (reach_of self.new) (reach_of self.old)) }
         ensures cause { HasCause (D.faults (disk_of self.old)) (D.faults (disk_of self.new)) result }
     {

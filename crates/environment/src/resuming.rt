@@ -7,13 +7,14 @@ ghost use Rattle.store_model.specs.declared.event.Event.TheVariants.{End};
 ghost use Rattle.je_answers.specs.Standing.{Standing, wait_of};
 ghost use Rattle.je_answers.specs.After.{after_event, after_events};
 ghost use Rattle.je_answers.specs.Events.{IsAnswered, resumed};
+ghost use Rattle.je_answers.specs.Journal.{attempt_of};
 ghost use Rattle.standing_laws.specs.Right.{AreSound};
 ghost use Rattle.engine.specs.Limits.{IsWithin, reach_after};
 ghost use Rattle.engine.specs.Steps.{IsNumbered};
 ghost use Rattle.environment.specs.Calls.{HasCause, MayResume, SettlesBy, resumed_by};
 ghost use Rattle.environment.specs.Limits.{owing_after, written_resumed};
 ghost use Rattle.environment.specs.Resuming.{GoesAgain, MayGoOn, ResumesCall};
-ghost use Rattle.environment.specs.Steps.{CallsTo, MayCall, StandsAt};
+ghost use Rattle.environment.specs.Steps.{Appends, CallsTo, MayCall, StandsAt};
 ghost use Rattle.environment.specs.Whole.{CanGoOn, GoesOn, GoesOnSafely, HasLimit, IsAt, IsGuarded, disk_of, reach_of};
 
 use crate::calling::told;
@@ -43,6 +44,8 @@ impl<D: Disk> Environment<D> {
             → IsAt most D.observable (now (D.history (disk_of self.old))) self.old (after_events st journal) → MayResume (after_events st journal) session line
             → IsGuarded most st start (D.history (disk_of self.old)) self.old journal
             → GoesOnSafely most st start (D.history (disk_of self.new)) self.new journal (resumed_by session line) (journal ++ End session ∷ []) result }
+        ensures appends { (most : ℕ) (st : Standing) (line : ℕ) → IsAt most D.observable (now (D.history (disk_of self.old))) self.old st → MayResume st session line
+            → IfOk result (λ o. Appends D.observable D.history D.sync_out D.read_out D.read_of self.old self.new (written_resumed (wait_of session st.waiting) st session) (attempt_of st (resumed_by session line o)) o.answer) }
         ensures same_reach { OnErr result (IsWithin (reach_of self.new) (reach_of self.old)) }
         ensures settles { (most : ℕ) (st : Standing) (line : ℕ) → IsAt most D.observable (now (D.history (disk_of self.old))) self.old st → MayResume st session line
             → SettlesBy st (resumed_by session line) (End session) result }
@@ -55,7 +58,7 @@ impl<D: Disk> Environment<D> {
     fn go_on(&mut self, alloc: Global, session: u8) -> Result<Outcome, AllocError>
         requires here { (most : ℕ) × (st : Standing) × (line : ℕ) × IsAt most D.observable (now (D.history (disk_of self.old))) self.old st × MayResume st session line }
         requires bounds { CanGoOn self.old }
-        ensures resumes { ResumesCall D.observable D.history self.old self.new session result }
+        ensures resumes { ResumesCall D.observable D.history D.sync_out D.read_out D.read_of self.old self.new session result }
         ensures bounds { CanGoOn self.new }
         ensures cause { HasCause (D.faults (disk_of self.old)) (D.faults (disk_of self.new)) result }
     {
@@ -68,7 +71,7 @@ impl<D: Disk> Environment<D> {
     // After a fault a waiting call is answered at once.
     fn resume_invalid(&mut self, alloc: Global, session: u8, first: Fault) -> Outcome
         requires fault { self.old.engine.kept.fault ≡ Some first }
-        ensures resumes { ResumesCall D.observable D.history self.old self.new session (Ok result) }
+        ensures resumes { ResumesCall D.observable D.history D.sync_out D.read_out D.read_of self.old self.new session (Ok result) }
         ensures answer { result.answer ≡ Answer.Invalid first }
         ensures kept { self.new.engine ≡ self.old.engine }
     {
@@ -82,7 +85,7 @@ impl<D: Disk> Environment<D> {
         requires here { (most : ℕ) × (st : Standing) × (line : ℕ) × IsAt most D.observable (now (D.history (disk_of self.old))) self.old st × MayResume st session line }
         requires bounds { CanGoOn self.old }
         requires valid { self.old.engine.kept.fault ≡ None }
-        ensures resumes { ResumesCall D.observable D.history self.old self.new session result }
+        ensures resumes { ResumesCall D.observable D.history D.sync_out D.read_out D.read_of self.old self.new session result }
         ensures bounds { CanGoOn self.new }
         ensures cause { HasCause (D.faults (disk_of self.old)) (D.faults (disk_of self.new)) result }
     {
