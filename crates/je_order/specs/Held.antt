@@ -15,6 +15,6 @@ octets_held (Near len bytes) = take len bytes
 octets_held (Far bytes) = bytes.items
 
 -- how many bytes are near
-abbrev pub near_len : HeldOctets → ℕ
-near_len (Near len bytes) = len
-near_len (Far bytes) = 0
+abbrev pub octets_near_len : HeldOctets → ℕ
+octets_near_len (Near len bytes) = len
+octets_near_len (Far bytes) = 0

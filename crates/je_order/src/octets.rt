@@ -29,13 +29,13 @@ pub struct Octets {
 
 impl Model for Octets {
     ghost use Rattle.std.specs.Prelude.{List, ℕ, ◌≤◌};
-    ghost use Rattle.je_order.specs.Held.{octets_held, near_len};
+    ghost use Rattle.je_order.specs.Held.{octets_held, octets_near_len};
 
     ghost Value = { List ℕ };
 
     ghost view = { λ a. octets_held a.held };
 
-    ghost invariant = { λ a. near_len a.held ≤ 30 };
+    ghost invariant = { λ a. octets_near_len a.held ≤ 30 };
 }
 
 // A byte string of few bytes.

@@ -32,12 +32,12 @@ is_range RangeWrite = true
 is_range RangeInsert = false
 
 -- READ, and no more
-abbrev pub is_read : LockType → Bool
-is_read Read = true
-is_read Write = false
-is_read RangeRead = false
-is_read RangeWrite = false
-is_read RangeInsert = false
+abbrev pub is_read_lock : LockType → Bool
+is_read_lock Read = true
+is_read_lock Write = false
+is_read_lock RangeRead = false
+is_read_lock RangeWrite = false
+is_read_lock RangeInsert = false
 
 -- the first owner that holds a type for writing; owners never conflict, so there is one at most
 abbrev pub writer_in : List Lock → Option TxnId

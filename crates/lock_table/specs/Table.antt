@@ -15,7 +15,7 @@ use Rattle.lock_table.specs.declared.lock.Lock.{Lock}
 use Rattle.lock_table.specs.declared.asked.Asked.{Asked}
 use Rattle.lock_table.specs.declared.asked.Asked.TheVariants.{Granted, Blocked}
 use Rattle.lock_table.specs.declared.record_id.RecordId.{RecordId}
-use Rattle.lock_table.specs.Locks.{is_range, is_read, has_lock, waited_for, least, IsSettled}
+use Rattle.lock_table.specs.Locks.{is_range, is_read_lock, has_lock, waited_for, least, IsSettled}
 use Rattle.lock_table.specs.Records.{is_record, queue_at}
 
 -- the value of a lock table: the records, each with its owners and, in order of arrival, its waits; and for each transaction the record on which it was last told to wait, if it has neither asked, cancelled nor ended since
@@ -118,13 +118,13 @@ pub record AreRangesOf (S : TxnId → Bool) (q : List Lock × List Lock) : Type 
 abbrev pub may_have : Option Bool → LockType → Bool
 may_have None m = false
 may_have (Some true) m = true
-may_have (Some false) m = not (is_read m)
+may_have (Some false) m = not (is_read_lock m)
 
 -- what is noted leaves the transaction this lock
-abbrev pub IsNoted : (TxnId → Option Bool) → Lock → Type 0
-IsNoted R l = may_have (R l.txn) l.mode ≡ true
+abbrev pub IsReadNoted : (TxnId → Option Bool) → Lock → Type 0
+IsReadNoted R l = may_have (R l.txn) l.mode ≡ true
 
 -- what is noted leaves each transaction its lock and its wait on a record
-pub record AreNoted (R : TxnId → Option Bool) (q : List Lock × List Lock) : Type 0 where
-  pub owners : AllByRecursion (IsNoted R) q.0
-  pub waits : AllByRecursion (IsNoted R) q.1
+pub record AreReadsNoted (R : TxnId → Option Bool) (q : List Lock × List Lock) : Type 0 where
+  pub owners : AllByRecursion (IsReadNoted R) q.0
+  pub waits : AllByRecursion (IsReadNoted R) q.1

@@ -5,8 +5,8 @@ ghost use Rattle.je_order.specs.declared.txn_id.TxnId.{TxnId};
 ghost use Rattle.lock_mode.specs.declared.lock_type.LockType.{LockType};
 ghost use Rattle.lock_table.specs.declared.lock.Lock.{Lock};
 ghost use Rattle.je_order.specs.Transactions.{is_same_txn};
-ghost use Rattle.lock_table.specs.Locks.{is_read};
-ghost use Rattle.lock_table.specs.Table.{at_txn, may_have, IsNoted};
+ghost use Rattle.lock_table.specs.Locks.{is_read_lock};
+ghost use Rattle.lock_table.specs.Table.{at_txn, may_have, IsReadNoted};
 
 use crate::Lock;
 use je_order::TxnId;
@@ -16,14 +16,14 @@ use std::collections::BTreeMap;
 
 // Whether the type is READ.
 fn is_plain(mode: LockType) -> bool
-    ensures { result ≡ is_read mode }
+    ensures { result ≡ is_read_lock mode }
 {
     matches!(mode, LockType::Read)
 }
 
 // Whether a transaction was READ's holder before.
 fn was_plain(was: Option<LockType>) -> bool
-    ensures { result ≡ option_map_or is_read was false }
+    ensures { result ≡ option_map_or is_read_lock was false }
 {
     match was {
         Some(mode) => is_plain(mode),
@@ -56,8 +56,8 @@ fn note_there(reading: &mut BTreeMap<TxnId, bool>, txn: TxnId, read: bool) -> bo
 
 // Notes that a transaction asks for a lock. Nothing is taken back by it.
 pub(crate) fn note_read(reading: &mut BTreeMap<TxnId, bool>, lock: Lock) -> Result<(), AllocError>
-    ensures kept { (l : Lock) → IsNoted (λ t. at_txn t reading.old.entries) l → IsNoted (λ t. at_txn t reading.new.entries) l }
-    ensures noted { OnOk result (IsNoted (λ t. at_txn t reading.new.entries) lock) }
+    ensures kept { (l : Lock) → IsReadNoted (λ t. at_txn t reading.old.entries) l → IsReadNoted (λ t. at_txn t reading.new.entries) l }
+    ensures noted { OnOk result (IsReadNoted (λ t. at_txn t reading.new.entries) lock) }
 {
     let read = is_plain(lock.mode);
     if note_there(reading, lock.txn, read) {
@@ -69,7 +69,7 @@ pub(crate) fn note_read(reading: &mut BTreeMap<TxnId, bool>, lock: Lock) -> Resu
 
 // Notes that a transaction's lock is what it was before. It takes no memory.
 pub(crate) fn note_back(reading: &mut BTreeMap<TxnId, bool>, txn: TxnId, was: Option<LockType>)
-    ensures kept { (l : Lock) → IsNoted (λ t. at_txn t reading.old.entries) l → IsNoted (λ t. at_txn t reading.new.entries) l }
+    ensures kept { (l : Lock) → IsReadNoted (λ t. at_txn t reading.old.entries) l → IsReadNoted (λ t. at_txn t reading.new.entries) l }
     ensures back { (m h : LockType) → was ≡ Some m → may_have (at_txn txn reading.old.entries) h ≡ true → may_have (at_txn txn reading.new.entries) m ≡ true }
 {
     let _ = note_there(reading, txn, was_plain(was));

@@ -48,13 +48,13 @@ pub struct LockTable {
 impl Model for LockTable {
     ghost use Rattle.lock_table.specs.declared.record_id.RecordId.{RecordId};
     ghost use Rattle.lock_table.specs.Records.{queue_at};
-    ghost use Rattle.lock_table.specs.Table.{Locks, IsTable, at_txn, is_among, AreRangesOf, AreNoted};
+    ghost use Rattle.lock_table.specs.Table.{Locks, IsTable, at_txn, is_among, AreRangesOf, AreReadsNoted};
 
     ghost Value = { Locks };
 
     ghost view = { λ a. record { records = a.queues.entries; pending = a.pending.entries } };
 
-    ghost invariant = { λ a. IsTable a.queues.entries a.lists.entries a.pending.entries × ((r : RecordId) → AreRangesOf (is_among a.ranging) (queue_at r a.queues.entries)) × ((r : RecordId) → AreNoted (λ t. at_txn t a.reading.entries) (queue_at r a.queues.entries)) };
+    ghost invariant = { λ a. IsTable a.queues.entries a.lists.entries a.pending.entries × ((r : RecordId) → AreRangesOf (is_among a.ranging) (queue_at r a.queues.entries)) × ((r : RecordId) → AreReadsNoted (λ t. at_txn t a.reading.entries) (queue_at r a.queues.entries)) };
 }
 
 impl LockTable {

@@ -2,7 +2,7 @@ use Rattle.std.proofs.Common.{sym, subst, ◌∙◌}
 use Rattle.std.proofs.lemmas.Bool.{cond-false}
 use Rattle.je_order.specs.Transactions.{is_same_txn}
 use Rattle.lock_table.specs.Records.{queue_at}
-use Rattle.lock_table.specs.Table.{at_txn, is_listed, is_among, AreRangesOf, AreNoted, IsTable}
+use Rattle.lock_table.specs.Table.{at_txn, is_listed, is_among, AreRangesOf, AreReadsNoted, IsTable}
 use Rattle.lock_table.proofs.RangeLocks.{ranges_cancelled}
 use Rattle.lock_table.proofs.NotedReads.{noted_cancelled}
 use Rattle.lock_table.proofs.WholeTable.{sound_cancel}
@@ -13,7 +13,7 @@ invariant_of-self c = (
   sound_cancel (λ r. queue_at r c.self.inside.queues.entries) (λ r. queue_at r c.undo_wait_in.new.queues.entries) (is_listed c.self.inside.lists.entries) (λ t. at_txn t c.self.inside.pending.entries) (λ t. at_txn t c.undo_wait_in.new.pending.entries) c.args.txn c.self.invariant.0 c.undo_wait_in.ensures.queues
       (λ t h. c.undo_wait_in.ensures.pending t ∙ cond-false (is_same_txn c.args.txn t) c.args.place (at_txn t c.self.inside.pending.entries) h),
   λ r. subst (AreRangesOf (is_among c.self.inside.ranging)) (sym (c.undo_wait_in.ensures.queues r)) (ranges_cancelled (is_among c.self.inside.ranging) c.args.txn (queue_at r c.self.inside.queues.entries) (c.self.invariant.1 r)),
-  λ r. subst (AreNoted (λ t. at_txn t c.self.inside.reading.entries)) (sym (c.undo_wait_in.ensures.queues r)) (noted_cancelled (λ t. at_txn t c.self.inside.reading.entries) c.args.txn (queue_at r c.self.inside.queues.entries) (c.self.invariant.2 r)),
+  λ r. subst (AreReadsNoted (λ t. at_txn t c.self.inside.reading.entries)) (sym (c.undo_wait_in.ensures.queues r)) (noted_cancelled (λ t. at_txn t c.self.inside.reading.entries) c.args.txn (queue_at r c.self.inside.queues.entries) (c.self.invariant.2 r)),
 )
 
 pub returns-clause-settled : goal.returns-clause-settled
