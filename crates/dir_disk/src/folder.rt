@@ -46,14 +46,17 @@ fn lost_data() -> Error {
     Error::from(ErrorKind::Other)
 }
 
-// Puts a handle behind others, where the system gave one.
-fn push_target<F: Drop>(
+// Puts a folder behind other targets, where the system gave a handle of it.
+fn push_folder<F: Drop>(
     targets: &mut Vec<Target<F>>,
+    alloc: Global,
     opened: io::Result<F>,
-    scope: Scope,
 ) -> io::Result<()> {
-    let file = opened?;
-    targets.push(Target { file, scope })?;
+    let file = Arc::new(alloc, opened?)?;
+    targets.push(Target {
+        file,
+        scope: Scope::Whole,
+    })?;
     Ok(())
 }
 
@@ -307,17 +310,19 @@ impl<R: Files + AllocGlobal + Clone + Drop> Folder<R> {
             self.flush()?;
             self.is_unflushed = false;
         }
-        let mut targets = Vec::new(self.dir_path.alloc());
-        for opened in self.files.values() {
+        let alloc = self.dir_path.alloc();
+        let mut targets = Vec::new(alloc);
+        for opened in self.files.values_mut() {
             if let Some(scope) = opened.due() {
-                push_target(&mut targets, opened.handle(), scope)?;
+                let file = opened.handle(alloc)?;
+                targets.push(Target { file, scope })?;
             }
         }
         if self.entries.is_due() {
-            push_target(&mut targets, self.dir_path.folder(), Scope::Whole)?;
+            push_folder(&mut targets, alloc, self.dir_path.folder())?;
         }
         if self.name.is_due() {
-            push_target(&mut targets, self.dir_path.above(), Scope::Whole)?;
+            push_folder(&mut targets, alloc, self.dir_path.above())?;
         }
         Ok(targets)
     }

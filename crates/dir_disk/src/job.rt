@@ -15,14 +15,14 @@ use std::sync::atomic::Ordering::SeqCst;
 /// may say of a later sync that it worked: so no later one is trusted.
 pub type Lost = Arc<AtomicBool, Global>;
 
-/// A handle of a file or of a folder that is to be synced, and what of it.
+/// A handle of a file or of a folder that is to be synced, and what of it. A file's jobs share one handle.
 #[derive(Drop)]
 pub struct Target<F> {
-    pub(crate) file: F,
+    pub(crate) file: Arc<F, Global>,
     pub(crate) scope: Scope,
 }
 
-/// A sync that was begun: handles of its own of the files, and of the folders, that are to be synced.
+/// A sync that was begun: handles of the files, and of the folders, that are to be synced.
 pub struct DirJob<F> {
     pub(crate) number: u64,
     pub(crate) targets: Vec<Target<F>>,
@@ -65,7 +65,7 @@ pub fn sync_file<F: OpenFile>(file: &F, scope: Scope, lost: &Lost) -> io::Result
 /// Syncs files in their order, and notes a failure, after which it syncs no more.
 pub fn sync_all<F: OpenFile>(targets: &[Target<F>], lost: &Lost) -> io::Result<()> {
     for target in targets {
-        sync_file(&target.file, target.scope, lost)?;
+        sync_file(&*target.file, target.scope, lost)?;
     }
     Ok(())
 }

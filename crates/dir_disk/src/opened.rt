@@ -4,9 +4,11 @@ ghost use Rattle.std.specs.Prelude.{◌≡◌, ◌≤◌, ◌+◌, length, IfOk,
 use crate::pending::{Pending, Stage};
 use crate::pieces::fill_from;
 use je_disk::extended;
+use std::alloc::Global;
 use std::fs::OpenFile;
 use std::io;
 use std::io::{Error, ErrorKind, Read, Seek, SeekFrom, Write};
+use std::sync::Arc;
 
 /// What a sync has to make stable of a file.
 #[derive(Clone, Copy, PartialEq, Eq)]
@@ -31,6 +33,10 @@ pub struct Opened<F> {
     data: Pending,
     // its length on the disk
     size: Pending,
+    // where the next byte is written, if that is known
+    position: Option<u64>,
+    // the handle that its sync jobs share, once there was one
+    shared: Option<Arc<F, Global>>,
 }
 
 impl<F> Opened<F> {
@@ -44,6 +50,8 @@ impl<F> Opened<F> {
             end: 0,
             data: Pending::Nothing,
             size: Pending::Sync,
+            position: None,
+            shared: None,
         }
     }
 
@@ -87,12 +95,20 @@ impl<F: Read + Write + Seek + OpenFile + Drop> Opened<F> {
             end: len,
             data: Pending::Nothing,
             size: Pending::Nothing,
+            position: None,
+            shared: None,
         })
     }
 
-    /// A handle of its own.
-    pub fn handle(&self) -> io::Result<F> {
-        self.file.try_clone()
+    /// A handle for a sync job. All of the file's jobs share one, so it is made once.
+    pub fn handle(&mut self, alloc: Global) -> io::Result<Arc<F, Global>> {
+        if let Some(shared) = &self.shared {
+            return Ok(Arc::try_clone(shared)?);
+        }
+        let shared = Arc::new(alloc, self.file.try_clone()?)?;
+        let handle = Arc::try_clone(&shared)?;
+        self.shared = Some(shared);
+        Ok(handle)
     }
 
     /// Puts bytes behind its own, and sets room aside first where they would pass its end on the disk. A call that
@@ -107,9 +123,23 @@ impl<F: Read + Write + Seek + OpenFile + Drop> Opened<F> {
         };
         self.make_room(len)?;
         self.data = Pending::Sync;
-        self.file.seek(SeekFrom::Start(self.len))?;
+        self.go_to_end()?;
         self.file.write_all(bytes)?;
         self.len = len;
+        self.position = Some(len);
+        Ok(())
+    }
+
+    // What is written next stands behind its bytes. Until that is done it is not known where the next byte is written.
+    fn go_to_end(&mut self) -> io::Result<()>
+        ensures len { self.new.len ≡ self.old.len }
+        ensures end { self.new.end ≡ self.old.end }
+    {
+        let position = self.position;
+        self.position = None;
+        if position != Some(self.len) {
+            self.file.seek(SeekFrom::Start(self.len))?;
+        }
         Ok(())
     }
 
@@ -170,6 +200,7 @@ impl<F: Read + Write + Seek + OpenFile + Drop> Opened<F> {
         }
         let left = (self.len - at) as usize;
         let count = into.len().min(left);
+        self.position = None;
         fill_from(&mut self.file, at, &mut into[..count])
     }
 }

@@ -58,7 +58,7 @@ fn placeholders<R: Files>(rt: &R) -> HeldFiles<R::File> {
 // Runs the program, and gives its status. Out of memory before the top call is the one error.
 fn run<R: Runtime + AllocGlobal>(rt: &R) -> Result<u8, AllocError>
 where
-    R::File: Send,
+    R::File: Send + Sync,
 {
     let held = placeholders(rt);
     let args = args_of(rt)?;
