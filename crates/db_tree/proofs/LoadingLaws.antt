@@ -1,6 +1,5 @@
 -- Nodes that are put while a log is read again.
 use Rattle.std.proofs.Common.{◌≡◌, ◌<◌, ◌≤◌, ◌+◌, ◌-◌, ◌⊎◌, ◌&&◌, ◌||◌, ◌∷◌, ◌++◌, not, ℕ, zero, suc, List, [], Bool, true, false, cond, Option, None, Some, IsSome, length, take, get_or, refl, ap, sym, subst, ◌∙◌, inl, inr, arith, is_eq, Result, Ok, Err, OnOk}
-use Rattle.std.specs.List.{list_any}
 use Rattle.std.proofs.lemmas.Bool.{cases_order, true≢false}
 use Rattle.std.proofs.lemmas.List.{get_or_past, take_more}
 use Rattle.std.proofs.lemmas.List.Folds.{list_any-append}

@@ -1,5 +1,5 @@
 -- Nodes that are not noted, and have no mark before an LSN: so are those that are split off, put above, or wait.
-use Rattle.std.proofs.Common.{◌≡◌, ◌≤◌, ◌<◌, ◌-◌, ◌⊎◌, inl, inr, ℕ, suc, zero, List, [], ◌∷◌, Bool, true, false, cond, Option, None, Some, Result, Ok, Err, OnOk, length, refl, ap, sym, subst, ◌∙◌, is_eq, arith}
+use Rattle.std.proofs.Common.{◌≡◌, ◌≤◌, ◌<◌, ◌⊎◌, inl, inr, ℕ, suc, zero, List, [], ◌∷◌, Bool, true, false, cond, Option, None, Some, Result, Ok, Err, OnOk, length, refl, ap, sym, subst, ◌∙◌, is_eq, arith}
 use Rattle.std.specs.Prelude.{IfSome}
 use Rattle.std.specs.declared.alloc.AllocError.{AllocError}
 use Rattle.std.proofs.lemmas.Bool.{cases_order}

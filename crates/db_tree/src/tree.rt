@@ -15,6 +15,7 @@ ghost use Rattle.db_tree.specs.Seen.{occupied, seen, with_change, with_value};
 ghost use Rattle.db_tree.specs.Stored.{with_logged};
 ghost use Rattle.db_tree.specs.Stored.{HasLogged, loaded_cell, version_logged, IsLoggedAlready};
 ghost use Rattle.record_tree.specs.Occupied.{after_commit, after_abort};
+ghost use Rattle.node_core.specs.declared.slot.Version.TheVariants.{There};
 ghost use Rattle.db_tree.specs.NodeSteps.{AreSameNodes, IsMarkedFrom, IsOneNode, written_lsn};
 ghost use Rattle.std.specs.Map.{set_value};
 ghost use Rattle.std.specs.BTreeMap.{is_at};
@@ -89,16 +90,26 @@ fn version_logged(value: &Option<Octets>, at: Lsn) -> Version
     }
 }
 
+// Whether the version is that of a record that was logged at the LSN.
+fn is_there(version: Version, at: Lsn) -> bool
+    ensures yes { result ≡ true → version ≡ There at }
+    ensures no { version ≡ There at → result ≡ true }
+{
+    match version {
+        Version::There(lsn) => lsn.as_u64() == at.as_u64(),
+        Version::Deleted | Version::Unset => false,
+    }
+}
+
 // Whether two versions are the same.
 fn is_same(a: Version, b: Version) -> bool
     ensures yes { result ≡ true → a ≡ b }
     ensures no { a ≡ b → result ≡ true }
 {
-    match (a, b) {
-        (Version::There(a), Version::There(b)) => a == b,
-        (Version::Deleted, Version::Deleted) => true,
-        (Version::Unset, Version::Unset) => true,
-        _ => false,
+    match b {
+        Version::There(at) => is_there(a, at),
+        Version::Deleted => matches!(a, Version::Deleted),
+        Version::Unset => matches!(a, Version::Unset),
     }
 }
 

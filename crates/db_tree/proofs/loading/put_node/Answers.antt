@@ -1,4 +1,3 @@
-use Rattle.std.proofs.Common.{◌+◌}
 use Rattle.db_tree.specs.Splits.{one_if}
 use Rattle.db_tree.specs.Waiting.{waiting_of, count_lows}
 use Rattle.db_tree.proofs.LoadingLaws.{more_then, loaded, set_few, set_net, few_three, both_few, net_three}
