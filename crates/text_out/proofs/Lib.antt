@@ -3,4 +3,4 @@ pub mod BufferedText
 -- Hexadecimal digits, one byte after another.
 mod HexDigits
 -- The digits of a number, the last one first.
-mod Digits
+mod DigitSteps

@@ -1,4 +1,4 @@
-use Rattle.std.proofs.Common.{◌/◌, ◌%◌, ◌^◌, false, ap, ℕ}
+use Rattle.std.proofs.Common.{false, ap, ℕ}
 use Rattle.std.specs.Fmt.{digits}
 use Rattle.text_out.proofs.BufferedText.{adds_same, adds_then}
 use Rattle.text_out.proofs.digits.put_lsn.Goals as goal

@@ -1,6 +1,6 @@
 use Rattle.std.proofs.Common.{rules, ◌≡◌, ◌<◌, ◌/◌, ◌^◌, ◌+◌, ◌-◌, drop, [], slice_set, arith}
 use Rattle.std.proofs.lemmas.Grind.{common_steps}
-use Rattle.text_out.proofs.Digits.{onto_none, onto_step, fewer_before}
+use Rattle.text_out.proofs.DigitSteps.{onto_none, onto_step, fewer_before}
 use Rattle.text_out.proofs.hexadecimal.write_hexadecimal.Goals as goal
 
 pub loop-rest-init : goal.loop-rest-init
