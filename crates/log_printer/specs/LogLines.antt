@@ -11,6 +11,7 @@ use Rattle.log_printer.specs.declared.entry_kind.EntryKind.{EntryKind}
 use Rattle.log_printer.specs.declared.entry_kind.EntryKind.TheVariants.{FileHeader as FileHeaderKind, Put as PutKind, Delete as DeleteKind, Migrated as MigratedKind, Commit as CommitKind, In as InKind, Bin as BinKind, BinDelta as BinDeltaKind, CkptStart as CkptStartKind, CkptEnd as CkptEndKind, FileSummary as FileSummaryKind}
 use Rattle.log_printer.specs.declared.log_line.LogLine.{LogLine}
 
+-- the kind of an entry
 abbrev pub kind_of_entry : Entry → EntryKind
 kind_of_entry (FileHeader version file) = FileHeaderKind
 kind_of_entry (Put txn db name value) = PutKind
@@ -52,6 +53,7 @@ line_of_entry f at prev entry = record {
   db = db_of_entry entry;
 }
 
+-- the line of a file's header
 abbrev pub header_line : ℕ → LogLine
 header_line f = line_of_entry f 0 0 (FileHeader 1 f)
 
@@ -66,6 +68,7 @@ lines_of_prefix f prefix = if prefix.end == 0 then [] else header_line f ∷ lin
 
 -- ---- texts
 
+-- the word that names a kind
 abbrev pub kind_word : EntryKind → List ℕ
 kind_word FileHeaderKind = codes "FileHeader"
 kind_word PutKind = codes "Put"
@@ -79,10 +82,12 @@ kind_word CkptStartKind = codes "CkptStart"
 kind_word CkptEndKind = codes "CkptEnd"
 kind_word FileSummaryKind = codes "FileSummary"
 
+-- the part of a line that names the transaction, if the entry is one's
 abbrev pub line_txn : Option TxnId → List ℕ
 line_txn (Some txn) = codes " txn " ++ decimal txn.0
 line_txn None = []
 
+-- the part of a line that names the database, if the entry is of one
 abbrev pub line_db : Option ℕ → List ℕ
 line_db (Some db) = codes " db " ++ decimal db
 line_db None = []
