@@ -15,6 +15,7 @@ use Rattle.log_entry.specs.declared.entry.Entry.TheVariants.{Put, Migrated}
 use Rattle.record_map.specs.Cells.{value_at}
 use Rattle.record_map.proofs.NameLaws.{same_or_other}
 use Rattle.record_tree.specs.LoadedNodes.{LoadedNode, HasPutNode, AreNodesStill, IsLoggedAt, data_put}
+use Rattle.record_tree.specs.Stored.{stored_at}
 use Rattle.tree_nodes.specs.declared.node.Node.{Node}
 use Rattle.tree_nodes.specs.Nodes.{NodeRow, least}
 use Rattle.tree_nodes.specs.Levels.{row_of, AreParts}
@@ -23,7 +24,7 @@ use Rattle.log_trees.specs.Trees.{data_in, data_of}
 use Rattle.db_tree.specs.declared.tree.DbTree.{DbTree}
 use Rattle.db_tree.specs.Loading.{loaded_by, loaded_in, IsLoaded}
 use Rattle.db_tree.specs.NodeSteps.{IsOneNode}
-use Rattle.db_tree.specs.Stored.{stored_under}
+use Rattle.db_tree.specs.Stored.{stored_under, IsLoggedAlready}
 use Rattle.tree_images.specs.Fits.{FitsTree}
 use Rattle.tree_images.specs.Forest.{ForestFits, AreLogged, IsLoggedWrite, latest_at}
 use Rattle.tree_images.specs.PlaceLaws.{home_with}
@@ -40,9 +41,9 @@ use Rattle.in_tree.specs.Loaded.{AreAllParts, node_in, nodes_of, FitsUpTo}
 use Rattle.in_tree.specs.declared.trees.Trees.{Trees}
 use Rattle.in_tree.specs.LoadedFits.{LoadedTreesFit}
 use Rattle.in_tree.specs.LoadedNodes.{HasLoadedIn, IsEnsured}
-use Rattle.in_tree.specs.Stored.{IsQuiet, stored_of}
+use Rattle.in_tree.specs.Stored.{IsQuiet, slots_held, stored_of}
 use Rattle.in_tree.proofs.Forests.{number_cases, number_same, replaced, others_away}
-use Rattle.in_tree.proofs.StoredLaws.{stored_at_name}
+use Rattle.in_tree.proofs.StoredLaws.{logged_already, stored_at_name}
 
 -- ---- levels that part all names
 
@@ -230,3 +231,11 @@ read_fits trees es c base formed read below numbers earlier =
           ∙ ap (λ (o : Option DbTree). stored_under (value_at x (cells_of o))) is;
       quiet = λ x cell there. (formed.quiet d).quiet x cell (ap (value_at x) (ap cells_of is) ∙ there);
     })
+
+-- what is committed already stands in the cells
+pub cells_already : (inside seen : Trees) (db : ℕ) (kept name : Name) (at : ℕ) (value : Option (List ℕ)) → inside ≡ seen → kept ≡ name → IsQuiet inside.forest → slots_held seen.forest db name ≡ true →
+    value_at name (stored_of seen.forest db) ≡ stored_at at value → IsLoggedAlready (cells_at inside.forest db) kept at value
+cells_already inside seen db kept name at value same is quiet slot found =
+    subst (λ (x : Name). IsLoggedAlready (cells_at inside.forest db) x at value) (sym is)
+    (logged_already (cells_at inside.forest db) name at value (subst (λ (t : Trees). slots_held t.forest db name ≡ true) (sym same) slot)
+    (sym (stored_at_name (cells_at inside.forest db) name (quiet db).rising) ∙ subst (λ (t : Trees). value_at name (stored_of t.forest db) ≡ stored_at at value) (sym same) found))
