@@ -1,5 +1,5 @@
 -- What the program promises of one run.
-use Rattle.std.specs.Prelude.{ℕ, ◌/◌, ◌%◌, ◌^◌, ◌≡◌, ◌≢◌, ◌≤◌, ◌<◌, ◌⊎◌, [], ◌++◌, List, Option, Some, None, Bool, true, false, Ok, Err, length, codes, decimal, slice_index_or, IfSome}
+use Rattle.std.specs.Prelude.{ℕ, ◌≡◌, ◌≢◌, ◌≤◌, ◌<◌, ◌⊎◌, [], ◌++◌, List, Option, Some, None, Bool, true, false, Ok, Err, length, codes, decimal, slice_index_or, IfSome}
 use Rattle.je_order.specs.Counts.{HasRisen}
 use Rattle.je_io.specs.Sink.{Gains, GainsPart}
 use Rattle.je_disk.specs.Moments.{History, now}
