@@ -1,4 +1,4 @@
-use Rattle.std.proofs.Common.{ap, is_some, sym, ℕ}
+use Rattle.std.proofs.Common.{ap, is_some, sym}
 use Rattle.db_tree.specs.Splits.{one_if}
 use Rattle.db_tree.specs.declared.new_waits.NewWaits.{NewWaits}
 use Rattle.in_tree.proofs.Checked.{if_ok_then}
