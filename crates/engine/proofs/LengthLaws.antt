@@ -16,7 +16,7 @@ use Rattle.log_buffer.specs.declared.buffer.LogBuffer.{LogBuffer}
 use Rattle.log_buffer.specs.declared.log_pos.LogPos.{LogPos}
 use Rattle.log_buffer.specs.Buffer.{end_of, file_max_of, file_of, last_of, offset_of}
 use Rattle.log_buffer.specs.Crash.{KeepsFile, KeepsFront, KeepsLog}
-use Rattle.log_buffer.specs.Flip.{end_after, goes_in, header_size, next_file, placed_at}
+use Rattle.log_buffer.specs.Flip.{goes_in, header_size, next_file, placed_at}
 use Rattle.log_buffer.specs.Growth.{log_with_all, longer}
 use Rattle.log_buffer.specs.Log.{EndsAt, log_with}
 use Rattle.log_buffer.proofs.LogChanges.{AreBelow, below_last, below_more, below_push, lookup_last, lookup_push, with_last, with_next}
