@@ -222,8 +222,8 @@ ended_well before mid after journal memory_ended old new failed caused later ros
     by_answer (inr none) = none
 
     by_failed : (failed ≡ true) ⊎ (failed ≡ false) → failed ≡ false
-    by_failed (inl yes) = absurd (quiet (rose_earlier before mid after caused.never_falls (rose yes) later))
-    by_failed (inr no) = no
+    by_failed (inl failing) = absurd (quiet (rose_earlier before mid after caused.never_falls (rose failing) later))
+    by_failed (inr none) = none
 
 -- the same since an earlier count
 pub well_since : (before mid after : ℕ) (cause : Cause) → before ≤ mid → mid ≤ after → (is_run_through cause ≡ true) ⊎ (HasRisen before after → ⊥) → (is_run_through cause ≡ true) ⊎ (HasRisen mid after → ⊥)
