@@ -1,6 +1,6 @@
 -- A call that waited, is a transaction of its own, and changes something.
 use Rattle.std.specs.Prelude.{is_some}
-use Rattle.std.proofs.Common.{◌≡◌, ◌≢◌, ◌∙◌, ◌⊎◌, inl, inr, ℕ, zero, suc, ◌+◌, ◌≤◌, Bool, true, false, true≢false, cond, List, [], ◌∷◌, ◌++◌, count_by, length, map, Ok, Option, None, Some, refl, ap, ap₂, sym, subst, arith}
+use Rattle.std.proofs.Common.{◌≡◌, ◌≢◌, ◌∙◌, ◌⊎◌, inl, inr, ℕ, zero, suc, ◌+◌, ◌≤◌, Bool, true, false, cond, List, [], ◌∷◌, ◌++◌, count_by, length, map, Ok, Option, None, Some, refl, ap, ap₂, sym, subst, arith}
 use Rattle.std.proofs.lemmas.Bool.{eq-eqb}
 use Rattle.std.proofs.lemmas.List.{append-nil, length-map}
 use Rattle.std.specs.List.{AllByRecursion}
@@ -20,7 +20,7 @@ use Rattle.je_answers.specs.Events.{IsLogged, log_limit}
 use Rattle.je_answers.specs.After.{after_fate, answered, closed, ended, fate_of, faulted, with_locks}
 use Rattle.je_answers.specs.After.{committed as committed_to}
 use Rattle.je_answers.specs.After.Fate.{Succeeds}
-use Rattle.je_answers.specs.Journal.{changes_closed, is_disk_fault}
+use Rattle.je_answers.specs.Journal.{changes_closed}
 use Rattle.je_order.specs.declared.txn_id.TxnId.{TxnId}
 use Rattle.log_entry.specs.declared.entry.Entry.{Entry}
 use Rattle.log_entry.specs.declared.entry.Entry.TheVariants.{Commit as Committed}
@@ -36,7 +36,7 @@ use Rattle.log_buffer.specs.Growth.{Grew, log_with_all, longer}
 use Rattle.log_buffer.proofs.GrowthLaws.{grew_then, grew_unchanged, tried_then, with_all-append}
 use Rattle.crash_recovery.specs.Recovery.{RecoversLog}
 use Rattle.standing_laws.specs.Right.{AreNumbered, txn_id}
-use Rattle.engine.proofs.CalmAnswers.{IsCalm, faultless}
+use Rattle.engine.proofs.CalmAnswers.{IsCalm}
 use Rattle.engine.specs.Limits.{IsWithin, reach_after}
 use Rattle.environment.specs.declared.environment.Environment.{Environment}
 use Rattle.environment.specs.declared.wrote.Wrote.{Wrote}
@@ -48,7 +48,7 @@ use Rattle.environment.specs.OwnEnds.{AreEndedBy, HasPushedAndLogged, answer_for
 use Rattle.environment.specs.Steps.{HasFailedWith, HasGrown, HasLoggedCall, HasStepped, IsCallStep, RecoversWith, StandsAt}
 use Rattle.environment.specs.Whole.{HasLimit, reach_of}
 use Rattle.environment.specs.Written.{had_at}
-use Rattle.environment.proofs.CommitLaws.{failed_then, grown_then, had_within, is_under_way, owing_one, settled, settled_near}
+use Rattle.environment.proofs.CommitLaws.{failed_then, grown_entries, grown_then, had_within, is_under_way, owing_one, settled, settled_near}
 use Rattle.environment.proofs.FinishLaws.{Takes, in_sessions}
 use Rattle.environment.proofs.CallChanges.{all_in, names_in}
 use Rattle.environment.proofs.ChangeLaws.{Changed}
@@ -127,6 +127,7 @@ module _ {D : Type 0} (observable : Bool) (history : D → History) (sync_out re
   -- a Commit behind the entries of changes
   committed_behind : (x : Engine D) (y z : LogBuffer D) (wrote : List (List Change)) (changes : List Change) (txn : TxnId) → HasLoggedCall observable history sync_out read_out read_of x y wrote [] txn →
       (second : HasGrown observable history sync_out read_out read_of y z (changes ∷ [])) → second.entries ≡ Committed txn ∷ [] → HasLoggedCall observable history sync_out read_out read_of x z wrote (changes ∷ []) txn
+  unfolding both_grown
   committed_behind x y z wrote changes txn first second is = record {
     grown = both_grown x.trees.log y z (changes ∷ []) first.grown second;
     planned = first.planned;
@@ -136,6 +137,7 @@ module _ {D : Type 0} (observable : Bool) (history : D → History) (sync_out re
 
   -- nothing more
   idle_then : (x : Engine D) (y z : LogBuffer D) → IsCallStep observable history sync_out read_out read_of false x y [] [] → IsUnchanged y z → IsCallStep observable history sync_out read_out read_of false x z [] []
+  unfolding both_grown none_more
   idle_then x y z (inl h) same = inr (txn_id 0, record { grown = both_grown x.trees.log y z [] (none_more x.trees.log y h.0) (none_more y z same); planned = []; rows = refl; logs = refl })
   idle_then x y z (inr h) same = inr (h.0, record {
     grown = both_grown x.trees.log y z [] h.1.grown (none_more y z same);
@@ -220,7 +222,8 @@ module _ {D : Type 0} (observable : Bool) (history : D → History) (sync_out re
       fault = none;
       logged = inr (a.txn, subst (λ (l : List Change). HasLoggedCall observable history sync_out read_out read_of before.engine new.engine.trees.log (all_ ∷ []) (l ∷ []) a.txn) named
           (committed_behind before.engine old.engine.trees.log new.engine.trees.log (all_ ∷ []) (changes_named then_ (then_.own a.txn.0)) a.txn logs
-          (grown_then observable history sync_out read_out read_of faults old new then_ a records (w.here.valid none) h its) refl));
+          (grown_then observable history sync_out read_out read_of faults old new then_ a records (w.here.valid none) h its)
+          (grown_entries observable history sync_out read_out read_of faults old new then_ a records (w.here.valid none) h its)));
       near = far before old new all_ w.near (settled_near observable history sync_out read_out read_of faults old new then_ a records h its some_then w.here.sessions_at (w.here.valid none).works);
     })
 

@@ -416,6 +416,10 @@ module _ {D : Type 0} (observable : Bool) (history : D → History) (sync_out re
           changes_it (log_at v).given (may_commit v is) (are_own v).store (add h);
     }
 
+    pub grown_entries : (v : Valid) → (h : Settled) → (is : active_of a.session st.actives ≡ Some a) → (grown_then v h is).entries ≡ Committed a.txn ∷ []
+    unfolding grown_then
+    grown_entries v h is = refl
+
     pub came : (most session line : ℕ) → Settled → active_of session st.actives ≡ Some a → own_it ≢ [] → Sum → st.fault ≡ None → StandsAt most observable history old st →
         HasCome observable history sync_out read_out read_of most old new st session line Commit (commit_answer a.durability st.commits) []
     came most session line h some nonempty sum none at = subst Come (sym (commit_late st session a some)) (record {
@@ -427,7 +431,7 @@ module _ {D : Type 0} (observable : Bool) (history : D → History) (sync_out re
       fault = ap (λ (s : Standing). s.fault) path ∙ (none ∙ sym (ap (λ (b : Bool). cond b (Some Disk) None) quiet));
       logged = subst (λ (b : Bool). IsCallStep observable history sync_out read_out read_of b old.engine log_new [] (tried (changes_ended (active_of session st.actives) st) (fate_of answer))) (sym quiet)
           (inr (a.txn, subst (λ (l : List (List Change)). HasLoggedCall observable history sync_out read_out read_of old.engine log_new [] l a.txn) (sym tries)
-          (record { grown = grown_then v h is; planned = []; rows = refl; logs = ([], refl, refl) })));
+          (record { grown = grown_then v h is; planned = []; rows = refl; logs = ([], refl, grown_entries v h is) })));
       near = within_more old new [] (settled_near h is nonempty at.sessions_at v.works);
     })
       where

@@ -485,6 +485,7 @@ module _ {D : Type 0} where
         stops = λ ok. h.stops (sym same.failed ∙ ok);
         faultless = h.faultless;
         files = h.files;
+        past = h.past;
         most = h.most;
         sizes = λ none. absurd (none-some first (sym none ∙ fault));
       }

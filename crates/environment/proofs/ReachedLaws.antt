@@ -7,14 +7,12 @@ use Rattle.store_model.specs.Store.{IsStore}
 use Rattle.store_model.specs.declared.answer.Answer.{Answer}
 use Rattle.store_model.specs.declared.answer.Answer.TheVariants.{Durable, DiskFault}
 use Rattle.store_model.specs.declared.answer.Fault.{Fault}
-use Rattle.store_model.specs.declared.event.Event.TheVariants.{SyncBegin, SyncEnd}
 use Rattle.je_answers.specs.Standing.{Standing}
-use Rattle.je_answers.specs.After.{after_event}
 use Rattle.je_answers.specs.Events.{IsSyncEnded}
 use Rattle.engine.specs.Opening.{AreNumbers, StartsAt}
 use Rattle.serial_replay.specs.Laws.{HaveNumbers}
 use Rattle.serial_replay.specs.Reached.{IsBeginning, IsReached}
-use Rattle.serial_replay.proofs.Attempts.{beginnings_are-reached, reached_goes-on}
+use Rattle.serial_replay.proofs.Attempts.{beginnings_are-reached}
 use Rattle.environment.proofs.RightStores.{meaning_right}
 
 opening_numbers : (store : Store) (last_db : ℕ) (numbers : List ℕ → ℕ) → AreNumbers store last_db numbers → HaveNumbers store last_db numbers
