@@ -419,18 +419,21 @@ module _ {D : Type 0} where
       logged_step n a =
           let added : HasAdded observable history sync_out read_out read_of e.engine.trees.log n.trees.log (LogsTransaction (txn_of (e.engine.kept.last_txn + 1)) planned.changes.items) =
           record { entries = a.entries; logs = a.logs; grew = a.grew; room = record { max = e.engine.trees.log.max; entries_are = a.fits.entries_are; room = a.fits.room } } in
-          inr (txn_of (e.engine.kept.last_txn + 1), record {
-            grown = record {
-              entries = a.entries;
-              grew = a.grew;
-              recovers = commit_recovered_in observable history sync_out read_out read_of (at.valid none).log e.engine.trees.log n.trees.log (committed (cells_of e.engine.trees))
-                  (rows_after planned.changes.items planned.gone (committed (cells_of e.engine.trees))) e.engine.kept.last_txn e.engine.kept.last_db (e.engine.kept.last_db + made_by (log.change ∷ log.more)) (λ t. false) (λ t. [])
-                  (λ d. is_gone d planned.gone) (txn_of (e.engine.kept.last_txn + 1)) [] planned.changes.items (log.change ∷ log.more) given_of may_of leaves_of.store added;
-            };
-            planned = planned.changes.items;
-            rows = log.rows 0;
-            logs = a.logs;
-          })
+          inr (
+            txn_of (e.engine.kept.last_txn + 1),
+            record {
+              grown = record {
+                entries = a.entries;
+                grew = a.grew;
+                recovers = commit_recovered_in observable history sync_out read_out read_of (at.valid none).log e.engine.trees.log n.trees.log (committed (cells_of e.engine.trees))
+                    (rows_after planned.changes.items planned.gone (committed (cells_of e.engine.trees))) e.engine.kept.last_txn e.engine.kept.last_db (e.engine.kept.last_db + made_by (log.change ∷ log.more)) (λ t. false) (λ t. [])
+                    (λ d. is_gone d planned.gone) (txn_of (e.engine.kept.last_txn + 1)) [] planned.changes.items (log.change ∷ log.more) given_of may_of leaves_of.store added;
+              };
+              planned = planned.changes.items;
+              rows = log.rows 0;
+              logs = a.logs;
+            },
+          )
 
       pub tried_step : (n : Engine D) → HasTried observable history sync_out read_out read_of e.engine.trees.log n.trees.log (txn_of (e.engine.kept.last_txn + 1)) planned.changes.items →
           IsCallStep observable history sync_out read_out read_of true e.engine n.trees.log ((log.change ∷ log.more) ∷ []) ((log.change ∷ log.more) ∷ [])

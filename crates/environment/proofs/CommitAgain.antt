@@ -139,12 +139,15 @@ module _ {D : Type 0} (observable : Bool) (history : D → History) (sync_out re
   idle_then : (x : Engine D) (y z : LogBuffer D) → IsCallStep observable history sync_out read_out read_of false x y [] [] → IsUnchanged y z → IsCallStep observable history sync_out read_out read_of false x z [] []
   unfolding both_grown none_more
   idle_then x y z (inl h) same = inr (txn_id 0, record { grown = both_grown x.trees.log y z [] (none_more x.trees.log y h.0) (none_more y z same); planned = []; rows = refl; logs = refl })
-  idle_then x y z (inr h) same = inr (h.0, record {
-    grown = both_grown x.trees.log y z [] h.1.grown (none_more y z same);
-    planned = h.1.planned;
-    rows = h.1.rows;
-    logs = subst (LogsChanges h.0 h.1.planned) (sym (append-nil h.1.grown.entries)) h.1.logs;
-  })
+  idle_then x y z (inr h) same = inr (
+    h.0,
+    record {
+      grown = both_grown x.trees.log y z [] h.1.grown (none_more y z same);
+      planned = h.1.planned;
+      rows = h.1.rows;
+      logs = subst (LogsChanges h.0 h.1.planned) (sym (append-nil h.1.grown.entries)) h.1.logs;
+    },
+  )
 
   -- a log that failed was to commit more, or not
   more_failed : (x y : LogBuffer D) (more : List (List Change)) → HasFailedWith observable history sync_out read_out read_of x y [] → HasFailedWith observable history sync_out read_out read_of x y more
@@ -220,10 +223,13 @@ module _ {D : Type 0} (observable : Bool) (history : D → History) (sync_out re
           (settled observable history sync_out read_out read_of faults old new then_ a records most h its some_then sum none w.here);
       numbered = refl;
       fault = none;
-      logged = inr (a.txn, subst (λ (l : List Change). HasLoggedCall observable history sync_out read_out read_of before.engine new.engine.trees.log (all_ ∷ []) (l ∷ []) a.txn) named
-          (committed_behind before.engine old.engine.trees.log new.engine.trees.log (all_ ∷ []) (changes_named then_ (then_.own a.txn.0)) a.txn logs
-          (grown_then observable history sync_out read_out read_of faults old new then_ a records (w.here.valid none) h its)
-          (grown_entries observable history sync_out read_out read_of faults old new then_ a records (w.here.valid none) h its)));
+      logged = inr (
+        a.txn,
+        subst (λ (l : List Change). HasLoggedCall observable history sync_out read_out read_of before.engine new.engine.trees.log (all_ ∷ []) (l ∷ []) a.txn) named
+            (committed_behind before.engine old.engine.trees.log new.engine.trees.log (all_ ∷ []) (changes_named then_ (then_.own a.txn.0)) a.txn logs
+            (grown_then observable history sync_out read_out read_of faults old new then_ a records (w.here.valid none) h its)
+            (grown_entries observable history sync_out read_out read_of faults old new then_ a records (w.here.valid none) h its)),
+      );
       near = far before old new all_ w.near (settled_near observable history sync_out read_out read_of faults old new then_ a records h its some_then w.here.sessions_at (w.here.valid none).works);
     })
 

@@ -430,8 +430,11 @@ module _ {D : Type 0} (observable : Bool) (history : D → History) (sync_out re
       numbered = subst (λ (s : Standing). IsNumbered answer s.commits) (sym path) (numbered_done a.durability st.commits);
       fault = ap (λ (s : Standing). s.fault) path ∙ (none ∙ sym (ap (λ (b : Bool). cond b (Some Disk) None) quiet));
       logged = subst (λ (b : Bool). IsCallStep observable history sync_out read_out read_of b old.engine log_new [] (tried (changes_ended (active_of session st.actives) st) (fate_of answer))) (sym quiet)
-          (inr (a.txn, subst (λ (l : List (List Change)). HasLoggedCall observable history sync_out read_out read_of old.engine log_new [] l a.txn) (sym tries)
-          (record { grown = grown_then v h is; planned = []; rows = refl; logs = ([], refl, grown_entries v h is) })));
+          (inr (
+            a.txn,
+            subst (λ (l : List (List Change)). HasLoggedCall observable history sync_out read_out read_of old.engine log_new [] l a.txn) (sym tries)
+                (record { grown = grown_then v h is; planned = []; rows = refl; logs = ([], refl, grown_entries v h is) }),
+          ));
       near = within_more old new [] (settled_near h is nonempty at.sessions_at v.works);
     })
       where
