@@ -18,7 +18,7 @@ use Rattle.node_core.specs.declared.slot.Version.{Version}
 use Rattle.node_core.specs.declared.slot.Version.TheVariants.{Deleted}
 use Rattle.node_core.specs.declared.slot.Marked.{Marked}
 use Rattle.record_map.specs.declared.cell.Cell.{Cell}
-use Rattle.record_tree.specs.LoadedSlots.{is_deletion, shows_deletion}
+use Rattle.record_tree.specs.LoadedSlots.{is_deletion, is_inside, shows_deletion, shows_deletion_inside}
 use Rattle.db_tree.proofs.NodeSteps.{IsElsewhere, place_of, put_elsewhere, put_here}
 use Rattle.db_tree.proofs.Over.{there_is}
 use Rattle.db_tree.proofs.WaitCounts.{put_few, put_net}
@@ -139,6 +139,10 @@ or_false : (b : Bool) → (b || false) ≡ b
 or_false true = refl
 or_false false = refl
 
+and_false : (b : Bool) → (b && false) ≡ false
+and_false true = refl
+and_false false = refl
+
 pub gets_none : (at : ℕ) (cells : List (Name × Cell)) → GetsDeletions (λ x. false) at cells cells
 gets_none at cells x = refl
 
@@ -161,26 +165,50 @@ gets_then s t at a b c first next x =
 gets_by : (s t : Name → Bool) (at : ℕ) (a b : List (Name × Cell)) → ((x : Name) → t x ≡ s x) → GetsDeletions s at a b → GetsDeletions t at a b
 gets_by s t at a b same got x = got x ∙ sym (ap (λ (v : Bool). cond (v && not (has_version (value_at x a))) (Some (deleted_cell at)) (value_at x a)) (same x))
 
--- one slot: that of a record that was deleted, or another one
-pub gets_one : (m : Marked) (at : ℕ) (a b : List (Name × Cell)) → m.slot.version ≡ Deleted → GetsDeletions (λ x. is_eq (name_cmp m.slot.name x)) at a b → GetsDeletions (shows_deletion (m ∷ [])) at a b
-gets_one m at a b deleted got =
-    gets_by (λ x. is_eq (name_cmp m.slot.name x)) (shows_deletion (m ∷ [])) at a b
-    (λ x. ap (λ (v : Version). (is_deletion v && is_eq (name_cmp m.slot.name x)) || false) deleted ∙ or_false (is_eq (name_cmp m.slot.name x))) got
+-- a name within bounds, and one outside
+pub gets_inside : (low : Name) (high : Option Name) (name : Name) (at : ℕ) (a b : List (Name × Cell)) → is_inside low high name ≡ true → GetsDeletions (λ x. is_eq (name_cmp name x)) at a b →
+    GetsDeletions (λ x. is_inside low high x && is_eq (name_cmp name x)) at a b
+gets_inside low high name at a b inside got = gets_by (λ x. is_eq (name_cmp name x)) (λ x. is_inside low high x && is_eq (name_cmp name x)) at a b (λ x. by_name x (same_or_other name x)) got
+  where
+    by_name : (x : Name) → (name ≡ x) ⊎ (is_eq (name_cmp name x) ≡ false) → (is_inside low high x && is_eq (name_cmp name x)) ≡ is_eq (name_cmp name x)
+    by_name x (inl same) = ap (λ (t : Bool). t && is_eq (name_cmp name x)) (subst (λ (y : Name). is_inside low high y ≡ true) same inside)
+    by_name x (inr apart) = ap (λ (t : Bool). is_inside low high x && t) apart ∙ and_false (is_inside low high x) ∙ sym apart
 
-pub gets_no : (m : Marked) (at : ℕ) (a : List (Name × Cell)) → is_deletion m.slot.version ≡ false → GetsDeletions (shows_deletion (m ∷ [])) at a a
-gets_no m at a other = gets_by (λ x. false) (shows_deletion (m ∷ [])) at a a (λ x. ap (λ (v : Bool). (v && is_eq (name_cmp m.slot.name x)) || false) other) (gets_none at a)
+pub gets_outside : (low : Name) (high : Option Name) (name : Name) (at : ℕ) (a : List (Name × Cell)) → is_inside low high name ≡ false → GetsDeletions (λ x. is_inside low high x && is_eq (name_cmp name x)) at a a
+gets_outside low high name at a outside = gets_by (λ x. false) (λ x. is_inside low high x && is_eq (name_cmp name x)) at a a (λ x. by_name x (same_or_other name x)) (gets_none at a)
+  where
+    by_name : (x : Name) → (name ≡ x) ⊎ (is_eq (name_cmp name x) ≡ false) → (is_inside low high x && is_eq (name_cmp name x)) ≡ false
+    by_name x (inl same) = ap (λ (t : Bool). t && is_eq (name_cmp name x)) (subst (λ (y : Name). is_inside low high y ≡ false) same outside)
+    by_name x (inr apart) = ap (λ (t : Bool). is_inside low high x && t) apart ∙ and_false (is_inside low high x)
+
+-- one slot: that of a record that was deleted, or another one
+pub gets_one : (low : Name) (high : Option Name) (m : Marked) (at : ℕ) (a b : List (Name × Cell)) → m.slot.version ≡ Deleted → GetsDeletions (λ x. is_inside low high x && is_eq (name_cmp m.slot.name x)) at a b →
+    GetsDeletions (shows_deletion_inside low high (m ∷ [])) at a b
+gets_one low high m at a b deleted got =
+    gets_by (λ x. is_inside low high x && is_eq (name_cmp m.slot.name x)) (shows_deletion_inside low high (m ∷ [])) at a b
+    (λ x. ap (λ (v : Version). is_inside low high x && ((is_deletion v && is_eq (name_cmp m.slot.name x)) || false)) deleted ∙ ap (λ (t : Bool). is_inside low high x && t) (or_false (is_eq (name_cmp m.slot.name x)))) got
+
+pub gets_no : (low : Name) (high : Option Name) (m : Marked) (at : ℕ) (a : List (Name × Cell)) → is_deletion m.slot.version ≡ false → GetsDeletions (shows_deletion_inside low high (m ∷ [])) at a a
+gets_no low high m at a other =
+    gets_by (λ x. false) (shows_deletion_inside low high (m ∷ [])) at a a
+    (λ x. ap (λ (v : Bool). is_inside low high x && ((v && is_eq (name_cmp m.slot.name x)) || false)) other ∙ and_false (is_inside low high x)) (gets_none at a)
 
 -- a slot more
-pub gets_next : (slots : List Marked) (i : ℕ) (m : Marked) (at : ℕ) (a b c : List (Name × Cell)) → i < length slots → m ≡ get_or slots i m → GetsDeletions (shows_deletion (take i slots)) at a b →
-    GetsDeletions (shows_deletion (m ∷ [])) at b c → GetsDeletions (shows_deletion (take (i + 1) slots)) at a c
-gets_next slots i m at a b c within is first next =
-    gets_by (λ x. shows_deletion (take i slots) x || shows_deletion (m ∷ []) x) (shows_deletion (take (i + 1) slots)) at a c all
-    (gets_then (shows_deletion (take i slots)) (shows_deletion (m ∷ [])) at a b c first next)
+pub gets_next : (low : Name) (high : Option Name) (slots : List Marked) (i : ℕ) (m : Marked) (at : ℕ) (a b c : List (Name × Cell)) → i < length slots → m ≡ get_or slots i m →
+    GetsDeletions (shows_deletion_inside low high (take i slots)) at a b → GetsDeletions (shows_deletion_inside low high (m ∷ [])) at b c → GetsDeletions (shows_deletion_inside low high (take (i + 1) slots)) at a c
+gets_next low high slots i m at a b c within is first next =
+    gets_by (λ x. shows_deletion_inside low high (take i slots) x || shows_deletion_inside low high (m ∷ []) x) (shows_deletion_inside low high (take (i + 1) slots)) at a c all
+    (gets_then (shows_deletion_inside low high (take i slots)) (shows_deletion_inside low high (m ∷ [])) at a b c first next)
   where
-    all : (x : Name) → shows_deletion (take (i + 1) slots) x ≡ (shows_deletion (take i slots) x || shows_deletion (m ∷ []) x)
+    both : (p s t : Bool) → (p && (s || t)) ≡ ((p && s) || (p && t))
+    both true s t = refl
+    both false s t = refl
+
+    all : (x : Name) → shows_deletion_inside low high (take (i + 1) slots) x ≡ (shows_deletion_inside low high (take i slots) x || shows_deletion_inside low high (m ∷ []) x)
     all x =
-        ap (λ (l : List Marked). shows_deletion l x) (take_more slots i m within ∙ ap (λ (y : Marked). take i slots ++ y ∷ []) (sym is))
-        ∙ list_any-append (λ (y : Marked). is_deletion y.slot.version && is_eq (name_cmp y.slot.name x)) (take i slots) (m ∷ [])
+        ap (λ (l : List Marked). shows_deletion_inside low high l x) (take_more slots i m within ∙ ap (λ (y : Marked). take i slots ++ y ∷ []) (sym is))
+        ∙ ap (λ (t : Bool). is_inside low high x && t) (list_any-append (λ (y : Marked). is_deletion y.slot.version && is_eq (name_cmp y.slot.name x)) (take i slots) (m ∷ []))
+        ∙ both (is_inside low high x) (shows_deletion (take i slots) x) (shows_deletion (m ∷ []) x)
 
 -- a name that has a slot, and one that has none
 pub gets_had : (name : Name) (at : ℕ) (cells : List (Name × Cell)) → has_version (value_at name cells) ≡ true → GetsDeletions (λ x. is_eq (name_cmp name x)) at cells cells

@@ -1,12 +1,12 @@
 // Records and nodes that a log has are put into a tree.
-ghost use Rattle.std.specs.Prelude.{◌≡◌, ◌<◌, ◌≤◌, ◌+◌, ◌-◌, ◌∷◌, [], Bool, ℕ, suc, length, OnOk, OnErr, IsSome, IfOk};
+ghost use Rattle.std.specs.Prelude.{◌≡◌, ◌<◌, ◌≤◌, ◌+◌, ◌-◌, ◌∷◌, [], Bool, ℕ, suc, length, take, option_copied, OnOk, OnErr, IsSome, IfOk, ◌&&◌};
 ghost use Rattle.std.specs.Ordering.{is_eq};
 ghost use Rattle.je_order.specs.Order.{name_cmp};
 ghost use Rattle.je_order.specs.declared.name.Name.{Name};
 ghost use Rattle.record_map.specs.Cells.{value_at, IsRising};
 ghost use Rattle.tree_nodes.specs.Levels.{row_of};
 ghost use Rattle.record_tree.specs.LoadedNodes.{node_read};
-ghost use Rattle.record_tree.specs.LoadedSlots.{shows_deletion};
+ghost use Rattle.record_tree.specs.LoadedSlots.{is_inside as is_name_inside, shows_deletion_inside};
 ghost use Rattle.db_tree.specs.Loading.{deleted_cell, has_version, loaded_by, GetsDeletions, HasMore, HasLoaded, IsLoaded};
 ghost use Rattle.db_tree.specs.Trees.{HasCell};
 ghost use Rattle.db_tree.specs.Stored.{loaded_cell};
@@ -58,13 +58,20 @@ fn has_version(cells: &Cells, name: &SortKey) -> bool
     }
 }
 
+// A copy of the name, to look it up.
+fn key_of(alloc: Global, name: &Key) -> Result<SortKey, AllocError>
+    ensures { IfOk result (λ key. key ≡ name.now) }
+{
+    let copy = copy_of(name)?;
+    SortKey::new(alloc, copy)
+}
+
 // Puts the slot of a name whose record was deleted, where it has none. Running out of memory changes nothing.
 fn put_deletion(cells: &mut Cells, alloc: Global, name: &Key, at: Lsn) -> Result<(), AllocError>
     ensures got { OnOk result (GetsDeletions (λ x. is_eq (name_cmp name.now x)) at cells.old cells.new) }
     ensures err { OnErr result (cells.new ≡ cells.old) }
 {
-    let copy = copy_of(name)?;
-    let name = SortKey::new(alloc, copy)?;
+    let name = key_of(alloc, name)?;
     if has_version(cells, &name) {
         drop(name);
         return Ok(());
@@ -72,29 +79,69 @@ fn put_deletion(cells: &mut Cells, alloc: Global, name: &Key, at: Lsn) -> Result
     cells.insert(name, deleted_cell(at))
 }
 
-// Puts the slot, if it is that of a record that was deleted.
-fn put_slot(cells: &mut Cells, alloc: Global, marked: &Marked, at: Lsn) -> Result<(), AllocError>
-    ensures got { OnOk result (GetsDeletions (shows_deletion (marked.now ∷ [])) at cells.old cells.new) }
+// Whether a name lies within bounds, the lower one included.
+fn is_inside(low: &Key, high: Option<&Key>, name: &Key) -> bool
+    ensures { result ≡ is_name_inside low.now (option_copied high.entry) name.now }
+{
+    if name.cmp(low).is_lt() {
+        return false;
+    }
+    match high {
+        Some(high) => name.cmp(high).is_lt(),
+        None => true,
+    }
+}
+
+// Puts the slot of a name whose record was deleted, where it has none and lies within the bounds. Running out of memory changes nothing.
+fn put_inside(
+    cells: &mut Cells,
+    alloc: Global,
+    low: &Key,
+    high: Option<&Key>,
+    name: &Key,
+    at: Lsn,
+) -> Result<(), AllocError>
+    ensures got { OnOk result (GetsDeletions (λ x. is_name_inside low.now (option_copied high.entry) x && is_eq (name_cmp name.now x)) at cells.old cells.new) }
+    ensures err { OnErr result (cells.new ≡ cells.old) }
+{
+    if !is_inside(low, high, name) {
+        return Ok(());
+    }
+    put_deletion(cells, alloc, name, at)
+}
+
+// Puts the slot, if it is that of a record that was deleted, and its name lies within the bounds.
+fn put_slot(
+    cells: &mut Cells,
+    alloc: Global,
+    low: &Key,
+    high: Option<&Key>,
+    marked: &Marked,
+    at: Lsn,
+) -> Result<(), AllocError>
+    ensures got { OnOk result (GetsDeletions (shows_deletion_inside low.now (option_copied high.entry) (marked.now ∷ [])) at cells.old cells.new) }
     ensures err { OnErr result (cells.new ≡ cells.old) }
 {
     match marked.slot.version {
-        Version::Deleted => put_deletion(cells, alloc, &marked.slot.name, at),
+        Version::Deleted => put_inside(cells, alloc, low, high, &marked.slot.name, at),
         Version::There(_) | Version::Unset => Ok(()),
     }
 }
 
-// Puts those of the slots that are of records that were deleted.
+// Puts those of the slots that are of records that were deleted, and whose names lie within the bounds.
 fn put_deletions(
     cells: &mut Cells,
     alloc: Global,
+    low: &Key,
+    high: Option<&Key>,
     slots: &[Marked],
     at: Lsn,
 ) -> Result<(), AllocError>
-    ensures got { OnOk result (GetsDeletions (shows_deletion slots.now) at cells.old cells.new) }
-    ensures some { (shown : Name → Bool) × GetsDeletions shown at cells.old cells.new }
+    ensures got { OnOk result (GetsDeletions (shows_deletion_inside low.now (option_copied high.entry) slots.now) at cells.old cells.new) }
+    ensures some { (count : ℕ) × GetsDeletions (shows_deletion_inside low.now (option_copied high.entry) (take count slots.now)) at cells.old cells.new }
 {
     for marked in slots {
-        put_slot(cells, alloc, marked, at)?;
+        put_slot(cells, alloc, low, high, marked, at)?;
     }
     Ok(())
 }
@@ -275,20 +322,21 @@ fn put_node(
 }
 
 impl DbTree {
-    /// Puts a node as its image at `at` shows it, with the slots that this has of records that were deleted; those of its records come
-    /// later. No name in it is below the low. Where that image is not to be kept as its last one, the
+    /// Puts a node as its image at `at` shows it, with the slots within its bounds that this has of records that were deleted; those of its
+    /// records come later. Its names lie from the low on, and below `high` where it has an upper bound. Where that image is not to be kept as its last one, the
     /// node waits to be logged. Where the levels had no such low, other nodes stand there that wait to be logged, until their images
     /// come. It gives how many nodes wait more at most, and whether one that waited gave its place to this one.
     pub fn load_node(
         &mut self,
         alloc: Global,
         image: &Image,
-        low: &SortKey,
+        low: &Key,
+        high: Option<&Key>,
         at: Lsn,
         keeps: bool,
     ) -> Result<NewWaits, AllocError>
-        ensures slots { OnOk result (GetsDeletions (shows_deletion image.now.slots) at self.old.cells self.new.cells) }
-        ensures some { (shown : Name → Bool) × GetsDeletions shown at self.old.cells self.new.cells }
+        ensures slots { OnOk result (GetsDeletions (shows_deletion_inside low.now (option_copied high.entry) image.now.slots) at self.old.cells self.new.cells) }
+        ensures some { (count : ℕ) × GetsDeletions (shows_deletion_inside low.now (option_copied high.entry) (take count image.now.slots)) at self.old.cells self.new.cells }
         ensures was_rising { IsRising self.old.cells }
         ensures rising { IsRising self.new.cells }
         ensures loaded { OnOk result (IsLoaded self.old.levels self.new.levels (image.now.level - 1) low.now (node_read image.now.number at keeps)) }
@@ -296,12 +344,14 @@ impl DbTree {
         ensures made { IfOk result (λ waits. waits.more ≤ 513) }
         ensures most { count_in self.new ≤ count_in self.old + 513 }
     {
-        let node = shown_node(image, at, keeps);
         let _before = self.cells.len();
-        let done = put_deletions(&mut self.cells, alloc, image.slots.as_slice(), at);
+        let slots = image.slots.as_slice();
+        let done = put_deletions(&mut self.cells, alloc, low, high, slots, at);
         let _after = self.cells.len();
         done?;
-        put_node(&mut self.levels, alloc, level_of(image), low, node)
+        let low = key_of(alloc, low)?;
+        let node = shown_node(image, at, keeps);
+        put_node(&mut self.levels, alloc, level_of(image), &low, node)
     }
 
     /// Puts the cell of a record that was logged at `at`, which the last image of its BIN shows. Running out of memory

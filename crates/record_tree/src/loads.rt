@@ -1,5 +1,5 @@
 // Trees that are made of a log.
-ghost use Rattle.std.specs.Prelude.{◌≡◌, ◌≤◌, ◌<◌, ◌-◌, ◌==◌, ◌||◌, ◌&&◌, nat_le, min, ℕ, List, [], length, option_map, find, not, None, Some, IsSome, OnOk, IfOk, Bool, true, false, if◌then◌else◌};
+ghost use Rattle.std.specs.Prelude.{◌≡◌, ◌≤◌, ◌<◌, ◌-◌, ◌==◌, ◌||◌, ◌&&◌, nat_le, min, ℕ, List, [], length, option_map, option_copied, find, not, None, Some, IsSome, OnOk, IfOk, Bool, true, false, if◌then◌else◌};
 ghost use Rattle.std.specs.List.{list_any};
 ghost use Rattle.std.specs.Ordering.{is_eq};
 ghost use Rattle.je_order.specs.Order.{name_cmp};
@@ -7,7 +7,7 @@ ghost use Rattle.je_order.specs.declared.name.Name.{Name as Named};
 ghost use Rattle.log_entry.specs.declared.entry.Entry.{Entry};
 ghost use Rattle.record_map.specs.Cells.{IsRising, value_at};
 ghost use Rattle.record_tree.specs.LoadedNodes.{AllNodes, node_read, HasPutNode, AreNodesStill, IsLoggedAt};
-ghost use Rattle.record_tree.specs.LoadedSlots.{AllSlots, shows_deletion, HasMoreSlots, AreSlotsStill};
+ghost use Rattle.record_tree.specs.LoadedSlots.{AllSlots, shows_deletion_inside, HasMoreSlots, AreSlotsStill};
 ghost use Rattle.record_tree.specs.Stored.{AllStored, stored_at, HasStored, AreStoredStill, lent, values_of};
 
 use crate::{LoadErr, RecordRef, StoredRecord};
@@ -70,20 +70,21 @@ pub trait Loads {
         ensures slots { OnOk result (AreSlotsStill (slots self.old) (slots self.new)) }
         ensures trees { OnOk result ((d : ℕ) → has_tree self.new d ≡ ((d == db) || has_tree self.old d)) };
 
-    /// Puts a node of a database's tree as the image at `at` shows it: no name in it is below `low`. The
-    /// nodes of a tree come from the left, each behind those above it, and a BIN before its records. Where the image is not
-    /// to be kept as the node's last one, the node waits to be logged. The slots that the image has of records that were deleted are put with
-    /// it, so that the node's next image has them too.
+    /// Puts a node of a database's tree as the image at `at` shows it: its names lie from `low` on, and below `high` where it has an upper
+    /// bound. The nodes of a tree come from the left, each behind those above it, and a BIN before its records. Where the image is not
+    /// to be kept as the node's last one, the node waits to be logged. The slots within the bounds that the image has of records that were
+    /// deleted are put with it, so that the node's next image has them too; those outside are read past.
     fn load_node(
         &mut self,
         alloc: Global,
         node: &Node,
         low: &Name,
+        high: Option<&Name>,
         at: Lsn,
         keeps: bool,
     ) -> Result<(), LoadErr>
         ensures stored { OnOk result (AreStoredStill (stored self.old) (stored self.new)) }
-        ensures slots { OnOk result (HasMoreSlots (slots self.old) (slots self.new) node.now.db (shows_deletion node.now.slots)) }
+        ensures slots { OnOk result (HasMoreSlots (slots self.old) (slots self.new) node.now.db (shows_deletion_inside low.now (option_copied high.entry) node.now.slots)) }
         ensures nodes { OnOk result (HasPutNode (nodes self.old) (nodes self.new) node.now.db (node.now.level - 1) low.now (node_read node.now.number at keeps)) };
 
     /// Puts a record of the BIN that was put last, which was logged at `at`.
