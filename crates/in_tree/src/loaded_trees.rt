@@ -161,6 +161,7 @@ impl Loads for LoadedTrees {
         alloc: Global,
         node: &Node,
         low: &Name,
+        high: Option<&Name>,
         at: Lsn,
         keeps: bool,
     ) -> Result<(), LoadErr> {
@@ -168,7 +169,8 @@ impl Loads for LoadedTrees {
         if self.waits > MOST_WAITS {
             return Err(LoadErr::Memory);
         }
-        match loading::load_node(&mut self.trees.forest, alloc, node, low, at, keeps) {
+        let forest = &mut self.trees.forest;
+        match loading::load_node(forest, alloc, node, low, high, at, keeps) {
             Ok(waits) => {
                 self.waits = waits_behind(self.waits, &waits);
                 Ok(())

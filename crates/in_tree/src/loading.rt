@@ -1,11 +1,11 @@
 // Records and nodes that a log has are put into trees.
-ghost use Rattle.std.specs.Prelude.{◌≡◌, ◌≤◌, ◌+◌, ◌-◌, true, Bool, IfOk, OnOk, Some};
+ghost use Rattle.std.specs.Prelude.{◌≡◌, ◌≤◌, ◌+◌, ◌-◌, true, ℕ, take, option_copied, IfOk, OnOk, Some};
 ghost use Rattle.std.specs.Ordering.{is_eq};
 ghost use Rattle.je_order.specs.Order.{name_cmp};
 ghost use Rattle.je_order.specs.declared.name.Name.{Name as Named};
 ghost use Rattle.record_map.specs.Cells.{IsRising};
 ghost use Rattle.record_tree.specs.LoadedNodes.{node_read, HasPutNode, AreNodesStill};
-ghost use Rattle.record_tree.specs.LoadedSlots.{shows_deletion, HasMoreSlots, AreSlotsStill};
+ghost use Rattle.record_tree.specs.LoadedSlots.{shows_deletion_inside, HasMoreSlots, AreSlotsStill};
 ghost use Rattle.record_tree.specs.Stored.{stored_at, HasStored, AreStoredStill};
 ghost use Rattle.tree_nodes.specs.Levels.{AreParts};
 ghost use Rattle.db_tree.specs.Loading.{GetsDeletions, IsLoaded};
@@ -20,7 +20,7 @@ ghost use Rattle.in_tree.specs.Waits.{waits_in};
 use crate::forest;
 use db_tree::{DbTree, NewWaits};
 use je_lsn::Lsn;
-use je_order::{Name, copy_of};
+use je_order::Name;
 use node_core::Node as Image;
 use record_map::SortKey;
 use std::alloc::{AllocError, Global};
@@ -82,21 +82,22 @@ fn put_in(
     tree: &mut DbTree,
     alloc: Global,
     image: &Image,
-    low: &SortKey,
+    low: &Name,
+    high: Option<&Name>,
     at: Lsn,
     keeps: bool,
 ) -> Result<NewWaits, AllocError>
     ensures loaded { OnOk result (IsLoaded tree.old.levels tree.new.levels (image.now.level - 1) low.now (node_read image.now.number at keeps)) }
     ensures parts { AreParts tree.new.levels }
-    ensures slots { OnOk result (GetsDeletions (shows_deletion image.now.slots) at tree.old.cells tree.new.cells) }
-    ensures some { (shown : Named → Bool) × GetsDeletions shown at tree.old.cells tree.new.cells }
+    ensures slots { OnOk result (GetsDeletions (shows_deletion_inside low.now (option_copied high.entry) image.now.slots) at tree.old.cells tree.new.cells) }
+    ensures some { (count : ℕ) × GetsDeletions (shows_deletion_inside low.now (option_copied high.entry) (take count image.now.slots)) at tree.old.cells tree.new.cells }
     ensures was_rising { IsRising tree.old.cells }
     ensures rising { IsRising tree.new.cells }
     ensures few { IfOk result (λ waits. count_in tree.new + one_if waits.replaced ≤ count_in tree.old + waits.more) }
     ensures made { IfOk result (λ waits. waits.more ≤ 513) }
     ensures most { count_in tree.new ≤ count_in tree.old + 513 }
 {
-    let made = tree.load_node(alloc, image, low, at, keeps);
+    let made = tree.load_node(alloc, image, low, high, at, keeps);
     let _height = tree.levels.height();
     made
 }
@@ -108,7 +109,8 @@ fn put_image(
     alloc: Global,
     db: u32,
     image: &Image,
-    low: &SortKey,
+    low: &Name,
+    high: Option<&Name>,
     at: Lsn,
     keeps: bool,
 ) -> Result<NewWaits, AllocError>
@@ -116,40 +118,39 @@ fn put_image(
     ensures loaded { OnOk result (IsStepIn db (HasLoadedIn (image.now.level - 1) low.now (node_read image.now.number at keeps)) trees.old trees.new) }
     ensures parts { AreAllParts trees.old → AreAllParts trees.new }
     ensures stored { AreStoredStill (stored_of trees.old) (stored_of trees.new) }
-    ensures slots { OnOk result (HasMoreSlots (slots_held trees.old) (slots_held trees.new) db (shows_deletion image.now.slots)) }
+    ensures slots { OnOk result (HasMoreSlots (slots_held trees.old) (slots_held trees.new) db (shows_deletion_inside low.now (option_copied high.entry) image.now.slots)) }
     ensures quiet { IsQuiet trees.old → IsQuiet trees.new }
     ensures few { IfOk result (λ waits. waits.more ≤ 513) }
     ensures waits { IfOk result (λ waits. waits_in trees.new + one_if waits.replaced ≤ waits_in trees.old + waits.more) }
     ensures most { waits_in trees.new ≤ waits_in trees.old + 513 }
 {
     match trees.get_mut(&db) {
-        Some(tree) => put_in(tree, alloc, image, low, at, keeps),
+        Some(tree) => put_in(tree, alloc, image, low, high, at, keeps),
         None => unreachable!(),
     }
 }
 
-// Puts a node as its image at `at` shows it, with the slots that this has of records that were deleted. No name in it is below `low`. It gives
-// how many nodes wait more at most, those that are still to come for it, and the node where that image is not to be kept as its last one; and
+// Puts a node as its image at `at` shows it, with the slots within its bounds that this has of records that were deleted. Its names lie from
+// `low` on, and below `high` where it has an upper bound. It gives how many nodes wait more at most, those that are still to come for it, and the node where that image is not to be kept as its last one; and
 // whether one that waited gave its place to this one.
 pub(crate) fn load_node(
     trees: &mut BTreeMap<u32, DbTree>,
     alloc: Global,
     image: &Image,
     low: &Name,
+    high: Option<&Name>,
     at: Lsn,
     keeps: bool,
 ) -> Result<NewWaits, AllocError>
     ensures nodes { OnOk result (HasPutNode (nodes_of trees.old) (nodes_of trees.new) image.now.db (image.now.level - 1) low.now (node_read image.now.number at keeps)) }
     ensures parts { AreAllParts trees.old → AreAllParts trees.new }
     ensures stored { AreStoredStill (stored_of trees.old) (stored_of trees.new) }
-    ensures slots { OnOk result (HasMoreSlots (slots_held trees.old) (slots_held trees.new) image.now.db (shows_deletion image.now.slots)) }
+    ensures slots { OnOk result (HasMoreSlots (slots_held trees.old) (slots_held trees.new) image.now.db (shows_deletion_inside low.now (option_copied high.entry) image.now.slots)) }
     ensures quiet { IsQuiet trees.old → IsQuiet trees.new }
     ensures few { IfOk result (λ waits. waits.more ≤ 513) }
     ensures waits { IfOk result (λ waits. waits_in trees.new + one_if waits.replaced ≤ waits_in trees.old + waits.more) }
     ensures most { waits_in trees.new ≤ waits_in trees.old + 513 }
 {
-    let copy = copy_of(low)?;
-    let low = SortKey::new(alloc, copy)?;
     ensure_tree(trees, alloc, image.db, image.number)?;
-    put_image(trees, alloc, image.db, image, &low, at, keeps)
+    put_image(trees, alloc, image.db, image, low, high, at, keeps)
 }

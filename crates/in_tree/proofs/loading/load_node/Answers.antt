@@ -1,9 +1,7 @@
-use Rattle.std.proofs.Common.{◌-◌, ◌∙◌, subst}
+use Rattle.std.proofs.Common.{◌-◌, option_copied}
 use Rattle.std.proofs.lemmas.Result.{on_ok_weaker}
-use Rattle.je_order.specs.declared.name.Name.{Name}
-use Rattle.record_tree.specs.LoadedNodes.{node_read, HasPutNode}
-use Rattle.in_tree.specs.Loaded.{nodes_of}
-use Rattle.record_tree.specs.LoadedSlots.{shows_deletion}
+use Rattle.record_tree.specs.LoadedNodes.{node_read}
+use Rattle.record_tree.specs.LoadedSlots.{shows_deletion_inside}
 use Rattle.in_tree.specs.Stored.{slots_held}
 use Rattle.in_tree.proofs.LoadedLaws.{node_put}
 use Rattle.in_tree.proofs.StoredLaws.{slots_then}
@@ -20,12 +18,11 @@ returns-clause-nodes c =
     let trees = c.args.trees.now in
     let as_read = node_read c.args.image.now.number c.args.at c.args.keeps in
     on_ok_weaker c.put_image.result
-    (λ step. subst (λ (x : Name). HasPutNode (nodes_of trees) (nodes_of c.put_image.new.trees) c.args.image.now.db (c.args.image.now.level - 1) x as_read) (c.in_ok-low.ensures ∙ c.in_ok-copy.ensures)
-    (node_put c.args.image.now.db c.args.image.now.number (c.args.image.now.level - 1) _ as_read trees c.ensure_tree.new.trees c.put_image.new.trees c.in_ok-ensure_tree.ensures.made step))
+    (node_put c.args.image.now.db c.args.image.now.number (c.args.image.now.level - 1) c.args.low.now as_read trees c.ensure_tree.new.trees c.put_image.new.trees c.in_ok-ensure_tree.ensures.made)
     c.put_image.ensures.loaded
 
 pub returns-clause-slots : goal.returns-clause-slots
 returns-clause-slots c =
     on_ok_weaker c.put_image.result
-    (slots_then (slots_held c.args.trees.now) (slots_held c.ensure_tree.new.trees) (slots_held c.put_image.new.trees) c.args.image.now.db (shows_deletion c.args.image.now.slots) c.ensure_tree.ensures.slots)
+    (slots_then (slots_held c.args.trees.now) (slots_held c.ensure_tree.new.trees) (slots_held c.put_image.new.trees) c.args.image.now.db (shows_deletion_inside c.args.low.now (option_copied c.args.high) c.args.image.now.slots) c.ensure_tree.ensures.slots)
     c.put_image.ensures.slots
