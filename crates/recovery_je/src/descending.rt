@@ -21,7 +21,7 @@ use node_core::{Marked, Node, Version};
 use record_tree::Loads;
 use std::alloc::Global;
 
-// Reads the node that the image at an LSN shows, and puts it.
+// Reads the node that the image at an LSN shows, and puts it. Its names lie within these bounds.
 fn take_node<T: Loads>(
     walking: &mut Walking<T>,
     alloc: Global,
@@ -30,6 +30,7 @@ fn take_node<T: Loads>(
     d: u32,
     level: u8,
     low: &Name,
+    high: Option<&Name>,
     at: Lsn,
 ) -> Result<Node, ReadErr>
     requires order { AreInOrder entries.now }
@@ -38,7 +39,7 @@ fn take_node<T: Loads>(
     ensures nodes { IfOk result (λ node. HasPut T.nodes (λ keeps most. IsNodePut entries.now keeps most d (level - 1) low.now at node) walking.old walking.new) }
 {
     let node = read_here(alloc, files, entries, d, level, at, &walking.seen)?;
-    meet(walking, alloc, &node, low, at)?;
+    meet(walking, alloc, &node, low, high, at)?;
     Ok(node)
 }
 
@@ -63,7 +64,17 @@ pub(crate) fn read_node<T: Loads>(
     ensures walk { (walk : Walk) → IsWalking (T.stored walking.old.trees) walking.old.seen.keys walking.old.node walking.old.db walk → GoesOn (node_at (map (λ f. f.0) files.now) entries.now d above low.now (option_copied high.entry) at walk) (IsWalking (T.stored walking.new.trees) walking.new.seen.keys walking.new.node walking.new.db) result }
     ensures nodes { OnOk result (HasPut T.nodes (λ keeps most. ArePutBelow entries.now keeps most d above low.now (option_copied high.entry) at) walking.old walking.new) }
 {
-    let node = take_node(walking, alloc, files, entries, d, above + 1, low, at)?;
+    let node = take_node(
+        walking,
+        alloc,
+        files,
+        entries,
+        d,
+        above + 1,
+        low,
+        high,
+        at,
+    )?;
     let done = read_below(
         walking,
         alloc,

@@ -61,12 +61,13 @@ pub(crate) fn are_whole(entries: &[PlacedEntry]) -> bool
     true
 }
 
-/// Puts a node that was read.
+/// Puts a node that was read, whose names lie within these bounds.
 pub(crate) fn meet<T: Loads>(
     walking: &mut Walking<T>,
     alloc: Global,
     node: &Node,
     low: &Name,
+    high: Option<&Name>,
     at: Lsn,
 ) -> Result<(), LoadErr>
     ensures walk { (walk : Walk) → IsWalking (T.stored walking.old.trees) walking.old.seen.keys walking.old.node walking.old.db walk → OnOk result (IsWalking (T.stored walking.new.trees) walking.new.seen.keys walking.new.node walking.new.db (met node.now walk)) }
@@ -74,7 +75,7 @@ pub(crate) fn meet<T: Loads>(
 {
     walking
         .trees
-        .load_node(alloc, node, low, at, walking.keeps)?;
+        .load_node(alloc, node, low, high, at, walking.keeps)?;
     if walking.seen.insert(node.number).is_err() {
         return Err(LoadErr::Memory);
     }
