@@ -1,5 +1,5 @@
 -- What calls on the trees of an environment do to trees that fit their log.
-use Rattle.std.proofs.Common.{◌≡◌, ◌≤◌, ◌+◌, ◌*◌, ◌==◌, ◌&&◌, ◌++◌, ℕ, Bool, true, false, cond, List, [], ◌∷◌, Option, None, Some, option_map, length, refl, ap, sym, subst, ◌∙◌, inl, inr, arith, is_eq}
+use Rattle.std.proofs.Common.{◌≡◌, ◌≤◌, ◌+◌, ◌*◌, ◌==◌, ◌&&◌, ◌++◌, ℕ, Bool, true, false, cond, List, [], ◌∷◌, Option, None, Some, option_map, length, refl, ap, ap₂, sym, subst, ◌∙◌, inl, inr, arith, is_eq}
 use Rattle.std.specs.Prelude.{IfSome, Box}
 use Rattle.std.specs.Global.{Global}
 use Rattle.std.specs.List.{AllByRecursion}
@@ -18,14 +18,16 @@ use Rattle.log_entry.specs.declared.entry.Entry.{Entry}
 use Rattle.log_entry.specs.declared.entry.Entry.TheVariants.{Commit}
 use Rattle.log_buffer.specs.declared.buffer.LogBuffer.{LogBuffer}
 use Rattle.log_buffer.specs.Buffer.{end_of, file_max_of, IsUnchanged}
+use Rattle.log_buffer.specs.declared.log_pos.LogPos.{LogPos}
 use Rattle.log_buffer.specs.Flip.{pos_lsn, placed_at}
+use Rattle.log_buffer.specs.Laws.{placed_by}
 use Rattle.record_map.specs.declared.cell.Cell.{Cell}
 use Rattle.record_map.specs.declared.write.Write.{Write}
 use Rattle.record_map.specs.Cells.{value_at}
 use Rattle.tree_nodes.specs.Nodes.{NodeRow}
 use Rattle.record_tree.specs.declared.tree_change.TreeChange.{TreeChange}
 use Rattle.record_tree.specs.declared.tree_name.TreeName.{TreeName}
-use Rattle.record_tree.specs.Logged.{LogsChanges, most_entries}
+use Rattle.record_tree.specs.Logged.{first_change, LogsChanges, most_entries}
 use Rattle.record_tree.specs.Occupied.{Occupied, AreFewNew, IsFreeFor, if_occupied, write_in, value_after, after_commit, committed_value}
 use Rattle.log_trees.specs.Placed.{Placed, placed}
 use Rattle.log_trees.specs.Changes.{LoggedChange}
@@ -46,6 +48,7 @@ use Rattle.in_tree.specs.Carrying.{carries_then}
 use Rattle.in_tree.specs.Fitting.{fitting_none, fitting_then, fitting_unchanged}
 use Rattle.in_tree.specs.Forest.{Forest, cells_of, cells_seen, HasChange, IsSameForest, MayStepIn, MakesSteps, CommitsName, GivesUpName}
 use Rattle.in_tree.specs.Growing.{trees_at, none_due, IsForestDue, GrewForest, TreesGrew}
+use Rattle.in_tree.specs.Logging.{first_in}
 use Rattle.in_tree.specs.Limits.{GrewFitting}
 use Rattle.in_tree.specs.Observed.{trees_of, last_node_of}
 use Rattle.in_tree.specs.Placing.{due_of}
@@ -184,12 +187,13 @@ module _ {D : Type 0} (observable : Bool) (history : D → History) (sync_out re
   }
 
   -- changes were made ready, and logged
-  pub changes_grow : (txn : TxnId) (changes : List TreeChange) (rooms : List SlotRoom) (owed : ℕ) (old mid : LogTrees D) (new : LogBuffer D) (forest : Forest) (images before between after : ℕ) → IsUnchanged old.log mid.log →
+  pub changes_grow : (txn : TxnId) (changes : List TreeChange) (rooms : List SlotRoom) (owed : ℕ) (old mid : LogTrees D) (new : LogBuffer D) (forest : Forest) (images before between after : ℕ) (first : Option ℕ) → IsUnchanged old.log mid.log →
       AreFewNew (cells_seen old.trees.forest) changes → IsReady old mid changes rooms owed → images + between ≤ before + 129 * length changes → after ≤ between →
-      (a : List Entry) × LogsChanges txn changes a × GrewForest observable history sync_out read_out read_of faults mid.log new mid.trees.forest forest (due_of changes rooms) none_due a × (length a ≡ images + length changes) →
+      (a : List Entry) × LogsChanges txn changes a × GrewForest observable history sync_out read_out read_of faults mid.log new mid.trees.forest forest (due_of changes rooms) none_due a × (length a ≡ images + length changes)
+      × (first ≡ first_in mid.log a) →
       (a : List Entry) × LogsChanges txn changes a × TreesGrew observable history sync_out read_out read_of faults old.log new (last_node_of old) (last_node_of mid) (trees_of old) (trees_at forest) a
-      × (length a + after ≤ before + most_entries (length changes))
-  changes_grow txn changes rooms owed old mid new forest images before between after same new_few ready few less grew = (
+      × (length a + after ≤ before + most_entries (length changes)) × (first ≡ first_in old.log a)
+  changes_grow txn changes rooms owed old mid new forest images before between after first same new_few ready few less grew = (
     grew.0,
     grew.1,
     record {
@@ -199,6 +203,7 @@ module _ {D : Type 0} (observable : Bool) (history : D → History) (sync_out re
       still = λ none es base f. grew.2.still none es base (last_node_of mid) (ready.fits es base new_few f);
     },
     (let count = grew.3 in omega (arith, few, less, count)),
+    grew.4 ∙ ap₂ (λ (m : ℕ) (end : LogPos). first_change (placed_by m end grew.0)) same.kept.max same.kept.end,
   )
     where
       kept : GrewFitting observable history sync_out read_out read_of faults old.log mid.log []

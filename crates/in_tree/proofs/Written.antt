@@ -1,5 +1,5 @@
 -- Changes are written one after the other.
-use Rattle.std.proofs.Common.{◌≡◌, ◌≤◌, ◌+◌, ◌==◌, ◌&&◌, ◌++◌, ℕ, List, [], ◌∷◌, Bool, true, false, cond, Option, None, Some, map, find, reverse, refl, ap, ap₂, sym, subst, ◌∙◌, arith, is_eq, length, drop, suc, append-nil, Result, Ok, Err, OnErr}
+use Rattle.std.proofs.Common.{◌≡◌, ◌≤◌, ◌+◌, ◌==◌, ◌&&◌, ◌++◌, ℕ, List, [], ◌∷◌, Bool, true, false, cond, Option, None, Some, map, find, reverse, refl, ap, ap₂, sym, subst, ◌∙◌, arith, is_eq, length, drop, suc, append-nil, Result, Ok, Err, OnErr, OnOk, IfOk}
 use Rattle.std.proofs.Math.Nat.{le_refl, le_trans}
 use Rattle.std.specs.List.{AllByRecursion}
 use Rattle.std.specs.Option.{option_or}
@@ -17,12 +17,13 @@ use Rattle.log_file.specs.Scan.{may_follow}
 use Rattle.log_buffer.specs.declared.buffer.LogBuffer.{LogBuffer}
 use Rattle.log_buffer.specs.declared.log_pos.LogPos.{LogPos}
 use Rattle.log_buffer.specs.Buffer.{end_of, file_max_of, has_failed, HasRoom}
-use Rattle.log_buffer.specs.Flip.{placed_at, end_after, end_after_all}
+use Rattle.log_buffer.specs.Flip.{placed_at, end_after, end_after_all, pos_lsn}
+use Rattle.log_buffer.specs.Laws.{placed_by}
 use Rattle.log_buffer.proofs.LogPositions.{all_after}
 use Rattle.record_map.specs.declared.write.Write.{Write}
 use Rattle.record_map.specs.Cells.{value_at, IsRising}
 use Rattle.record_tree.specs.declared.tree_change.TreeChange.{TreeChange}
-use Rattle.record_tree.specs.Logged.{entry_for, IsImage, AreImages, LogsChanges, IsFront, is_change_of, last_change}
+use Rattle.record_tree.specs.Logged.{entry_for, first_change, is_image, IsImage, AreImages, LogsChanges, IsFront, is_change_of, last_change}
 use Rattle.record_tree.specs.Occupied.{Occupied, AllCells, AreWritten, IsWritten, value_in, write_in}
 use Rattle.db_tree.specs.declared.tree.DbTree.{DbTree}
 use Rattle.db_tree.specs.declared.slot_room.SlotRoom.{SlotRoom}
@@ -35,7 +36,7 @@ use Rattle.in_tree.specs.Forest.{Forest, cells_seen, HasSameTrees, KeepsCells, H
 use Rattle.in_tree.specs.Limits.{change_size, commit_sizes, HasRoomFor, end_behind, FitsLog, TriedFitting}
 use Rattle.in_tree.specs.Fitting.{fitting_tried}
 use Rattle.in_tree.specs.Growing.{GrewTree, GrewForest, grew_tree_none, grew_tree_then, grew_forest_none, grew_forest_then, none_due}
-use Rattle.in_tree.specs.Logging.{LogsImage, TriesImage, LogsImages, TriesImages, LogsRoom, LogsChange, TriesChange}
+use Rattle.in_tree.specs.Logging.{LogsImage, TriesImage, LogsImages, TriesImages, LogsRoom, LogsChange, LogsChangeAt, TriesChange, first_in}
 use Rattle.in_tree.specs.Placing.{room_sizes, placed_sizes, count_images, AreLoggable, due_one, due_of}
 use Rattle.in_tree.specs.Waits.{waits_in}
 use Rattle.in_tree.proofs.Preparation.{same_test}
@@ -156,6 +157,10 @@ pub on_err : {X Y : Type 0} (r : Result X Y) {P : Type 0} → P → OnErr r P
 on_err (Ok x) h = tt
 on_err (Err y) h = h
 
+pub if_ok_both : {X Y : Type 0} {P Q : X → Type 0} {R : Type 0} (r : Result X Y) → ((x : X) → P x → R → Q x) → IfOk r P → OnOk r R → IfOk r Q
+if_ok_both (Ok x) f g h = f x g h
+if_ok_both (Err y) f g h = tt
+
 pub err_then : {X Y P Q : Type 0} (r : Result X Y) → (P → Q) → OnErr r P → OnErr r Q
 err_then (Ok x) f h = tt
 err_then (Err y) f h = f h
@@ -180,6 +185,33 @@ images_more (e ∷ a) b first second = (first.0, images_more a b first.1 second)
 pub length_more : (a b : List Entry) → length (a ++ b) ≡ length a + length b
 length_more [] b = omega arith
 length_more (e ∷ a) b = let rest = length_more a b in omega (arith, rest)
+
+-- images are no changes, and an entry behind them is the first one
+pub no_change : (e : Entry) → IsImage e → is_image e ≡ true
+no_change (In db node level slots) is = refl
+no_change (Bin db node slots) is = refl
+no_change e is = absurd is
+
+pub is_change : (txn : TxnId) (db : ℕ) (name : Name) (value : Option (List ℕ)) → is_image (entry_for txn db name value) ≡ false
+is_change txn db name None = refl
+is_change txn db name (Some value) = refl
+
+pub change_first : (m : ℕ) (end : LogPos) (images rest : List Entry) (e : Entry) → AreImages images → is_image e ≡ false →
+    first_change (placed_by m end (images ++ e ∷ rest)) ≡ Some (pos_lsn (placed_at m (end_after_all m end (map size_of images)) (size_of e)))
+change_first m end [] rest e are is =
+    ap (λ (b : Bool). cond b (first_change (placed_by m (end_after m end (size_of e)) rest)) (Some (pos_lsn (placed_at m end (size_of e))))) is
+change_first m end (x ∷ images) rest e are is =
+    ap (λ (b : Bool). cond b (first_change (placed_by m (end_after m end (size_of x)) (images ++ e ∷ rest))) (Some (pos_lsn (placed_at m end (size_of x))))) (no_change x are.0)
+    ∙ change_first m (end_after m end (size_of x)) images rest e are.1 is
+
+-- the first one of some, one more, and others
+first_three : (first more : Option ℕ) (at : ℕ) → option_or first (Some at) ≡ option_or (option_or first (Some at)) more
+first_three None more at = refl
+first_three (Some x) more at = refl
+
+first_alone : (first : Option ℕ) → option_or first None ≡ first
+first_alone None = refl
+first_alone (Some x) = refl
 
 -- entries that have the sizes of images are as many
 pub even_sizes : (a : List Entry) (images : List NodeImage) → map size_of a ≡ sizes_in images → length a ≡ length images
@@ -245,6 +277,18 @@ module _ {D : Type 0} (observable : Bool) (history : D → History) (sync_out re
     λ more. grew_forest_then observable history sync_out read_out read_of faults old mid new before between after (λ d. due_one c.db due d ++ more d) more more images.0 (entry_for txn c.db c.name c.value ∷ []) (images.3 more) (entry more),
   )
 
+  -- and where its entry stands
+  pub change_logged_at : (due : List NodeImage) (txn : TxnId) (c : TreeChange) (at : ℕ) (old mid new : LogBuffer D) (before between after : Forest) →
+      LogsRoom observable history sync_out read_out read_of faults c.db due old mid before between → at ≡ pos_lsn (placed_at (file_max_of mid) (end_of mid) (size_of (entry_for txn c.db c.name c.value))) →
+      ((more : ℕ → List NodeImage) → GrewForest observable history sync_out read_out read_of faults mid new between after more more (entry_for txn c.db c.name c.value ∷ [])) →
+      LogsChangeAt observable history sync_out read_out read_of faults due txn c at old new before after
+  change_logged_at due txn c at old mid new before between after images at_is entry = (
+    change_logged due txn c old mid new before between after images entry,
+    λ rest.
+        change_first (file_max_of old) (end_of old) images.0 rest (entry_for txn c.db c.name c.value) images.1 (is_change txn c.db c.name c.value)
+        ∙ ap (λ (n : ℕ). Some n) (sym (at_is ∙ ap₂ (λ (m : ℕ) (end : LogPos). pos_lsn (placed_at m end (size_of (entry_for txn c.db c.name c.value)))) (images.3 none_due).fitting.grew.max (images.3 none_due).fitting.grew.end)),
+  )
+
   pub images_tried : (txn : TxnId) (c : TreeChange) (old new : LogBuffer D) → TriesImages observable history sync_out read_out read_of faults old new → TriesChange observable history sync_out read_out read_of faults txn c old new
   images_tried txn c old new tries = (tries.0, tries.0, tries.1, (entry_for txn c.db c.name c.value ∷ [], refl), tries.2)
 
@@ -261,7 +305,7 @@ module _ {D : Type 0} (observable : Bool) (history : D → History) (sync_out re
   -- ---- changes
 
   -- some changes were written, and those that are left were not
-  pub record WritesLeft (txn : TxnId) (old log : LogBuffer D) (before trees : Forest) (changes left : List TreeChange) (rooms slots : List SlotRoom) (writes : List Write) : Type 0 where
+  pub record WritesLeft (txn : TxnId) (old log : LogBuffer D) (before trees : Forest) (changes left : List TreeChange) (rooms slots : List SlotRoom) (writes : List Write) (first : Option ℕ) : Type 0 where
     pub entries : AllByRecursion (λ c. IsEntry (entry_for txn c.db c.name c.value)) left
     pub loggable : AreLoggable slots
     pub paired : length slots ≡ length left
@@ -271,6 +315,7 @@ module _ {D : Type 0} (observable : Bool) (history : D → History) (sync_out re
     pub room : (owed : ℕ) → HasRoomFor old (placed_sizes changes rooms ++ commit_sizes owed) → HasRoomFor log (placed_sizes left slots ++ commit_sizes owed)
     pub grew : (last : LogBuffer D) (forest : Forest) (b : List Entry) → LogsChanges txn left b → GrewForest observable history sync_out read_out read_of faults log last trees forest (due_of left slots) none_due b → length b ≡ count_images slots + length left →
         (a : List Entry) × LogsChanges txn changes a × GrewForest observable history sync_out read_out read_of faults old last before forest (due_of changes rooms) none_due a × (length a ≡ count_images rooms + length changes)
+        × (first_in old a ≡ option_or first (first_in log b))
     pub tried : (last : LogBuffer D) (b f : List Entry) → LogsChanges txn left b → IsFront f b → TriedFitting observable history sync_out read_out read_of faults log last f →
         (a : List Entry) × (g : List Entry) × LogsChanges txn changes a × IsFront g a × TriedFitting observable history sync_out read_out read_of faults old last g
     pub cells : (last : AllCells) → AreWritten txn left (cells_seen trees) last → AreWritten txn changes (cells_seen before) last
@@ -280,9 +325,9 @@ module _ {D : Type 0} (observable : Bool) (history : D → History) (sync_out re
 
   pub writes_begin : (txn : TxnId) (log : LogBuffer D) (trees : Forest) (changes : List TreeChange) (rooms slots : List SlotRoom) (writes : List Write) → slots ≡ rooms → AllByRecursion (λ c. IsEntry (entry_for txn c.db c.name c.value)) changes →
       AreLoggable rooms → length rooms ≡ length changes → AllByRecursion (λ c. HasOne trees c.db c.name) changes → writes ≡ map (write_for txn) changes → (owed : ℕ) × HasRoomFor log (placed_sizes changes rooms ++ commit_sizes owed) →
-      WritesLeft txn log log trees trees changes changes rooms slots writes
+      WritesLeft txn log log trees trees changes changes rooms slots writes None
   writes_begin txn log trees changes rooms slots writes is entries loggable paired there are room =
-      subst (λ (l : List SlotRoom). WritesLeft txn log log trees trees changes changes rooms l writes) (sym is)
+      subst (λ (l : List SlotRoom). WritesLeft txn log log trees trees changes changes rooms l writes None) (sym is)
       (record {
         entries = entries;
         loggable = loggable;
@@ -291,7 +336,7 @@ module _ {D : Type 0} (observable : Bool) (history : D → History) (sync_out re
         writes_are = are;
         some_room = room;
         room = λ owed for. for;
-        grew = λ last forest b logs grew count. (b, logs, grew, count);
+        grew = λ last forest b logs grew count. (b, logs, grew, count, refl);
         tried = λ last b f logs front tried. (b, f, logs, front, tried);
         cells = λ last written. written;
         same = λ d. refl;
@@ -300,12 +345,12 @@ module _ {D : Type 0} (observable : Bool) (history : D → History) (sync_out re
       })
 
   -- before one change more
-  pub writes_turn : (txn : TxnId) (old log : LogBuffer D) (before trees : Forest) (changes left more : List TreeChange) (rooms slots next : List SlotRoom) (ws vs : List Write) → WritesLeft txn old log before trees changes left rooms slots ws →
-      left ≡ more → slots ≡ next → ws ≡ vs → WritesLeft txn old log before trees changes more rooms next vs
-  writes_turn txn old log before trees changes left more rooms slots next ws vs so_far lefts nexts are =
-      subst (λ (l : List TreeChange). WritesLeft txn old log before trees changes l rooms next vs) lefts
-      (subst (λ (l : List SlotRoom). WritesLeft txn old log before trees changes left rooms l vs) nexts
-      (subst (λ (l : List Write). WritesLeft txn old log before trees changes left rooms slots l) are so_far))
+  pub writes_turn : (txn : TxnId) (old log : LogBuffer D) (before trees : Forest) (changes left more : List TreeChange) (rooms slots next : List SlotRoom) (ws vs : List Write) (first : Option ℕ) → WritesLeft txn old log before trees changes left rooms slots ws first →
+      left ≡ more → slots ≡ next → ws ≡ vs → WritesLeft txn old log before trees changes more rooms next vs first
+  writes_turn txn old log before trees changes left more rooms slots next ws vs first so_far lefts nexts are =
+      subst (λ (l : List TreeChange). WritesLeft txn old log before trees changes l rooms next vs first) lefts
+      (subst (λ (l : List SlotRoom). WritesLeft txn old log before trees changes left rooms l vs first) nexts
+      (subst (λ (l : List Write). WritesLeft txn old log before trees changes left rooms slots l first) are so_far))
 
   there_stays : (old new : Forest) (changes : List TreeChange) → KeepsCells old new → AllByRecursion (λ c. HasOne old c.db c.name) changes → AllByRecursion (λ c. HasOne new c.db c.name) changes
   there_stays old new [] keeps all = tt
@@ -316,12 +361,13 @@ module _ {D : Type 0} (observable : Bool) (history : D → History) (sync_out re
       HasRoomFor log (room_sizes room ++ change_size c ∷ (placed_sizes left slots ++ commit_sizes owed))
   room_of_next log c left room slots owed = subst (λ (l : List ℕ). HasRoomFor log l) (append_assoc (room_sizes room) (change_size c ∷ placed_sizes left slots) (commit_sizes owed))
 
-  pub writes_step : (txn : TxnId) (old log new : LogBuffer D) (before trees after : Forest) (changes left : List TreeChange) (c : TreeChange) (rooms slots : List SlotRoom) (slot : SlotRoom) (write : Write) (writes : List Write) →
-      WritesLeft txn old log before trees changes (c ∷ left) rooms (slot ∷ slots) (write ∷ writes) → writes ≡ map (write_for txn) left →
-      LogsChange observable history sync_out read_out read_of faults slot.images.items txn c log new trees after → ((sizes : List ℕ) → HasRoomFor log (room_sizes slot ++ change_size c ∷ sizes) → HasRoomFor new sizes) →
+  pub writes_step : (txn : TxnId) (old log new : LogBuffer D) (before trees after : Forest) (changes left : List TreeChange) (c : TreeChange) (rooms slots : List SlotRoom) (slot : SlotRoom) (write : Write) (writes : List Write) (first later : Option ℕ) (at : ℕ) →
+      WritesLeft txn old log before trees changes (c ∷ left) rooms (slot ∷ slots) (write ∷ writes) first → writes ≡ map (write_for txn) left → later ≡ option_or first (Some at) →
+      LogsChangeAt observable history sync_out read_out read_of faults slot.images.items txn c at log new trees after → ((sizes : List ℕ) → HasRoomFor log (room_sizes slot ++ change_size c ∷ sizes) → HasRoomFor new sizes) →
       (at : ℕ) × HasChange (cells_seen trees) (cells_seen after) c.db c.name (with_change (record { txn = txn; at = at; value = c.value })) → KeepsCells trees after → HasSameTrees trees after →
-      ((d : ℕ) → IsRising (cells_seen trees d) → IsRising (cells_seen after d)) → waits_in after ≤ waits_in trees → WritesLeft txn old new before after changes left rooms slots writes
-  writes_step txn old log new before trees after changes left c rooms slots slot write writes so_far are logs room change kept same rising waits = record {
+      ((d : ℕ) → IsRising (cells_seen trees d) → IsRising (cells_seen after d)) → waits_in after ≤ waits_in trees →
+      WritesLeft txn old new before after changes left rooms slots writes later
+  writes_step txn old log new before trees after changes left c rooms slots slot write writes first later at so_far are later_is logged room change kept same rising waits = record {
     entries = so_far.entries.1;
     loggable = so_far.loggable.1;
     paired = (let even = so_far.paired in omega (arith, even));
@@ -329,10 +375,12 @@ module _ {D : Type 0} (observable : Bool) (history : D → History) (sync_out re
     writes_are = are;
     some_room = (so_far.some_room.0, room (placed_sizes left slots ++ commit_sizes so_far.some_room.0) (room_of_next log c left slot slots so_far.some_room.0 so_far.some_room.1));
     room = λ owed for. room (placed_sizes left slots ++ commit_sizes owed) (room_of_next log c left slot slots owed (so_far.room owed for));
-    grew = λ last forest b of_left more count. so_far.grew last forest (logs.0 ++ entry ∷ b) (logs.0, b, logs.1, refl, of_left)
+    grew = λ last forest b of_left more count.
+        let whole = so_far.grew last forest (logs.0 ++ entry ∷ b) (logs.0, b, logs.1, refl, of_left)
         (subst (λ (l : List Entry). GrewForest observable history sync_out read_out read_of faults log last trees forest (due_of (c ∷ left) (slot ∷ slots)) none_due l) (append_assoc logs.0 (entry ∷ []) b)
         (grew_forest_then observable history sync_out read_out read_of faults log new last trees after forest (due_of (c ∷ left) (slot ∷ slots)) (due_of left slots) none_due (logs.0 ++ entry ∷ []) b (logs.3 (due_of left slots)) more))
-        (let whole = length_more logs.0 (entry ∷ b) in let front = even_sizes logs.0 slot.images.items logs.2 in omega (arith, whole, front, count));
+        (let whole = length_more logs.0 (entry ∷ b) in let front = even_sizes logs.0 slot.images.items logs.2 in omega (arith, whole, front, count)) in
+        (whole.0, whole.1, whole.2, whole.3, whole.4 ∙ ap (λ (o : Option ℕ). option_or first o) (logged.1 b) ∙ first_three first (first_in new b) at ∙ sym (ap (λ (o : Option ℕ). option_or o (first_in new b)) later_is));
     tried = λ last b f of_left front more. so_far.tried last (logs.0 ++ entry ∷ b) ((logs.0 ++ entry ∷ []) ++ f) (logs.0, b, logs.1, refl, of_left)
         (front.0, append_assoc (logs.0 ++ entry ∷ []) f front.0 ∙ ap (λ (l : List Entry). (logs.0 ++ entry ∷ []) ++ l) front.1 ∙ append_assoc logs.0 (entry ∷ []) b)
         (fitting_tried observable history sync_out read_out read_of faults log new last (logs.0 ++ entry ∷ []) f (logs.3 none_due).fitting more);
@@ -345,11 +393,14 @@ module _ {D : Type 0} (observable : Bool) (history : D → History) (sync_out re
       entry : Entry
       entry = entry_for txn c.db c.name c.value
 
+      logs : LogsChange observable history sync_out read_out read_of faults slot.images.items txn c log new trees after
+      logs = logged.0
+
   -- a change that met a fault
-  pub writes_fail : (txn : TxnId) (old log new : LogBuffer D) (before trees : Forest) (changes left : List TreeChange) (c : TreeChange) (rooms slots : List SlotRoom) (writes : List Write) →
-      WritesLeft txn old log before trees changes (c ∷ left) rooms slots writes → TriesChange observable history sync_out read_out read_of faults txn c log new →
+  pub writes_fail : (txn : TxnId) (old log new : LogBuffer D) (before trees : Forest) (changes left : List TreeChange) (c : TreeChange) (rooms slots : List SlotRoom) (writes : List Write) (first : Option ℕ) →
+      WritesLeft txn old log before trees changes (c ∷ left) rooms slots writes first → TriesChange observable history sync_out read_out read_of faults txn c log new →
       (a : List Entry) × (g : List Entry) × LogsChanges txn changes a × IsFront g a × TriedFitting observable history sync_out read_out read_of faults old new g
-  writes_fail txn old log new before trees changes left c rooms slots writes so_far tries =
+  writes_fail txn old log new before trees changes left c rooms slots writes first so_far tries =
       so_far.tried new (tries.0 ++ entry ∷ entries_of txn left) tries.1 (tries.0, entries_of txn left, tries.2, refl, logs_all txn left)
       (tries.3.0 ++ entries_of txn left, sym (append_assoc tries.1 tries.3.0 (entries_of txn left)) ∙ ap (λ (l : List Entry). l ++ entries_of txn left) tries.3.1 ∙ append_assoc tries.0 (entry ∷ []) (entries_of txn left)) tries.4
     where
@@ -357,20 +408,23 @@ module _ {D : Type 0} (observable : Bool) (history : D → History) (sync_out re
       entry = entry_for txn c.db c.name c.value
 
   -- all changes were written
-  pub record AllWritten (txn : TxnId) (old log : LogBuffer D) (before trees : Forest) (changes : List TreeChange) (rooms : List SlotRoom) : Type 0 where
+  pub record AllWritten (txn : TxnId) (old log : LogBuffer D) (before trees : Forest) (changes : List TreeChange) (rooms : List SlotRoom) (first : Option ℕ) : Type 0 where
     pub grew : (a : List Entry) × LogsChanges txn changes a × GrewForest observable history sync_out read_out read_of faults old log before trees (due_of changes rooms) none_due a × (length a ≡ count_images rooms + length changes)
+        × (first ≡ first_in old a)
     pub left : (owed : ℕ) → HasRoomFor old (placed_sizes changes rooms ++ commit_sizes owed) → HasRoomFor log (commit_sizes owed)
     pub cells : AreWritten txn changes (cells_seen before) (cells_seen trees)
 
-  pub all_written : (txn : TxnId) (old log : LogBuffer D) (before trees : Forest) (changes : List TreeChange) (i : ℕ) (rooms slots : List SlotRoom) (writes : List Write) → length changes ≤ i → WritesLeft txn old log before trees changes (drop i changes) rooms slots writes →
-      AllWritten txn old log before trees changes rooms
-  all_written txn old log before trees changes i rooms slots writes all so_far =
-      let ended = subst (λ (l : List TreeChange). WritesLeft txn old log before trees changes l rooms slots writes) (drop_all i changes all) so_far in
+  pub all_written : (txn : TxnId) (old log : LogBuffer D) (before trees : Forest) (changes : List TreeChange) (i : ℕ) (rooms slots : List SlotRoom) (writes : List Write) (first : Option ℕ) → length changes ≤ i →
+      WritesLeft txn old log before trees changes (drop i changes) rooms slots writes first → AllWritten txn old log before trees changes rooms first
+  all_written txn old log before trees changes i rooms slots writes first all so_far =
+      let ended = subst (λ (l : List TreeChange). WritesLeft txn old log before trees changes l rooms slots writes first) (drop_all i changes all) so_far in
       by_slots slots ended
     where
-      by_slots : (l : List SlotRoom) → WritesLeft txn old log before trees changes [] rooms l writes → AllWritten txn old log before trees changes rooms
+      by_slots : (l : List SlotRoom) → WritesLeft txn old log before trees changes [] rooms l writes first → AllWritten txn old log before trees changes rooms first
       by_slots [] ended = record {
-        grew = ended.grew log trees [] refl (grew_forest_none observable history sync_out read_out read_of faults log trees none_due) refl;
+        grew =
+            let whole = ended.grew log trees [] refl (grew_forest_none observable history sync_out read_out read_of faults log trees none_due) refl in
+            (whole.0, whole.1, whole.2, whole.3, sym (whole.4 ∙ first_alone first));
         left = ended.room;
         cells = ended.cells (cells_seen trees) (nothing_written txn (cells_seen trees));
       }

@@ -9,6 +9,7 @@ use crate::preparing::writes_for;
 use crate::writing::{abort_each, commit_each, log_commit, write_each};
 use crate::{LoadedTrees, Trees, forest, reading};
 use je_disk::Disk;
+use je_lsn::Lsn;
 use je_order::TxnId;
 use log_buffer::LogBuffer;
 use record_map::{Cell, EdgeRef, SortKey};
@@ -58,6 +59,7 @@ impl<D: Disk> Records for LogTrees<D> {
     ghost use Rattle.in_tree.specs.Limits.{limit_of, commit_sizes, HasRoomFor, TriedFitting};
     ghost use Rattle.in_tree.specs.Shapes.{shapes_of};
     ghost use Rattle.in_tree.specs.Waits.{waits_in};
+    ghost use Rattle.in_tree.specs.Logging.{first_in};
 
     ghost cells = { λ x. cells_seen x.trees.forest };
 
@@ -72,6 +74,8 @@ impl<D: Disk> Records for LogTrees<D> {
     ghost has_room = { λ x owed. HasRoomFor x.log (commit_sizes owed) };
 
     ghost waits = { λ x. waits_in x.trees.forest };
+
+    ghost first_of = { λ x entries. first_in x.log entries };
 
     ghost no_cells = { λ x d none. none_seen (get nat_cmp x.trees.forest d) none };
 
@@ -99,7 +103,7 @@ impl<D: Disk> Records for LogTrees<D> {
         txn: TxnId,
         changes: &[TreeChange],
         owed: u32,
-    ) -> Result<(), TreeErr> {
+    ) -> Result<Option<Lsn>, TreeErr> {
         if self.log.has_failed() {
             return Err(TreeErr::Fault);
         }

@@ -403,7 +403,7 @@ impl<D: Disk> LogTrees<D> {
     {
         let forest = &mut self.trees.forest;
         match write_one(&mut self.log, forest, txn, change, room, write) {
-            Ok(()) => {}
+            Ok(_) => {}
             Err(error) => {
                 drop(filled);
                 return Err(error);

@@ -1,6 +1,7 @@
 // Changes go into the log, and then into their cells.
-ghost use Rattle.std.specs.Prelude.{◌≡◌, ◌≤◌, ◌+◌, ◌++◌, ◌∷◌, ℕ, List, [], true, length, map, IsSome, IfErr, IfOk, OnOk, OnErr};
+ghost use Rattle.std.specs.Prelude.{◌≡◌, ◌≤◌, ◌+◌, ◌++◌, ◌∷◌, ℕ, List, [], true, length, map, Some, IsSome, IfErr, IfOk, OnOk, OnErr};
 ghost use Rattle.std.specs.List.{AllByRecursion};
+ghost use Rattle.std.specs.Option.{option_or};
 ghost use Rattle.log_entry.specs.Body.{IsEntry};
 ghost use Rattle.log_entry.specs.Encoding.{size_of};
 ghost use Rattle.log_entry.specs.Parts.{entry_by};
@@ -22,7 +23,7 @@ ghost use Rattle.log_buffer.specs.Buffer.{end_of, file_max_of};
 ghost use Rattle.log_buffer.specs.Flip.{placed_at, pos_lsn};
 ghost use Rattle.db_tree.specs.declared.node_image.NodeImage.{NodeImage as Due};
 ghost use Rattle.in_tree.specs.Growing.{GrewForest, none_due};
-ghost use Rattle.in_tree.specs.Logging.{LogsImage, TriesImage, LogsImages, TriesImages, LogsRoom, LogsChange, TriesChange};
+ghost use Rattle.in_tree.specs.Logging.{LogsImage, TriesImage, LogsImages, TriesImages, LogsRoom, LogsChangeAt, TriesChange, first_in};
 ghost use Rattle.in_tree.specs.Checkpoints.{IsClean};
 ghost use Rattle.in_tree.specs.Placing.{room_sizes, placed_sizes, count_images, AreLoggable, due_of};
 ghost use Rattle.in_tree.specs.Waits.{waits_in};
@@ -242,18 +243,19 @@ pub(crate) fn log_one<D: Disk>(
     }
 }
 
-// Logs a change and sets it in its cell.
+// Logs a change and sets it in its cell. It gives the LSN of its entry.
 fn write_entry<D: Disk>(
     log: &mut LogBuffer<D>,
     trees: &mut BTreeMap<u32, DbTree>,
     txn: TxnId,
     change: &TreeChange,
     write: Box<Write>,
-) -> Result<(), TreeErr>
+) -> Result<Lsn, TreeErr>
     requires entry { IsEntry (entry_for txn change.now.db change.now.name change.now.value) }
     requires room { (sizes : List ℕ) × HasRoomFor log.old (change_size change.now ∷ sizes) }
     requires there { HasOne trees.old change.now.db change.now.name }
     requires write { write.value ≡ write_for txn change.now }
+    ensures at { IfOk result (λ at. at ≡ pos_lsn (placed_at (file_max_of log.old) (end_of log.old) (size_of (entry_for txn change.now.db change.now.name change.now.value)))) }
     ensures grew { OnOk result ((due : ℕ → List Due) → GrewForest D.observable D.history D.sync_out D.read_out D.read_of D.faults log.old log.new trees.old trees.new due due (entry_for txn change.now.db change.now.name change.now.value ∷ [])) }
     ensures left { (sizes : List ℕ) → HasRoomFor log.old (change_size change.now ∷ sizes) → OnOk result (HasRoomFor log.new sizes) }
     ensures tried { OnErr result (TriedFitting D.observable D.history D.sync_out D.read_out D.read_of D.faults log.old log.new (entry_for txn change.now.db change.now.name change.now.value ∷ [])) }
@@ -269,10 +271,10 @@ fn write_entry<D: Disk>(
     let mut write = write;
     write.at = at;
     forest::set_write(trees, change.db, &change.name, write);
-    Ok(())
+    Ok(at)
 }
 
-// Logs a change behind the images that its slot needs, and sets it in its cell.
+// Logs a change behind the images that its slot needs, and sets it in its cell. It gives the LSN of the change's entry.
 pub(crate) fn write_one<D: Disk>(
     log: &mut LogBuffer<D>,
     trees: &mut BTreeMap<u32, DbTree>,
@@ -280,13 +282,13 @@ pub(crate) fn write_one<D: Disk>(
     change: &TreeChange,
     room: SlotRoom,
     write: Box<Write>,
-) -> Result<(), TreeErr>
+) -> Result<Lsn, TreeErr>
     requires entry { IsEntry (entry_for txn change.now.db change.now.name change.now.value) }
     requires loggable { AllByRecursion (λ i. IsLoggable i.entry) room.images.items }
     requires room { (sizes : List ℕ) × HasRoomFor log.old (room_sizes room ++ change_size change.now ∷ sizes) }
     requires there { HasOne trees.old change.now.db change.now.name }
     requires write { write.value ≡ write_for txn change.now }
-    ensures grew { OnOk result (LogsChange D.observable D.history D.sync_out D.read_out D.read_of D.faults room.images.items txn change.now log.old log.new trees.old trees.new) }
+    ensures grew { IfOk result (λ at. LogsChangeAt D.observable D.history D.sync_out D.read_out D.read_of D.faults room.images.items txn change.now at log.old log.new trees.old trees.new) }
     ensures left { (sizes : List ℕ) → HasRoomFor log.old (room_sizes room ++ change_size change.now ∷ sizes) → OnOk result (HasRoomFor log.new sizes) }
     ensures tried { OnErr result (TriesChange D.observable D.history D.sync_out D.read_out D.read_of D.faults txn change.now log.old log.new) }
     ensures by_fault { IfErr result (λ e. e ≡ Reason.Fault) }
@@ -306,7 +308,16 @@ pub(crate) fn write_one<D: Disk>(
     }
 }
 
-// Logs changes in order, each behind the images that its slot needs, and sets each in its cell.
+// Keeps an LSN, where there is none before it.
+fn keep_first(first: &mut Option<Lsn>, at: Lsn)
+    ensures { first.new ≡ option_or first.old (Some at) }
+{
+    if first.is_none() {
+        *first = Some(at);
+    }
+}
+
+// Logs changes in order, each behind the images that its slot needs, and sets each in its cell. It gives the LSN of the first change's entry.
 pub(crate) fn write_each<D: Disk>(
     log: &mut LogBuffer<D>,
     trees: &mut BTreeMap<u32, DbTree>,
@@ -314,14 +325,14 @@ pub(crate) fn write_each<D: Disk>(
     changes: &[TreeChange],
     rooms: Vec<SlotRoom>,
     writes: Vec<Box<Write>>,
-) -> Result<(), TreeErr>
+) -> Result<Option<Lsn>, TreeErr>
     requires entries { AllByRecursion (λ c. IsEntry (entry_for txn c.db c.name c.value)) changes.now }
     requires loggable { AreLoggable rooms.items }
     requires paired { length rooms.items ≡ length changes.now }
     requires room { (owed : ℕ) × HasRoomFor log.old (placed_sizes changes.now rooms.items ++ commit_sizes owed) }
     requires there { AllByRecursion (λ c. HasOne trees.old c.db c.name) changes.now }
     requires writes { map (λ b. b.value) writes.items ≡ map (write_for txn) changes.now }
-    ensures grew { OnOk result ((entries : List Entry) × LogsChanges txn changes.now entries × GrewForest D.observable D.history D.sync_out D.read_out D.read_of D.faults log.old log.new trees.old trees.new (due_of changes.now rooms.items) none_due entries × (length entries ≡ count_images rooms.items + length changes.now)) }
+    ensures grew { IfOk result (λ first. (entries : List Entry) × LogsChanges txn changes.now entries × GrewForest D.observable D.history D.sync_out D.read_out D.read_of D.faults log.old log.new trees.old trees.new (due_of changes.now rooms.items) none_due entries × (length entries ≡ count_images rooms.items + length changes.now) × (first ≡ first_in log.old entries)) }
     ensures left { (owed : ℕ) → HasRoomFor log.old (placed_sizes changes.now rooms.items ++ commit_sizes owed) → OnOk result (HasRoomFor log.new (commit_sizes owed)) }
     ensures tried { OnErr result ((entries : List Entry) × (front : List Entry) × LogsChanges txn changes.now entries × IsFront front entries × TriedFitting D.observable D.history D.sync_out D.read_out D.read_of D.faults log.old log.new front) }
     ensures by_fault { IfErr result (λ e. e ≡ Reason.Fault) }
@@ -332,6 +343,7 @@ pub(crate) fn write_each<D: Disk>(
 {
     let mut rooms = rooms.into_iter();
     let mut writes = writes.into_iter();
+    let mut first = None;
     for change in changes {
         let Some(room) = rooms.next() else {
             unreachable!()
@@ -339,9 +351,10 @@ pub(crate) fn write_each<D: Disk>(
         let Some(write) = writes.next() else {
             unreachable!()
         };
-        write_one(log, trees, txn, change, room, write)?;
+        let at = write_one(log, trees, txn, change, room, write)?;
+        keep_first(&mut first, at);
     }
-    Ok(())
+    Ok(first)
 }
 
 // Logs a Commit, for which there is room.

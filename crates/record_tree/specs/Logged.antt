@@ -1,5 +1,5 @@
 -- What the log gets from a change of a tree.
-use Rattle.std.specs.Prelude.{◌≡◌, ◌==◌, ◌&&◌, ◌*◌, ℕ, Bool, false, List, [], ◌∷◌, ◌++◌, Option, Some, None, Result, Ok, Err, find, reverse}
+use Rattle.std.specs.Prelude.{◌≡◌, ◌==◌, ◌&&◌, ◌*◌, ℕ, Bool, true, false, if◌then◌else◌, List, [], ◌∷◌, ◌++◌, Option, Some, None, Result, Ok, Err, find, reverse}
 use Rattle.std.specs.List.{AllByRecursion, list_any}
 use Rattle.std.specs.Ordering.{is_eq}
 use Rattle.je_order.specs.Order.{name_cmp}
@@ -21,6 +21,17 @@ abbrev pub IsImage : Entry → Type 0
 IsImage (In db node level slots) = Unit {0}
 IsImage (Bin db node slots) = Unit {0}
 IsImage entry = ⊥
+
+-- whether an entry is one
+abbrev pub is_image : Entry → Bool
+is_image (In db node level slots) = true
+is_image (Bin db node slots) = true
+is_image entry = false
+
+-- the LSN of the first of some entries with their LSNs that is no image of a node
+abbrev pub first_change : List (ℕ × Entry) → Option ℕ
+first_change [] = None
+first_change (p ∷ entries) = if is_image p.1 then first_change entries else Some p.0
 
 -- images of nodes
 abbrev pub AreImages : List Entry → Type 0

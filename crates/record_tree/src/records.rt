@@ -3,7 +3,7 @@ ghost use Rattle.std.specs.Prelude.{◌≡◌, ◌≤◌, ◌==◌, ◌||◌, �
 ghost use Rattle.je_order.specs.declared.name.Name.{Name};
 ghost use Rattle.log_entry.specs.declared.entry.Entry.{Entry};
 ghost use Rattle.log_entry.specs.declared.entry.Entry.TheVariants.{Commit};
-ghost use Rattle.record_map.specs.Cells.{value_at, IsRising, first_of, last_of, from_edge, below_edge, edge_of};
+ghost use Rattle.record_map.specs.Cells.{value_at, IsRising, first_of as first_cell, last_of, from_edge, below_edge, edge_of};
 ghost use Rattle.record_tree.specs.declared.tree_err.TreeErr.{TreeErr as Reason};
 ghost use Rattle.record_tree.specs.Occupied.{AllCells, occupied_by, write_in, IsFreeFor, AreFewNew, AreWritten, after_commit, after_abort, HasChangedAll, AreSame};
 ghost use Rattle.record_tree.specs.declared.tree_change.TreeChange.{TreeChange};
@@ -12,6 +12,7 @@ ghost use Rattle.log_entry.specs.Body.{IsEntry};
 ghost use Rattle.record_tree.specs.Logged.{entry_for, most_entries, LogsChanges, is_made, IsFront, IsEndOf, IsLimit, IsUndone};
 
 use crate::{Lacks, TreeChange, TreeErr, TreeName};
+use je_lsn::Lsn;
 use je_order::TxnId;
 use record_map::{Cell, EdgeRef, SortKey};
 use std::alloc::Global;
@@ -39,6 +40,9 @@ pub trait Records {
     /// How many nodes wait for their images: they were split while no entry could be logged.
     ghost waits: { Self → ℕ };
 
+    /// The LSN that the log gives the first of some entries that is no image of a node, if it gets them.
+    ghost first_of: { Self → List Entry → Option ℕ };
+
     /// The cell of the name, where it is occupied.
     fn get(&self, db: u32, name: &SortKey) -> Result<Option<&Cell>, Lacks>
         ensures found { IfOk result (λ found. option_map (λ c. occupied_by c.now) found ≡ value_at name.now (cells self.now db)) }
@@ -47,7 +51,7 @@ pub trait Records {
 
     /// The first occupied name that is not below the edge.
     fn next(&self, db: u32, from: EdgeRef<'_>) -> Result<Option<(&SortKey, &Cell)>, Lacks>
-        ensures found { IfOk result (λ found. option_map (λ p. (p.0.now, occupied_by p.1.now)) found ≡ first_of (from_edge (edge_of from.entry) (cells self.now db))) }
+        ensures found { IfOk result (λ found. option_map (λ p. (p.0.now, occupied_by p.1.now)) found ≡ first_cell (from_edge (edge_of from.entry) (cells self.now db))) }
         ensures here { IsOk result }
         ensures rising { IsRising (cells self.now db) };
 
@@ -60,14 +64,14 @@ pub trait Records {
     /// Changes names for the transaction, and logs the changes in order, each behind the images of the nodes that
     /// are split for it. Room for `owed` Commits is left, that of the transaction among them. A database that a
     /// change makes has an empty tree then. An image of a node that waited for it may be among the others. Of the changes of
-    /// each database at most one is of a name that is not occupied. An error but Fault leaves all as it was.
+    /// each database at most one is of a name that is not occupied. It gives the LSN of the first change. An error but Fault leaves all as it was.
     fn write_all(
         &mut self,
         alloc: Global,
         txn: TxnId,
         changes: &[TreeChange],
         owed: u32,
-    ) -> Result<(), TreeErr>
+    ) -> Result<Option<Lsn>, TreeErr>
         requires trees { AllByRecursion (λ c. has_tree self.old c.db ≡ true) changes.now }
         requires free { AllByRecursion (λ c. IsFreeFor txn (write_in (value_at c.name (cells self.old c.db)))) changes.now }
         requires few { AreFewNew (cells self.old) changes.now }
@@ -75,7 +79,7 @@ pub trait Records {
         requires entries { AllByRecursion (λ c. IsEntry (entry_for txn c.db c.name c.value)) changes.now }
         ensures cells { OnOk result (AreWritten txn changes.now (cells self.old) (cells self.new)) }
         ensures trees { OnOk result ((d : ℕ) → has_tree self.new d ≡ (is_made d changes.now || has_tree self.old d)) }
-        ensures grew { OnOk result ((entries : List Entry) × LogsChanges txn changes.now entries × grew self.old self.new entries × (length entries + waits self.new ≤ waits self.old + most_entries (length changes.now))) }
+        ensures grew { IfOk result (λ first. (entries : List Entry) × LogsChanges txn changes.now entries × grew self.old self.new entries × (length entries + waits self.new ≤ waits self.old + most_entries (length changes.now)) × (first ≡ first_of self.old entries)) }
         ensures left { OnOk result (has_room self.new owed) }
         ensures tried { IsEndOf Reason.Fault result ((entries : List Entry) × (front : List Entry) × LogsChanges txn changes.now entries × IsFront front entries × tried self.old self.new front) }
         ensures limited { IfErr result (λ e. IsLimit e → limit self.old changes.now owed ≡ Some e) }

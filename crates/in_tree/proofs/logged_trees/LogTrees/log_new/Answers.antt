@@ -23,7 +23,7 @@ log_rows-requires-clause-room g c =
 pub returns-in-Err-log_rows-clause-tried : goal.returns-in-Err-log_rows-clause-tried
 returns-in-Err-log_rows-clause-tried g c =
     rest_tried g.D.Disk.observable g.D.Disk.history g.D.Disk.sync_out g.D.Disk.read_out g.D.Disk.read_of g.D.Disk.faults c.args.txn c.args.change.now c.args.rows.now c.args.room.images.items c.as_slice.result.now c.args.self.now.log c.write_one.new.log c.log_rows.new.log c.args.self.now.trees.forest
-    c.write_one.new.trees (ap (λ (l : List (Vec Entry Global)). length l) c.as_slice.ensures.value ∙ c.requires.paired) (subst AreAllLoggable (sym c.as_slice.ensures.value) c.requires.all_loggable) c.in-Ok.ensures.grew c.in-Err-log_rows.ensures.tried
+    c.write_one.new.trees (ap (λ (l : List (Vec Entry Global)). length l) c.as_slice.ensures.value ∙ c.requires.paired) (subst AreAllLoggable (sym c.as_slice.ensures.value) c.requires.all_loggable) c.in-Ok.ensures.grew.0 c.in-Err-log_rows.ensures.tried
 
 pub invariant_of-self-2 : goal.invariant_of-self-2
 invariant_of-self-2 g c =
@@ -36,7 +36,7 @@ pub returns-clause-logged : goal.returns-clause-logged
 returns-clause-logged g c = record {
   log = c.write_one.new.log;
   forest = c.write_one.new.trees;
-  first = c.in-Ok.ensures.grew;
+  first = c.in-Ok.ensures.grew.0;
   changed = c.in-Ok.ensures.cells;
   others = c.in-Ok.ensures.others;
   trees = c.in-Ok.ensures.trees;

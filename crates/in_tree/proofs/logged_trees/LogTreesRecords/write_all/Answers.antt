@@ -1,8 +1,7 @@
 use Rattle.std.proofs.Common.{◌∙◌, ap, is_some, sym}
-use Rattle.db_tree.proofs.Ending.{ok_then}
 use Rattle.in_tree.specs.Placing.{count_images}
 use Rattle.in_tree.specs.Waits.{waits_in}
-use Rattle.in_tree.proofs.Checked.{tried_before}
+use Rattle.in_tree.proofs.Checked.{if_ok_then, tried_before}
 use Rattle.in_tree.proofs.TreesGrown.{changes_grow, trees_stay}
 use Rattle.in_tree.proofs.Waits.{same_waits}
 use Rattle.in_tree.proofs.logged_trees.LogTreesRecords.write_all.Goals as goal
@@ -12,9 +11,9 @@ returns-then-has_failed-clause-tried g c = λ is. tried_before g.D.Disk.observab
 
 pub returns-in-Ok-prepare-clause-grew : goal.returns-in-Ok-prepare-clause-grew
 returns-in-Ok-prepare-clause-grew g c =
-    ok_then c.write_each.result
-    (changes_grow g.D.Disk.observable g.D.Disk.history g.D.Disk.sync_out g.D.Disk.read_out g.D.Disk.read_of g.D.Disk.faults c.args.txn c.args.changes.now c.in-Ok-prepare.rooms.items c.args.owed _ c.prepare.new.self c.write_each.new.log c.write_each.new.trees
-    (count_images c.in-Ok-prepare.rooms.items) (waits_in c.args.self.now.trees.forest) (waits_in c.prepare.new.self.trees.forest) (waits_in c.write_each.new.trees)
+    if_ok_then c.write_each.result
+    (λ first. changes_grow g.D.Disk.observable g.D.Disk.history g.D.Disk.sync_out g.D.Disk.read_out g.D.Disk.read_of g.D.Disk.faults c.args.txn c.args.changes.now c.in-Ok-prepare.rooms.items c.args.owed _ c.prepare.new.self c.write_each.new.log c.write_each.new.trees
+    (count_images c.in-Ok-prepare.rooms.items) (waits_in c.args.self.now.trees.forest) (waits_in c.prepare.new.self.trees.forest) (waits_in c.write_each.new.trees) first
     c.prepare.ensures.log c.requires.few c.in-Ok-prepare.ensures.ready c.in-Ok-prepare.ensures.ready.few c.write_each.ensures.waits)
     c.write_each.ensures.grew
 
