@@ -7,6 +7,7 @@ use Rattle.txn_log.proofs.Giving.{transaction_gives, transaction_on, still_gives
 use Rattle.txn_log.proofs.BufferLaws.{transaction_is_given}
 use Rattle.log_buffer.specs.Flip.{pos_lsn}
 use Rattle.log_trees.specs.Placed.{placed}
+use Rattle.environment.proofs.Firsts.{is_begun, transaction_no_commit}
 use Rattle.environment.proofs.Bases.{begun_with, lives_on}
 use Rattle.txn_log.proofs.AtStandingLaws.{same_under, transaction_leaves_log}
 use Rattle.std.specs.List.{AllByRecursion, list_any}
@@ -186,7 +187,8 @@ module _ {D : Type 0} (observable : Bool) (history : D → History) (sync_out re
       ∙ same_under (λ (r : Rows). GivesRecordsWith (longer old a.entries v.log) (end_of new) r after.last_txn after.last_db (active_number st.actives) after.own) (λ x g. g.base) (sym rows_are) on.given.gives))
       (subst (λ (n : ℕ). Lives later_forest (longer old a.entries v.log) n (pos_lsn (end_of new)) written v.gives.base) (sym since_is)
       (lives_on observable history sync_out read_out read_of old new v.log a.entries later_forest since v.gives.base written v.has a.grew (transaction_no_ends t planned a.entries a.logs)
-      (carries v.log v.gives.base v.has (begun_with v.log (end_of old) rows st.last_txn st.last_db (active_number st.actives) st.own v.gives) v.fits) v.from v.firsts)) in
+      (carries v.log v.gives.base v.has (begun_with v.log (end_of old) rows st.last_txn st.last_db (active_number st.actives) st.own v.gives) v.fits) v.from
+      (λ u named. transaction_no_commit u t planned a.entries (λ same. is_begun v.log (end_of old) rows st.last_txn st.last_db (active_number st.actives) st.own v.gives written (pos_lsn (end_of old)) u v.firsts named (omega (arith, next, same))) a.logs) v.firsts)) in
       record {
         log = longer old a.entries v.log;
         has = on.given.has;

@@ -88,7 +88,7 @@ use Rattle.environment.specs.Written.{AreNamesOf, had_at, names_at}
 use Rattle.environment.proofs.Answering.{owed_is, within_more}
 use Rattle.environment.proofs.CommitRows.{commit_rows, others_stay}
 use Rattle.environment.proofs.EndingLaws.{abandoned, abandoned_near, any_left, fewer_of, fewer_pass, found_session, room_fewer}
-use Rattle.environment.proofs.Firsts.{firsts_lower}
+use Rattle.environment.proofs.Firsts.{fewer_less, firsts_fewer}
 
 abbrev Own : Type 0
 Own = List (ℕ × RecordChange)
@@ -336,7 +336,9 @@ module _ {D : Type 0} (observable : Bool) (history : D → History) (sync_out re
         (commit_no_end a.txn)
         (h.committed.fits v.log v.gives.base v.has (begun_with v.log (end_of log_old) rows_old st.last_txn st.last_db (active_number st.actives) st.own v.gives) v.fits)
         (subst (λ (k : Kept). EndsFrom v.log v.gives.base k.since) (sym h.committed.kept) v.from)
-        (firsts_lower old.written.by_txn.entries new.written.by_txn.entries (waiting_in v.log v.gives.base) (pos_lsn (end_of log_old)) h.committed.firsts v.firsts)) in
+        (λ t named. ((λ same. named (h.committed.names (txn_id t) ∙ cond-true (is_same_txn a.txn (txn_id t)) [] (names_at (txn_id t) old.written.by_txn.entries) (same_either a.txn (txn_id t) ∙ eq-eqb t a.txn.0 (sym same)))), tt))
+        (firsts_fewer old.written.by_txn.entries new.written.by_txn.entries (waiting_in v.log v.gives.base) (pos_lsn (end_of log_old))
+        (fewer_less old.written.by_txn.entries new.written.by_txn.entries a.txn h.committed.names h.committed.firsts) v.firsts)) in
         record {
           log = longer log_old (Committed a.txn ∷ []) v.log;
           has = at.given.has;

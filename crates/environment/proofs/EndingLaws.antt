@@ -64,6 +64,7 @@ use Rattle.environment.specs.Whole.{reach_of}
 use Rattle.environment.specs.Written.{AreNamesOf, had_at, names_at}
 use Rattle.environment.proofs.Answering.{owed_is}
 use Rattle.environment.proofs.Bases.{lives_same}
+use Rattle.environment.proofs.Firsts.{fewer_less}
 
 -- ---- the committed records stay
 
@@ -365,7 +366,8 @@ module _ {D : Type 0} where
           ∙ same_under (λ (r : Rows). GivesRecordsWith v.log (end_of old.engine.trees.log) r st.last_txn st.last_db (active_number after_.actives) after_.own) (λ r g. g.base) (sym same) still))
           (lives_same (fitting old.engine.trees) (fitting new.engine.trees) v.log old.engine.kept.since new.engine.kept.since (pos_lsn (end_of old.engine.trees.log)) (pos_lsn (end_of new.engine.trees.log))
           old.written.by_txn.entries new.written.by_txn.entries v.gives.base (record { fits = v.fits; from = v.from; firsts = v.firsts }) (h.fits (placed v.log) v.gives.base)
-          (ap (λ (k : Kept). k.since) h.kept) (ap pos_lsn h.log.kept.end) h.firsts)
+          (ap (λ (k : Kept). k.since) h.kept) (ap pos_lsn h.log.kept.end)
+          (fewer_less old.written.by_txn.entries new.written.by_txn.entries a.txn h.names h.firsts))
 
     pub abandoned : HasAbandoned old new a.session a.txn → active_of a.session st.actives ≡ Some a → (st.fault ≡ None → AreNumbered st.last_txn st.actives) →
         StandsAt most observable history old st → StandsAt most observable history new after_

@@ -1,5 +1,5 @@
 -- What transactions wrote, after a change of the map.
-use Rattle.std.proofs.Common.{◌≡◌, ◌≤◌, ◌<◌, ◌+◌, ◌^◌, ℕ, Bool, true, cond, List, [], ◌∷◌, ◌++◌, None, Some, Option, Result, Ok, Err, OnOk, refl, sym, ap, ◌∙◌, subst, ⊎_elim, length, arith}
+use Rattle.std.proofs.Common.{◌≡◌, ◌≤◌, ◌<◌, ◌+◌, ◌^◌, ℕ, Bool, true, cond, List, [], ◌∷◌, ◌++◌, None, Some, Option, Result, Ok, Err, OnOk, refl, sym, ap, ap₂, ◌∙◌, subst, ⊎_elim, length, arith}
 use Rattle.std.specs.Prelude.{vec_capacity}
 use Rattle.std.specs.Option.{option_map_or}
 use Rattle.std.proofs.lemmas.Bool.{cases_Bool}
@@ -37,16 +37,11 @@ had_stays old new u o w has c is t = ⊎_elim
     (λ h. ap had_in (changed_there old new u (Some w) c t h))
     (cases_Bool (is_same_txn u t))
 
--- and with its first LSN, where it has names
-first_kept : (had names : List TreeName) (first end : ℕ) → names ≡ had → first_in names (first_for had first end) ≡ first_in had first
-first_kept had [] first end is = ap (λ (l : List TreeName). first_in l first) is
-first_kept [] (name ∷ names) first end is = cc
-first_kept (n ∷ had) (name ∷ names) first end is = refl
-
-pub firsts_stay : (old new : Entries) (u : TxnId) (was w : OwnNames) (end : ℕ) → Some was ≡ at_txn u old → IsChangedAt old new u (Some w) → w.names.items ≡ was.names.items → w.first ≡ first_for was.names.items was.first end →
+-- and with its first LSN
+pub firsts_stay : (old new : Entries) (u : TxnId) (was w : OwnNames) → Some was ≡ at_txn u old → IsChangedAt old new u (Some w) → w.names.items ≡ was.names.items → w.first ≡ was.first →
     (t : TxnId) → first_at t new ≡ first_at t old
-firsts_stay old new u was w end has c names is t = ⊎_elim
-    (λ h. ap first_of (changed_here old new u (Some w) c t h) ∙ ap (first_in w.names.items) is ∙ first_kept was.names.items w.names.items was.first end names
+firsts_stay old new u was w has c names is t = ⊎_elim
+    (λ h. ap first_of (changed_here old new u (Some w) c t h) ∙ ap₂ (λ (l : List TreeName) (n : ℕ). first_in l n) names is
     ∙ ap first_of (subst (λ (x : TxnId). Some was ≡ at_txn x old) (same_is u t h) has))
     (λ h. ap first_of (changed_there old new u (Some w) c t h))
     (cases_Bool (is_same_txn u t))
@@ -65,52 +60,34 @@ firsts_made old new u w has c none t = ⊎_elim
     (cases_Bool (is_same_txn u t))
 
 -- and one less
-pub firsts_less : (old new : Entries) (u : TxnId) → IsChangedAt old new u None → (t : TxnId) → first_at t new ≤ first_at t old
+pub firsts_less : (old new : Entries) (u : TxnId) → IsChangedAt old new u None → (t : TxnId) → first_at t new ≡ cond (is_same_txn u t) 0 (first_at t old)
 firsts_less old new u c t = ⊎_elim
-    (λ h. let is : first_at t new ≡ 0 = ap first_of (changed_here old new u None c t h) in omega (arith, is))
-    (λ h. let is : first_at t new ≡ first_at t old = ap first_of (changed_there old new u None c t h) in omega (arith, is))
+    (λ h. ap first_of (changed_here old new u None c t h) ∙ sym (ap (λ (b : Bool). cond b 0 (first_at t old)) h))
+    (λ h. ap first_of (changed_there old new u None c t h) ∙ sym (ap (λ (b : Bool). cond b 0 (first_at t old)) h))
     (cases_Bool (is_same_txn u t))
 
 -- names at the end of those that were there
-first_more : (had more : List TreeName) (own first : ℕ) → (had ≡ [] → own ≡ first) → first_in (had ++ more) own ≤ first_for had (first_in had own) first
-first_more [] [] own first is = omega arith
-first_more [] (name ∷ more) own first is = let same = is refl in omega (arith, same)
-first_more (n ∷ had) more own first is = omega arith
+first_more : (had more : List TreeName) (own first : ℕ) → first_in (had ++ more) (first_for had own first) ≡ first_in (had ++ more) (first_for had (first_in had own) first)
+first_more [] more own first = refl
+first_more (n ∷ had) more own first = refl
 
-pub firsts_more : (old new : Entries) (u : TxnId) (was w : OwnNames) (count had first : ℕ) (more : List TreeName) → Some was ≡ at_txn u old → IsChangedAt old new u (Some w) → w.names.items ≡ was.names.items ++ more → w.first ≡ was.first →
-    HasRoomAt u count had first old → (t : TxnId) → first_at t new ≤ cond (is_same_txn u t) (first_for (names_at u old) (first_at u old) first) (first_at t old)
-firsts_more old new u was w count had first more has c names same room t = ⊎_elim
-    (λ h. subst (λ (b : Bool). first_at t new ≤ cond b (first_for (names_at u old) (first_at u old) first) (first_at t old)) (sym h) (here h))
-    (λ h. subst (λ (b : Bool). first_at t new ≤ cond b (first_for (names_at u old) (first_at u old) first) (first_at t old)) (sym h)
-    (let is : first_at t new ≡ first_at t old = ap first_of (changed_there old new u (Some w) c t h) in omega (arith, is)))
+pub firsts_more : (old new : Entries) (u : TxnId) (was w : OwnNames) (first : ℕ) (more : List TreeName) → Some was ≡ at_txn u old → IsChangedAt old new u (Some w) → w.names.items ≡ was.names.items ++ more →
+    w.first ≡ first_for was.names.items was.first first →
+    (t : TxnId) → first_at t new ≡ cond (is_same_txn u t) (first_in (names_at u old ++ more) (first_for (names_at u old) (first_at u old) first)) (first_at t old)
+firsts_more old new u was w first more has c names is t = ⊎_elim
+    (λ h. here h ∙ sym (ap (λ (b : Bool). cond b (first_in (names_at u old ++ more) (first_for (names_at u old) (first_at u old) first)) (first_at t old)) h))
+    (λ h. ap first_of (changed_there old new u (Some w) c t h)
+    ∙ sym (ap (λ (b : Bool). cond b (first_in (names_at u old ++ more) (first_for (names_at u old) (first_at u old) first)) (first_at t old)) h))
     (cases_Bool (is_same_txn u t))
   where
-    same_own : (a b : OwnNames) → Some a ≡ Some b → a ≡ b
-    same_own a b is = cc
-
-    was_is : was ≡ room.own
-    was_is = same_own was room.own (has ∙ room.its)
-
-    none : was.names.items ≡ [] → was.first ≡ first
-    none = subst (λ (o : OwnNames). o.names.items ≡ [] → o.first ≡ first) (sym was_is) room.first_is
-
-    low : first_in (was.names.items ++ more) was.first ≤ first_for (names_at u old) (first_at u old) first
-    low = subst (λ (o : Option OwnNames). first_in (was.names.items ++ more) was.first ≤ first_for (names_in o) (first_of o) first) has (first_more was.names.items more was.first first none)
-
-    here : is_same_txn u t ≡ true → first_at t new ≤ first_for (names_at u old) (first_at u old) first
-    here h = subst (λ (n : ℕ). n ≤ first_for (names_at u old) (first_at u old) first)
-        (sym (ap first_of (changed_here old new u (Some w) c t h) ∙ ap (λ (l : List TreeName). first_in l w.first) names ∙ ap (first_in (was.names.items ++ more)) same)) low
+    here : is_same_txn u t ≡ true → first_at t new ≡ first_in (names_at u old ++ more) (first_for (names_at u old) (first_at u old) first)
+    here h =
+        ap first_of (changed_here old new u (Some w) c t h) ∙ ap₂ (λ (l : List TreeName) (n : ℕ). first_in l n) names is ∙ first_more was.names.items more was.first first
+        ∙ ap (λ (o : Option OwnNames). first_in (names_in o ++ more) (first_for (names_in o) (first_of o) first)) has
 
 -- the entry that is there has the room
-pub has_room : (old new : Entries) (u : TxnId) (w : OwnNames) (count had first : ℕ) → IsChangedAt old new u (Some w) → length w.names.items + count ≤ vec_capacity w.names → w.had + had < 2 ^ 64 →
-    (w.names.items ≡ [] → w.first ≡ first) → HasRoomAt u count had first new
-has_room old new u w count had first c room fits is = record { own = w; its = changed_here old new u (Some w) c u (same_itself u); room = room; fits = fits; first_is = is }
-
--- where it had no names it has this first LSN
-pub first_fresh : (names had : List TreeName) (own first : ℕ) → names ≡ had → names ≡ [] → first_for had own first ≡ first
-first_fresh names [] own first is none = refl
-first_fresh [] (n ∷ had) own first is none = cc
-first_fresh (name ∷ names) (n ∷ had) own first is none = cc
+pub has_room : (old new : Entries) (u : TxnId) (w : OwnNames) (count had : ℕ) → IsChangedAt old new u (Some w) → length w.names.items + count ≤ vec_capacity w.names → w.had + had < 2 ^ 64 → HasRoomAt u count had new
+has_room old new u w count had c room fits = record { own = w; its = changed_here old new u (Some w) c u (same_itself u); room = room; fits = fits }
 
 pub on_ok : {T E : Type 0} {A B : Type 0} → (r : Result T E) → OnOk r A → (A → B) → OnOk r B
 on_ok (Ok t) a f = f a

@@ -3,11 +3,12 @@ use mathlib.Core.Path.{fun_ext}
 use Rattle.txn_log.specs.Checkpoints.{EndsFrom}
 use Rattle.engine.specs.declared.kept.Kept.{Kept}
 use Rattle.engine.proofs.CallEntries.{changes_no_ends}
+use Rattle.std.specs.Prelude.{◌≢◌}
 use Rattle.log_file.specs.Log.{Log}
 use Rattle.log_buffer.specs.Flip.{pos_lsn}
 use Rattle.log_trees.specs.Placed.{placed}
-use Rattle.environment.proofs.Bases.{begun_with, lives_on, lives_same}
-use Rattle.std.proofs.Common.{arith, ◌≡◌, inl, ℕ, suc, ◌+◌, ◌≤◌, ◌==◌, nat_lt, Bool, true, false, true≢false, cond, ◌||◌, List, [], ◌∷◌, ◌++◌, map, length, Option, None, Some, Result, Ok, Err, count_by, refl, ap, ap₂, sym, ◌∙◌, subst}
+use Rattle.environment.proofs.Bases.{begun_with, first_stands, lives_on, lives_same}
+use Rattle.std.proofs.Common.{arith, ◌≡◌, inl, ℕ, suc, ◌+◌, ◌≤◌, ◌==◌, nat_lt, Bool, true, false, true≢false, cond, ◌||◌, List, [], ◌∷◌, ◌++◌, map, length, Option, None, Some, Result, Ok, Err, count_by, refl, ap, ap₂, sym, ◌∙◌, subst, unwrap_or}
 use Rattle.std.specs.declared.alloc.AllocError.{AllocError}
 use Rattle.std.specs.List.{AllByRecursion}
 use Rattle.std.proofs.lemmas.Bool.{cond-true}
@@ -35,6 +36,7 @@ use Rattle.log_buffer.specs.Growth.{longer}
 use Rattle.log_buffer.specs.Log.{HasLog}
 use Rattle.log_buffer.proofs.BufferLog.{log_kept}
 use Rattle.log_replay.specs.Rows.{Rows, numbers_of}
+use Rattle.in_tree.specs.Logging.{first_in}
 use Rattle.in_tree.specs.Limits.{HasRoomFor, commit_sizes}
 use Rattle.in_tree.specs.Observed.{cells_of, has_tree_of, limit_in, waits_of}
 use Rattle.in_tree.proofs.Far.{files_few}
@@ -72,7 +74,7 @@ use Rattle.environment.specs.Writing.{HasWrittenNone, HasWrittenOwn, IsLeft, IsV
 use Rattle.environment.proofs.EndingLaws.{room_unchanged}
 use Rattle.environment.proofs.ChangeLaws.{Changed, all_there, makes_none, may_commit, rows_are}
 use Rattle.environment.proofs.WritingLaws.{had_own, names_append, names_free, planned_free, planned_same, rows_stay}
-use Rattle.environment.proofs.Firsts.{firsts_written, waiting_none}
+use Rattle.environment.proofs.Firsts.{changes_no_commit, fewer_same, firsts_written, waiting_none}
 
 module _ {D : Type 0} (observable : Bool) (history : D → History) (sync_out read_out : D → Option ℕ) (read_of : D → ℕ) (faults : D → ℕ) where
   abbrev state_of : Environment D → State
@@ -140,7 +142,7 @@ module _ {D : Type 0} (observable : Bool) (history : D → History) (sync_out re
       ∙ same_under (λ (c : AllCells). GivesRecordsWith v.log (end_of old.engine.trees.log) (committed c) st.last_txn st.last_db (active_number st.actives) st.own) (λ c g. g.base) (sym same) v.gives))
       (lives_same (fitting old.engine.trees) (fitting new.engine.trees) v.log old.engine.kept.since new.engine.kept.since (pos_lsn (end_of old.engine.trees.log)) (pos_lsn (end_of new.engine.trees.log))
       old.written.by_txn.entries new.written.by_txn.entries v.gives.base (record { fits = v.fits; from = v.from; firsts = v.firsts }) (h.trees.fits (placed v.log) v.gives.base) (ap (λ (k : Kept). k.since) h.kept)
-      (ap pos_lsn log.kept.end) (λ t. let is = h.written.firsts t in omega (arith, is))) in
+      (ap pos_lsn log.kept.end) (fewer_same old.written.by_txn.entries new.written.by_txn.entries h.written.names h.written.firsts)) in
       record {
         log = v.log;
         has = subst (λ (d : D). HasLog observable (now (history d)) new.engine.trees.log v.log) (sym log.disk)
@@ -240,25 +242,39 @@ module _ {D : Type 0} (observable : Bool) (history : D → History) (sync_out re
           ∙ sym (had_go_on rows_ (st.own txn.0) own_)
       by_had t false = v.names.had t
 
-    firsts_on : Written → AreFirstsOf new.written.by_txn.entries (waiting_in v.log v.gives.base) (pos_lsn (end_of old.engine.trees.log))
-    firsts_on w =
-        firsts_written old.written.by_txn.entries new.written.by_txn.entries (waiting_in v.log v.gives.base) (pos_lsn (end_of old.engine.trees.log)) txn
-        (waiting_none v.log (end_of old.engine.trees.log) rows_ st.last_txn st.last_db (active_number st.actives) st.own v.gives old.written.by_txn.entries txn.0 v.names active) w.firsts v.firsts
+    some_planned : planned_ ≢ []
+    some_planned none = m.some (none_long cs (sym (planned_length cs) ∙ ap (λ (l : List TreeChange). length l) none))
+      where
+        none_long : (l : List Changed) → length l ≡ 0 → l ≡ []
+        none_long [] is = refl
+        none_long (c ∷ l) is = absurd (omega (arith, is))
 
-    done_valid : Written → (a : Added) →
+    -- in the longer log each transaction has its first LSN
+    firsts_on : (w : Written) → (a : Added) → w.first ≡ unwrap_or (first_in old.engine.trees.log a.entries) 0 →
+        AreFirstsOf old.written.by_txn.entries (waiting_in (longer old.engine.trees.log a.entries v.log) v.gives.base) (pos_lsn (end_of new.engine.trees.log)) →
+        AreFirstsOf new.written.by_txn.entries (waiting_in (longer old.engine.trees.log a.entries v.log) v.gives.base) (pos_lsn (end_of new.engine.trees.log))
+    firsts_on w a first_is firsts =
+        firsts_written old.written.by_txn.entries new.written.by_txn.entries (waiting_in (longer old.engine.trees.log a.entries v.log) v.gives.base) (pos_lsn (end_of new.engine.trees.log)) w.first txn (own_names own_)
+        (λ none named. first_stands observable history sync_out read_out read_of old.engine.trees.log new.engine.trees.log v.log v.gives.base w.first txn planned_ a.entries v.has a.grew
+        (begun_with v.log (end_of old.engine.trees.log) rows_ st.last_txn st.last_db (active_number st.actives) st.own v.gives) some_planned a.logs
+        (waiting_none v.log (end_of old.engine.trees.log) rows_ st.last_txn st.last_db (active_number st.actives) st.own v.gives old.written.by_txn.entries txn.0 v.names active none) first_is)
+        w.names w.firsts firsts
+
+    done_valid : (w : Written) → (a : Added) → w.first ≡ unwrap_or (first_in old.engine.trees.log a.entries) 0 →
         ((log : Log) (base : ℕ) → HasLog observable (now (history (disk_below old.engine.trees.log))) old.engine.trees.log log → base ≤ pos_lsn (end_of old.engine.trees.log) → fitting old.engine.trees (placed log) base →
         fitting new.engine.trees (placed (longer old.engine.trees.log a.entries log)) base) →
         owed ≡ owing after_ → IsValidAt observable history new after_
-    done_valid w a carries owes =
+    done_valid w a first_is carries owes =
         let same : rows_in new ≡ rows_ = rows_stay txn planned_ (cells_of old.engine.trees) (cells_of new.engine.trees) w.was_rising w.rising w.writes in
         let on = log_on a in
         let lives = subst (Lives (fitting new.engine.trees) (longer old.engine.trees.log a.entries v.log) new.engine.kept.since (pos_lsn (end_of new.engine.trees.log)) new.written.by_txn.entries)
         (sym (same_under (λ (r : Rows). GivesRecordsWith (longer old.engine.trees.log a.entries v.log) (end_of new.engine.trees.log) r st.last_txn st.last_db (active_number st.actives) after_.own) (λ r g. g.base) (sym same) on.given.gives
         ∙ base_on a))
-        (lives_on observable history sync_out read_out read_of old.engine.trees.log new.engine.trees.log v.log a.entries (fitting new.engine.trees) new.engine.kept.since v.gives.base new.written.by_txn.entries v.has a.grew
+        (lives_with
+        (lives_on observable history sync_out read_out read_of old.engine.trees.log new.engine.trees.log v.log a.entries (fitting new.engine.trees) new.engine.kept.since v.gives.base old.written.by_txn.entries v.has a.grew
         (changes_no_ends txn planned_ a.entries a.logs)
         (carries v.log v.gives.base v.has (begun_with v.log (end_of old.engine.trees.log) rows_ st.last_txn st.last_db (active_number st.actives) st.own v.gives) v.fits)
-        (subst (λ (k : Kept). EndsFrom v.log v.gives.base k.since) (sym w.kept) v.from) (firsts_on w)) in
+        (subst (λ (k : Kept). EndsFrom v.log v.gives.base k.since) (sym w.kept) v.from) (λ t named. changes_no_commit t txn planned_ a.entries a.logs) v.firsts)) in
         record {
           log = longer old.engine.trees.log a.entries v.log;
           has = on.given.has;
@@ -285,6 +301,13 @@ module _ {D : Type 0} (observable : Bool) (history : D → History) (sync_out re
           from = lives.from;
           firsts = lives.firsts;
         }
+      where
+        later : Log
+        later = longer old.engine.trees.log a.entries v.log
+
+        lives_with : Lives (fitting new.engine.trees) later new.engine.kept.since (pos_lsn (end_of new.engine.trees.log)) old.written.by_txn.entries v.gives.base →
+            Lives (fitting new.engine.trees) later new.engine.kept.since (pos_lsn (end_of new.engine.trees.log)) new.written.by_txn.entries v.gives.base
+        lives_with lives = record { fits = lives.fits; from = lives.from; firsts = firsts_on w a first_is lives.firsts }
 
     near : Written → end_file new.engine.trees ≤ end_file old.engine.trees + most_entries (length cs)
     near w =
@@ -299,7 +322,7 @@ module _ {D : Type 0} (observable : Bool) (history : D → History) (sync_out re
 
     pub done : Written → owed ≡ owing after_ → WritesOwn observable history sync_out read_out read_of old new st txn.0 cs owed (Ok Done)
     done w owes = (
-      done_valid w (add_ w) w.logged.fits owes,
+      done_valid w (add_ w) w.logged.first_is w.logged.fits owes,
       record {
         grown = record {
           entries = (add_ w).entries;

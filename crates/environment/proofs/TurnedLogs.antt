@@ -51,7 +51,7 @@ use Rattle.environment.specs.Turning.{IsAtMost, IsFirstOf}
 use Rattle.environment.specs.Valid.{Forest, IsValidWith, Lives, active_number}
 use Rattle.environment.specs.Written.{first_at, first_in, names_at}
 use Rattle.environment.proofs.Bases.{ends_later, firsts_grow, lives_on}
-use Rattle.environment.proofs.Firsts.{firsts_behind}
+use Rattle.environment.proofs.Firsts.{firsts_behind, neutral_no_commit}
 
 -- ---- entries
 
@@ -161,7 +161,7 @@ module _ {D : Type 0} (observable : Bool) (history : D → History) (sync_out re
         valid_longer entries later begun since
         (neutrals_are_given observable history sync_out read_out read_of old new v.log (committed cells) st.last_txn st.last_db (active_number st.actives) st.own given (added entries AreNeutral neutral grew))
         (neutrals_leave_base observable history sync_out read_out read_of old new v.log (committed cells) st.last_txn st.last_db (active_number st.actives) st.own given (added entries AreNeutral neutral grew))
-        grew (lives_on observable history sync_out read_out read_of old new v.log entries later since v.gives.base written v.has grew.grew (no_ends entries neutral) (carries v.fits) v.from v.firsts)
+        grew (lives_on observable history sync_out read_out read_of old new v.log entries later since v.gives.base written v.has grew.grew (no_ends entries neutral) (carries v.fits) v.from (λ t named. neutral_no_commit t entries neutral) v.firsts)
         (neutrals_are_recovered observable history sync_out read_out read_of old new v.log (committed cells) st.last_txn st.last_db (active_number st.actives) st.own v.recovers.first v.recovers.opening v.recovers.base
         v.recovers.transactions given (added entries AreNeutral neutral grew) v.recovers.recovers) room
 
@@ -185,14 +185,14 @@ module _ {D : Type 0} (observable : Bool) (history : D → History) (sync_out re
     below_first : (o : Option ℕ) (start redo : ℕ) → redo ≤ earlier_of start o → IsFirstOf written o → (t : ℕ) → names_at (txn_id t) written ≢ [] → redo ≤ first_at (txn_id t) written
     below_first o start redo low first t some = by_own (at_txn (txn_id t) written) refl some
       where
-        by_names : (own : OwnNames) (names : List TreeName) → at_txn (txn_id t) written ≡ Some own → names ≢ [] → redo ≤ first_in names own.first
-        by_names own [] is none = absurd (none refl)
-        by_names own (name ∷ names) is none = at_least o start redo own.first low (first.least (txn_id t) own is)
+        by_names : (own : OwnNames) (names : List TreeName) → at_txn (txn_id t) written ≡ Some own → own.names.items ≢ [] → names ≢ [] → redo ≤ first_in names own.first
+        by_names own [] is named none = absurd (none refl)
+        by_names own (name ∷ names) is named none = at_least o start redo own.first low (first.least (txn_id t) own is named)
 
         by_own : (found : Option OwnNames) → at_txn (txn_id t) written ≡ found → option_map_or (λ (w : OwnNames). w.names.items) found [] ≢ [] →
             redo ≤ option_map_or (λ (w : OwnNames). first_in w.names.items w.first) found 0
         by_own None is none = absurd (none refl)
-        by_own (Some own) is none = by_names own own.names.items is none
+        by_own (Some own) is none = by_names own own.names.items is none none
 
     module _ (p : EndParts) (last : ℕ) (trees : ℕ → Option DbTree) (o : Option ℕ) (start : ℕ) (cells_are : cells ≡ (λ d. occupied (cells_of (trees d)))) (fits : forest ≡ (λ es base. ForestFits es base last trees))
         (since_low : since ≤ p.redo) (low : p.redo ≤ earlier_of start o) (first : IsFirstOf written o) (may : MayEndTrees old trees p.redo p.roots) where
@@ -247,7 +247,7 @@ module _ {D : Type 0} (observable : Bool) (history : D → History) (sync_out re
             fits = carries v.fits;
             from = ends_from_end observable history old v.log p None v.gives.base since v.has since_low v.from;
             firsts = firsts_grow observable history old v.log ends v.gives.base (pos_lsn (end_of new)) written v.has (grew.grew.log v.log v.has).is_log
-                (ends_later observable history sync_out read_out read_of old new v.log ends v.has grew.grew) v.firsts;
+                (ends_later observable history sync_out read_out read_of old new v.log ends v.has grew.grew) (λ t named. (tt, tt)) v.firsts;
           })
           (end_is_recovered observable history sync_out read_out read_of old new v.log (committed cells) st.last_txn st.last_db (active_number st.actives) st.own v.recovers.first v.recovers.opening v.recovers.base
           v.recovers.transactions p None m.given m.may (added ends (IsEndOf p None) refl grew) v.recovers.recovers) room

@@ -55,7 +55,7 @@ module _ {D : Type 0} where
     pub waits : waits_of new.trees ≡ waits_of old.trees
     pub names : (t : TxnId) → names_at t is ≡ (if is_same_txn txn t then [] else names_at t was)
     pub had : (t : TxnId) → had_at t is ≡ (if is_same_txn txn t then 0 else had_at t was)
-    pub firsts : (t : TxnId) → first_at t is ≤ first_at t was
+    pub firsts : (t : TxnId) → first_at t is ≡ (if is_same_txn txn t then 0 else first_at t was)
 
   -- a session's transaction has committed, and is at its end
   pub record HasSettled (observable : Bool) (history : D → History) (sync_out read_out : D → Option ℕ) (read_of faults : D → ℕ) (old new : Environment D) (session : ℕ) (txn : TxnId)

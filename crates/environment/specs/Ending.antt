@@ -28,5 +28,5 @@ module _ {D : Type 0} where
     pub fits : (es : List Placed) (base : ℕ) → fitting old.engine.trees es base → fitting new.engine.trees es base
     pub names : (t : TxnId) → names_at t new.written.by_txn.entries ≡ (if is_same_txn txn t then [] else names_at t old.written.by_txn.entries)
     pub had : (t : TxnId) → had_at t new.written.by_txn.entries ≡ (if is_same_txn txn t then 0 else had_at t old.written.by_txn.entries)
-    pub firsts : (t : TxnId) → first_at t new.written.by_txn.entries ≤ first_at t old.written.by_txn.entries
+    pub firsts : (t : TxnId) → first_at t new.written.by_txn.entries ≡ (if is_same_txn txn t then 0 else first_at t old.written.by_txn.entries)
     pub sessions : (st : Standing) (a : Active) → a.session ≡ session → a.txn ≡ txn → AreSessionsAt old.sessions st → AreSessionsAt new.sessions (ended a st)

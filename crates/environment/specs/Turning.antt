@@ -1,5 +1,5 @@
 -- What a step of maintenance does to an environment.
-use Rattle.std.specs.Prelude.{ℕ, ◌≡◌, ◌≤◌, ◌++◌, ◌∷◌, [], List, Option, None, Some, is_some, Bool, true, false, Result, Ok, Err, OnOk, IfSome}
+use Rattle.std.specs.Prelude.{ℕ, ◌≡◌, ◌≢◌, ◌≤◌, ◌⊎◌, ◌++◌, ◌∷◌, [], List, Option, None, Some, is_some, Bool, true, false, Result, Ok, Err, OnOk, IfSome}
 use Rattle.std.specs.declared.alloc.AllocError.{AllocError}
 use Rattle.je_disk.specs.States.{State}
 use Rattle.je_disk.specs.Moments.{History}
@@ -17,6 +17,7 @@ use Rattle.je_answers.specs.Standing.{Standing}
 use Rattle.log_entry.specs.declared.entry.Entry.{Entry}
 use Rattle.log_entry.specs.declared.entry.Entry.TheVariants.{CkptStart}
 use Rattle.record_tree.specs.declared.node_place.NodePlace.{NodePlace}
+use Rattle.record_tree.specs.declared.tree_name.TreeName.{TreeName}
 use Rattle.record_tree.specs.declared.tree_err.TreeErr.{TreeErr}
 use Rattle.record_tree.specs.declared.tree_err.TreeErr.TheVariants.{Fault, Full, IdsEnded, Memory}
 use Rattle.record_tree.specs.Logged.{IsFront}
@@ -44,10 +45,15 @@ abbrev pub IsAtMost : Option ℕ → ℕ → Type 0
 IsAtMost None lsn = ⊥
 IsAtMost (Some first) lsn = first ≤ lsn
 
+-- the least of some LSN, if there is one, and of the first LSN of a transaction with these names; one without names has none
+abbrev pub IsLeastWith : List TreeName → ℕ → Option ℕ → Option ℕ → Type 0
+IsLeastWith [] first least next = next ≡ least
+IsLeastWith (name ∷ names) first least next = (lsn : ℕ) × (next ≡ Some lsn) × (lsn ≤ first) × IfSome least (λ l. lsn ≤ l) × ((lsn ≡ first) ⊎ (least ≡ Some lsn))
+
 -- the least of the first LSNs of the transactions that wrote something; none where none did
 pub record IsFirstOf (entries : List (TxnId × OwnNames)) (first : Option ℕ) : Type 0 where
-  pub least : (t : TxnId) (own : OwnNames) → at_txn t entries ≡ Some own → IsAtMost first own.first
-  pub some : IfSome first (λ lsn. (t : TxnId) × (own : OwnNames) × (at_txn t entries ≡ Some own) × (own.first ≡ lsn))
+  pub least : (t : TxnId) (own : OwnNames) → at_txn t entries ≡ Some own → own.names.items ≢ [] → IsAtMost first own.first
+  pub some : IfSome first (λ lsn. (t : TxnId) × (own : OwnNames) × (at_txn t entries ≡ Some own) × (own.names.items ≢ []) × (own.first ≡ lsn))
 
 -- what a step comes to whose entry was not logged, and the fault that it leaves
 abbrev pub IsAnswerTo : TreeErr → Result Answer AllocError → Type 0

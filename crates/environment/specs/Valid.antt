@@ -54,8 +54,8 @@ fitting trees es base = ForestFits es base (last_node_of trees) (trees_of trees)
 abbrev pub waiting_in : Log → ℕ → ℕ → List LoggedChange
 waiting_in log base = (redone base (placed log)).pending
 
--- What holds of a log that ends at an LSN, and of where this life of the environment began: the trees fit it, a redo may begin at `since`, and no
--- transaction under way logged a change before its first LSN.
+-- What holds of a log that ends at an LSN, and of where this life of the environment began: the trees fit it, a redo may begin at `since`, and each
+-- transaction under way that wrote something has the LSN of its first change.
 pub record Lives (forest : Forest) (log : Log) (since end : ℕ) (written : List (TxnId × OwnNames)) (base : ℕ) : Type 0 where
   pub fits : forest (placed log) base
   pub from : EndsFrom log base since
@@ -101,7 +101,7 @@ KnowsDatabases st kept = HaveDatabases st.numbers st.store kept.indexes kept.nam
 module _ {D : Type 0} where
   -- A log and trees with these cells, where the model stands at `st` and no fault came: the log works, gives the committed records and each
   -- transaction's own changes, recovers the store, and has room for the Commits that are owed; the trees have the same, and fit the log. A redo may
-  -- begin at `since`, and no transaction under way logged a change before its first LSN.
+  -- begin at `since`, and each transaction under way that wrote something has the LSN of its first change.
   pub record IsValidWith (observable : Bool) (state : State) (buffer : LogBuffer D) (cells : AllCells) (has_tree : ℕ → Bool) (forest : Forest) (since : ℕ) (written : List (TxnId × OwnNames)) (st : Standing) : Type 0 where
     pub log : Log
     pub has : HasLog observable state buffer log

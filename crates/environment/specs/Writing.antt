@@ -1,5 +1,5 @@
 -- What became of a call's changes that were to be logged.
-use Rattle.std.specs.Prelude.{ℕ, ◌≡◌, ◌≢◌, ◌≤◌, ◌+◌, ◌||◌, ◌++◌, ◌∷◌, [], List, Option, None, Some, Bool, true, false, length, nat_lt, count_by, Result, Ok, Err, if◌then◌else◌}
+use Rattle.std.specs.Prelude.{ℕ, ◌≡◌, ◌≢◌, ◌≤◌, ◌+◌, ◌||◌, ◌++◌, ◌∷◌, [], List, Option, None, Some, Bool, true, false, length, nat_lt, unwrap_or, count_by, Result, Ok, Err, if◌then◌else◌}
 use Rattle.log_trees.specs.Placed.{placed}
 use Rattle.log_buffer.specs.Growth.{longer}
 use Rattle.log_buffer.specs.Flip.{pos_lsn}
@@ -26,6 +26,7 @@ use Rattle.je_answers.specs.Views.{with_names, with_numbers}
 use Rattle.log_buffer.specs.Buffer.{IsUnchanged, disk_of as disk_below, file_max_of, end_of}
 use Rattle.in_tree.specs.declared.logged_trees.LogTrees.{LogTrees}
 use Rattle.in_tree.specs.Limits.{GrewFitting, HasRoomFor, TriedFitting, commit_sizes}
+use Rattle.in_tree.specs.Logging.{first_in as first_logged}
 use Rattle.in_tree.specs.Observed.{cells_of, has_tree_of, limit_in, waits_of}
 use Rattle.record_tree.specs.Logged.{IsFront, LogsChanges, is_made, most_entries}
 use Rattle.record_tree.specs.declared.tree_err.TreeErr.{TreeErr}
@@ -40,11 +41,13 @@ use Rattle.engine.specs.Whole.{AreLeft, end_file}
 use Rattle.environment.specs.declared.environment.Environment.{Environment}
 use Rattle.environment.specs.declared.wrote.Wrote.{Wrote}
 use Rattle.environment.specs.declared.wrote.Wrote.TheVariants.{Done, Full, NoNumbers, Failed}
+use Rattle.environment.specs.declared.wrote.TreesWrote.{TreesWrote}
+use Rattle.environment.specs.declared.wrote.TreesWrote.TheVariants.{Done as TreesDone, Full as TreesFull, Failed as TreesFailed}
 use Rattle.environment.specs.Changing.{AreApartIn, IsRightIn}
 use Rattle.environment.specs.Steps.{HasFailedWith, HasLoggedCall}
 use Rattle.environment.specs.Valid.{IsValidWith, fitting}
 use Rattle.environment.specs.Whole.{HasLimit}
-use Rattle.environment.specs.Written.{first_at, first_for, had_at, names_at}
+use Rattle.environment.specs.Written.{first_at, first_for, first_in, had_at, names_at}
 
 -- whether the name of a change has a record that a transaction sees, with its own changes
 abbrev pub has_record : TxnId → AllCells → TreeChange → Bool
@@ -64,14 +67,15 @@ wrote_by (Some TooFull) = Full
 wrote_by found = NoNumbers
 
 module _ {D : Type 0} (observable : Bool) (history : D → History) (sync_out read_out : D → Option ℕ) (read_of : D → ℕ) (faults : D → ℕ) where
-  -- changes went into the log, an entry for each, behind images of nodes
-  pub record HasLoggedAll (old new : LogTrees D) (txn : TxnId) (changes : List TreeChange) : Type 0 where
+  -- changes went into the log, an entry for each, behind images of nodes, the first one at an LSN; 0 where there are none
+  pub record HasLoggedAll (old new : LogTrees D) (txn : TxnId) (changes : List TreeChange) (first : ℕ) : Type 0 where
     pub entries : List Entry
     pub logs : LogsChanges txn changes entries
     pub grew : GrewFitting observable history sync_out read_out read_of faults old.log new.log entries
     pub fits : (log : Log) (base : ℕ) → HasLog observable (now (history (disk_below old.log))) old.log log → base ≤ pos_lsn (end_of old.log) → fitting old (placed log) base →
         fitting new (placed (longer old.log entries log)) base
     pub waits : length entries + waits_of new ≤ waits_of old + most_entries (length changes)
+    pub first_is : first ≡ unwrap_or (first_logged old.log entries) 0
 
   -- or the disk failed while the first of these entries were appended
   pub record HasTriedAll (old new : LogTrees D) (txn : TxnId) (changes : List TreeChange) : Type 0 where
@@ -83,13 +87,12 @@ module _ {D : Type 0} (observable : Bool) (history : D → History) (sync_out re
 
   -- Changes were made in the trees and logged, with room behind them for so many Commits; or they met a limit, or the disk failed; or there was no
   -- memory.
-  abbrev pub WritesTrees : LogTrees D → LogTrees D → TxnId → List TreeChange → ℕ → Result Wrote AllocError → Type 0
-  WritesTrees old new txn changes owed (Ok Done) =
-      AreWritten txn changes (cells_of old) (cells_of new) × ((d : ℕ) → has_tree_of new d ≡ (is_made d changes || has_tree_of old d)) × HasLoggedAll old new txn changes
+  abbrev pub WritesTrees : LogTrees D → LogTrees D → TxnId → List TreeChange → ℕ → Result TreesWrote AllocError → Type 0
+  WritesTrees old new txn changes owed (Ok (TreesDone first)) =
+      AreWritten txn changes (cells_of old) (cells_of new) × ((d : ℕ) → has_tree_of new d ≡ (is_made d changes || has_tree_of old d)) × HasLoggedAll old new txn changes first
       × HasRoomFor new.log (commit_sizes owed) × (limit_in old changes owed ≡ None)
-  WritesTrees old new txn changes owed (Ok Full) = AreLeft old new × (limit_in old changes owed ≡ Some TooFull)
-  WritesTrees old new txn changes owed (Ok NoNumbers) = ⊥
-  WritesTrees old new txn changes owed (Ok Failed) = HasTriedAll old new txn changes × (limit_in old changes owed ≡ None)
+  WritesTrees old new txn changes owed (Ok TreesFull) = AreLeft old new × (limit_in old changes owed ≡ Some TooFull)
+  WritesTrees old new txn changes owed (Ok TreesFailed) = HasTriedAll old new txn changes × (limit_in old changes owed ≡ None)
   WritesTrees old new txn changes owed (Err error) = AreLeft old new
 
 module _ {D : Type 0} where
@@ -116,7 +119,8 @@ module _ {D : Type 0} where
       pub was_rising : (d : ℕ) → IsRising (cells_of old.engine.trees d)
       pub rising : (d : ℕ) → IsRising (cells_of new.engine.trees d)
       pub made : (d : ℕ) → has_tree_of new.engine.trees d ≡ (is_made d changes || has_tree_of old.engine.trees d)
-      pub logged : HasLoggedAll observable history sync_out read_out read_of faults old.engine.trees new.engine.trees txn changes
+      pub first : ℕ
+      pub logged : HasLoggedAll observable history sync_out read_out read_of faults old.engine.trees new.engine.trees txn changes first
       pub room : HasRoomFor new.engine.trees.log (commit_sizes owed)
       pub limit : limit_in old.engine.trees changes owed ≡ None
       pub left : lacks old changes ≡ false
@@ -125,7 +129,7 @@ module _ {D : Type 0} where
       pub had : (t : TxnId) → had_at t new.written.by_txn.entries
           ≡ (if is_same_txn txn t then had_at txn old.written.by_txn.entries + count_by (has_record txn (cells_of old.engine.trees)) changes else had_at t old.written.by_txn.entries)
       pub firsts : (t : TxnId) → first_at t new.written.by_txn.entries
-          ≤ (if is_same_txn txn t then first_for (names_at txn old.written.by_txn.entries) (first_at txn old.written.by_txn.entries) (pos_lsn (end_of old.engine.trees.log))
+          ≡ (if is_same_txn txn t then first_in (names_at txn old.written.by_txn.entries ++ more) (first_for (names_at txn old.written.by_txn.entries) (first_at txn old.written.by_txn.entries) first)
           else first_at t old.written.by_txn.entries)
 
     -- what changes that are to be logged come to, whatever the model is

@@ -1,5 +1,5 @@
 -- What transactions under way wrote, beside their own changes.
-use Rattle.std.specs.Prelude.{ℕ, ◌≡◌, ◌≤◌, ◌<◌, ◌+◌, ◌^◌, [], List, Some, length, vec_capacity, ◌∷◌}
+use Rattle.std.specs.Prelude.{ℕ, ◌≡◌, ◌≢◌, ◌≤◌, ◌<◌, ◌+◌, ◌^◌, [], List, Some, length, vec_capacity, ◌∷◌}
 use Rattle.std.specs.List.{AllByRecursion}
 use Rattle.std.specs.Option.{option_map_or}
 use Rattle.je_order.specs.declared.txn_id.TxnId.{TxnId}
@@ -26,7 +26,7 @@ abbrev pub first_in : List TreeName → ℕ → ℕ
 first_in [] first = 0
 first_in (name ∷ names) first = first
 
--- the LSN that it logged no change before; 0 where it wrote none
+-- the LSN of its first change; 0 where it wrote none
 abbrev pub first_at : TxnId → List (TxnId × OwnNames) → ℕ
 first_at t entries = option_map_or (λ o. first_in o.names.items o.first) (at_txn t entries) 0
 
@@ -40,22 +40,27 @@ pub record AreNamesOf (entries : List (TxnId × OwnNames)) (own : ℕ → List (
   pub names : (t : ℕ) → names_at (txn_id t) entries ≡ own_names (own t)
   pub had : (t : ℕ) → had_at (txn_id t) entries ≡ records_had (own t) rows
 
--- each change that waits of a transaction was logged at its first LSN or behind it, and the log ends there or behind it
+-- an LSN is that of the first of some changes
+abbrev pub IsFirstIn : List LoggedChange → ℕ → Type 0
+IsFirstIn [] lsn = ⊥
+IsFirstIn (c ∷ changes) lsn = lsn ≡ c.written.at
+
+-- The first LSN of each transaction that wrote names is that of the first change that waits of it. No change that waits was logged before it, and the
+-- log ends there or behind it.
 pub record AreFirstsOf (entries : List (TxnId × OwnNames)) (logged : ℕ → List LoggedChange) (end : ℕ) : Type 0 where
+  pub is : (t : ℕ) → names_at (txn_id t) entries ≢ [] → IsFirstIn (logged t) (first_at (txn_id t) entries)
   pub before : (t : ℕ) → AllByRecursion (λ c. first_at (txn_id t) entries ≤ c.written.at) (logged t)
   pub reached : (t : ℕ) → first_at (txn_id t) entries ≤ end
 
--- no names, with room for so many, of a transaction that logs nothing before an LSN
-pub record IsRoomFor (own : OwnNames) (count first : ℕ) : Type 0 where
+-- no names, with room for so many
+pub record IsRoomFor (own : OwnNames) (count : ℕ) : Type 0 where
   pub none : own.names.items ≡ []
   pub had : own.had ≡ 0
-  pub first_is : own.first ≡ first
   pub room : length own.names.items + count ≤ vec_capacity own.names
 
--- a transaction has room for so many names more, so many of which had a record; where it has none so far, it logs nothing before an LSN
-pub record HasRoomAt (t : TxnId) (count had first : ℕ) (entries : List (TxnId × OwnNames)) : Type 0 where
+-- a transaction has room for so many names more, so many of which had a record
+pub record HasRoomAt (t : TxnId) (count had : ℕ) (entries : List (TxnId × OwnNames)) : Type 0 where
   pub own : OwnNames
   pub its : at_txn t entries ≡ Some own
   pub room : length own.names.items + count ≤ vec_capacity own.names
   pub fits : own.had + had < 2 ^ 64
-  pub first_is : own.names.items ≡ [] → own.first ≡ first

@@ -31,7 +31,7 @@ pub(crate) fn take_names(written: &mut BTreeMap<TxnId, OwnNames>, txn: TxnId) ->
     ensures taken { result ≡ at_txn txn written.old.entries }
     ensures names { (t : Txn) → names_at t written.new.entries ≡ (if is_same_txn txn t then [] else names_at t written.old.entries) }
     ensures had { (t : Txn) → had_at t written.new.entries ≡ (if is_same_txn txn t then 0 else had_at t written.old.entries) }
-    ensures firsts { (t : Txn) → first_at t written.new.entries ≤ first_at t written.old.entries }
+    ensures firsts { (t : Txn) → first_at t written.new.entries ≡ (if is_same_txn txn t then 0 else first_at t written.old.entries) }
 {
     written.remove(&txn)
 }

@@ -15,7 +15,7 @@ use crate::environment::Environment;
 use crate::own_changes::count_had;
 use crate::own_names::{append_at, make_room_at};
 use crate::tree_writing::{limit_of, write_changes};
-use crate::wrote::Wrote;
+use crate::wrote::{TreesWrote, Wrote};
 use engine::{LAST_NODE, NUMBERS_FOR_CHANGE};
 use je_disk::Disk;
 use je_order::TxnId;
@@ -64,29 +64,20 @@ impl<D: Disk> Environment<D> {
         let Some(had) = count_had(&self.engine.trees, txn, changes) else {
             return Err(AllocError);
         };
-        let first = self.engine.trees.log.end();
-        make_room_at(
-            &mut self.written.by_txn,
-            alloc,
-            txn,
-            names.len(),
-            had,
-            first,
-        )?;
+        make_room_at(&mut self.written.by_txn, alloc, txn, names.len(), had)?;
         let wrote = write_changes(&mut self.engine.trees, alloc, txn, changes, owed)?;
         self.engine.trees.are_ordered();
         match wrote {
-            Wrote::Done => {
-                append_at(&mut self.written.by_txn, txn, names, had);
+            TreesWrote::Done(first) => {
+                append_at(&mut self.written.by_txn, txn, names, had, first);
                 self.engine.kept.last_node += changes.len() as u64 * NUMBERS_FOR_CHANGE;
                 Ok(Wrote::Done)
             }
-            Wrote::Failed => {
+            TreesWrote::Failed => {
                 self.engine.kept.fault = Some(Fault::Disk);
                 Ok(Wrote::Failed)
             }
-            Wrote::Full => Ok(Wrote::Full),
-            Wrote::NoNumbers => Err(AllocError),
+            TreesWrote::Full => Ok(Wrote::Full),
         }
     }
 }

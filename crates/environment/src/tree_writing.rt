@@ -1,5 +1,5 @@
 // The trees and their log get changes.
-ghost use Rattle.std.specs.Prelude.{◌≡◌, ◌≤◌, true, false, IfOk, IfSome};
+ghost use Rattle.std.specs.Prelude.{◌≡◌, ◌≤◌, true, false, unwrap_or, IfOk, IfSome};
 ghost use Rattle.std.specs.List.{AllByRecursion};
 ghost use Rattle.log_buffer.specs.Buffer.{disk_of as disk_below, has_failed};
 ghost use Rattle.log_entry.specs.Body.{IsEntry};
@@ -10,12 +10,23 @@ ghost use Rattle.in_tree.specs.Observed.{cells_of, has_tree_of, limit_in};
 ghost use Rattle.engine.specs.Whole.{AreLeft};
 ghost use Rattle.environment.specs.Writing.{WritesTrees, wrote_by};
 
-use crate::wrote::Wrote;
+use crate::wrote::{TreesWrote, Wrote};
 use in_tree::LogTrees;
 use je_disk::Disk;
+use je_lsn::Lsn;
 use je_order::TxnId;
 use record_tree::{Records, TreeChange, TreeErr};
 use std::alloc::{AllocError, Global};
+
+// An LSN, 0 where there is none.
+fn lsn_or_none(first: Option<Lsn>) -> Lsn
+    ensures { result ≡ unwrap_or first 0 }
+{
+    match first {
+        Some(lsn) => lsn,
+        None => Lsn::from_u64(0),
+    }
+}
 
 // Makes changes of a transaction in the trees and logs them, with room for so many Commits behind them.
 pub(crate) fn write_changes<D: Disk>(
@@ -24,7 +35,7 @@ pub(crate) fn write_changes<D: Disk>(
     txn: TxnId,
     changes: &[TreeChange],
     owed: u32,
-) -> Result<Wrote, AllocError>
+) -> Result<TreesWrote, AllocError>
     requires trees { AllByRecursion (λ c. has_tree_of trees.old c.db ≡ true) changes.now }
     requires free { AllByRecursion (λ c. IsFreeFor txn (write_in (value_at c.name (cells_of trees.old c.db)))) changes.now }
     requires few { AreFewNew (cells_of trees.old) changes.now }
@@ -34,9 +45,9 @@ pub(crate) fn write_changes<D: Disk>(
     ensures never_falls { D.faults (disk_below trees.old.log) ≤ D.faults (disk_below trees.new.log) }
 {
     match trees.write_all(alloc, txn, changes, owed) {
-        Ok(()) => Ok(Wrote::Done),
-        Err(TreeErr::Full) => Ok(Wrote::Full),
-        Err(TreeErr::Fault) => Ok(Wrote::Failed),
+        Ok(first) => Ok(TreesWrote::Done(lsn_or_none(first))),
+        Err(TreeErr::Full) => Ok(TreesWrote::Full),
+        Err(TreeErr::Fault) => Ok(TreesWrote::Failed),
         Err(TreeErr::IdsEnded) => Err(AllocError),
         Err(TreeErr::Memory) => Err(AllocError),
     }

@@ -9,7 +9,7 @@ ghost use Rattle.je_answers.specs.After.{after_events};
 ghost use Rattle.sessions.specs.AtStanding.{AreSessionsAt, owing};
 ghost use Rattle.engine.specs.Limits.{IsWithin};
 ghost use Rattle.environment.specs.Limits.{reach_behind};
-ghost use Rattle.environment.specs.Turning.{BeginsTo, FinishesTo, FlushesTo, HasStayed, IsAnswerTo, IsFirstOf, StepsTo, TurnsSafely, TurnsTo, ended_answer, ended_since, fault_by, flushed_answer};
+ghost use Rattle.environment.specs.Turning.{BeginsTo, FinishesTo, FlushesTo, HasStayed, IsAnswerTo, IsFirstOf, IsLeastWith, StepsTo, TurnsSafely, TurnsTo, ended_answer, ended_since, fault_by, flushed_answer};
 ghost use Rattle.environment.specs.Whole.{CanGoOn, IsAt, IsGuarded, disk_of, reach_of};
 
 use crate::environment::Environment;
@@ -36,13 +36,23 @@ fn lesser(least: Option<u64>, number: u64) -> u64
     }
 }
 
-// The number of the least LSN that a transaction under way logged no change before; None where none wrote anything.
+// The least number with that of a transaction's first LSN; one that wrote no names has none.
+fn least_with(least: Option<u64>, own: &OwnNames) -> Option<u64>
+    ensures { IsLeastWith own.now.names.items own.now.first least result }
+{
+    match own.names.as_slice() {
+        [] => least,
+        [_, ..] => Some(lesser(least, own.first.as_u64())),
+    }
+}
+
+// The number of the least LSN of a first change of a transaction under way; None where none wrote anything.
 fn least_first(written: &BTreeMap<TxnId, OwnNames>) -> Option<u64>
     ensures { IsFirstOf written.now.entries result }
 {
     let mut least = None;
     for (_, own) in written.iter() {
-        least = Some(lesser(least, own.first.as_u64()));
+        least = least_with(least, own);
     }
     least
 }

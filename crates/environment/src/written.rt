@@ -5,7 +5,7 @@ use record_tree::TreeName;
 use std::collections::BTreeMap;
 
 /// The names that one transaction wrote, in order; how many of its changes were of a name that had a record
-/// just then; and where the log ended before the first one.
+/// just then; and the LSN of the first one, 0 where there is none.
 #[derive(Drop)]
 pub struct OwnNames {
     pub names: Vec<TreeName>,
