@@ -282,6 +282,7 @@ module _ {D : Type 0} (observable : Bool) (history : D → History) (sync_out re
       LogsRoom observable history sync_out read_out read_of faults c.db due old mid before between → at ≡ pos_lsn (placed_at (file_max_of mid) (end_of mid) (size_of (entry_for txn c.db c.name c.value))) →
       ((more : ℕ → List NodeImage) → GrewForest observable history sync_out read_out read_of faults mid new between after more more (entry_for txn c.db c.name c.value ∷ [])) →
       LogsChangeAt observable history sync_out read_out read_of faults due txn c at old new before after
+  unfolding change_logged
   change_logged_at due txn c at old mid new before between after images at_is entry = (
     change_logged due txn c old mid new before between after images entry,
     λ rest.
