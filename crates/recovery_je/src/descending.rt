@@ -64,17 +64,7 @@ pub(crate) fn read_node<T: Loads>(
     ensures walk { (walk : Walk) → IsWalking (T.stored walking.old.trees) walking.old.seen.keys walking.old.node walking.old.db walk → GoesOn (node_at (map (λ f. f.0) files.now) entries.now d above low.now (option_copied high.entry) at walk) (IsWalking (T.stored walking.new.trees) walking.new.seen.keys walking.new.node walking.new.db) result }
     ensures nodes { OnOk result (HasPut T.nodes (λ keeps most. ArePutBelow entries.now keeps most d above low.now (option_copied high.entry) at) walking.old walking.new) }
 {
-    let node = take_node(
-        walking,
-        alloc,
-        files,
-        entries,
-        d,
-        above + 1,
-        low,
-        high,
-        at,
-    )?;
+    let node = take_node(walking, alloc, files, entries, d, above + 1, low, high, at)?;
     let done = read_below(
         walking,
         alloc,
