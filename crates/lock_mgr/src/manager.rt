@@ -192,7 +192,8 @@ impl LockMgr {
         self.table.is_locked(at)
     }
 
-    /// The least owner of the records of a database. It looks at no other database's records.
+    /// The least owner of the records of a database. It looks at every record that is locked, but at none where
+    /// no lock was asked for in the database since no record was locked.
     pub fn holder_in(&self, db: u32) -> Option<TxnId>
         ensures least { result ≡ holder_of db self.now }
         ensures owns { IfSome result (λ t. OwnsIn db t self.now.records) }

@@ -24,8 +24,10 @@ pub mod NotedReads
 pub mod CallSteps
 -- Locks of no more than READ that go, in the map of queues.
 pub mod ReadLocks
--- The records of one database stand between the end of the one before it and its own end.
-pub mod DatabaseRanges
+-- The least owner of the records of one database, and those who were told to wait there.
+pub mod DatabaseOwners
+-- A database where no lock was asked for has no lock: what each call keeps of it.
+pub mod UsedDatabases
 -- Walks along a list: what was found so far, and what the rest gives.
 pub mod ListWalks
 -- The least owner in a database owns a lock on a record that the map finds.

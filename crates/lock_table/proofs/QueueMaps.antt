@@ -1,5 +1,6 @@
 -- A change of one record's queue, read at every record.
-use Rattle.std.proofs.Common.{◌≡◌, ℕ, Bool, true, false, cond, List, [], ◌∷◌, length, eqb, ◌&&◌, Some, None, Option, refl, ap, sym, ◌∙◌, ⊎_elim, arith}
+use mathlib.Core.Path.{fun_ext}
+use Rattle.std.proofs.Common.{◌≡◌, ℕ, Bool, true, false, cond, List, [], ◌∷◌, length, eqb, ◌&&◌, Some, None, Option, refl, ap, sym, ◌∙◌, subst, ⊎_elim, arith}
 use Rattle.std.specs.declared.cmp.Ordering.TheVariants.{Equal}
 use Rattle.std.specs.Map.{lookup}
 use Rattle.std.specs.Option.{unwrap_or}
@@ -14,6 +15,8 @@ use Rattle.lock_table.specs.Locks.{after_give_back}
 use Rattle.lock_mode.specs.declared.lock_type.LockType.{LockType}
 use Rattle.je_order.specs.declared.txn_id.TxnId.{TxnId}
 use Rattle.je_order.specs.contracts.bound.BoundOrd.TheImpl.{ghosts as bound_order}
+use Rattle.lock_table.specs.contracts.record_id.RecordIdPartialEq.TheImpl.{ghosts as equality}
+use Rattle.lock_table.specs.contracts.record_id.RecordIdOrd.TheImpl.Laws as order
 use Rattle.je_order.proofs.Orderings.{equal_from_test, name_exact, then_equal}
 
 bound_exact : (a b : Bound) → bound_order.cmp a b ≡ Equal → a ≡ b
@@ -28,9 +31,25 @@ record_is a b h = let p = then_equal _ _ (equal_from_test (record_cmp a b) h) in
 abbrev pub Queue : Type 0
 Queue = List Lock × List Lock
 
+-- ---- what a map says by the equality of records, by the test of them
+same_test : (r : RecordId) → equality.eq r ≡ is_record r
+same_test r = fun_ext (order.matches_eq-law r)
+
+same_tests : equality.eq ≡ is_record
+same_tests = fun_ext same_test
+
+pub at_equal : (r : RecordId) (es : List (RecordId × Queue)) → lookup (equality.eq r) es ≡ lookup (is_record r) es
+at_equal r es = ap (λ (test : RecordId → Bool). lookup test es) (same_test r)
+
+pub queue_equal : (r : RecordId) (es : List (RecordId × Queue)) → unwrap_or (lookup (equality.eq r) es) ([], []) ≡ queue_at r es
+queue_equal r es = ap (λ o. unwrap_or o ([], [])) (at_equal r es)
+
 -- the queue at one record is another, and all else is as it was
 abbrev pub IsChanged : List (RecordId × Queue) → List (RecordId × Queue) → RecordId → Option Queue → Type 0
 IsChanged old new at w = (q : RecordId) → lookup (is_record q) new ≡ cond (is_record at q) w (lookup (is_record q) old)
+
+pub changed_equal : (old new : List (RecordId × Queue)) (at : RecordId) (w : Option Queue) → ((q : RecordId) → lookup (equality.eq q) new ≡ cond (equality.eq at q) w (lookup (equality.eq q) old)) → IsChanged old new at w
+changed_equal old new at w h = subst (λ (test : RecordId → RecordId → Bool). (q : RecordId) → lookup (test q) new ≡ cond (test at q) w (lookup (test q) old)) same_tests h
 
 pub queue_written : (old new : List (RecordId × Queue)) (at : RecordId) (f : Queue → Queue) (v w : Queue) → Some v ≡ lookup (is_record at) old → w ≡ f v → IsChanged old new at (Some w)
     → (r : RecordId) → queue_at r new ≡ cond (is_record at r) (f (queue_at r old)) (queue_at r old)

@@ -2,11 +2,7 @@
 use Rattle.std.specs.Prelude.{Bool, List, []}
 use Rattle.std.specs.declared.cmp.Ordering.{Ordering}
 use Rattle.std.specs.Ordering.{is_eq}
-use Rattle.std.specs.Prelude.{ℕ, zero, suc}
 use Rattle.std.specs.Map.{lookup}
-use Rattle.std.specs.declared.ops.Bound.{Bound}
-use Rattle.std.specs.declared.ops.Bound.TheVariants.{Included, Excluded, Unbounded}
-use Rattle.je_order.specs.declared.bound.Bound.TheVariants.{End}
 use Rattle.std.specs.Option.{unwrap_or}
 use Rattle.lock_table.specs.declared.lock.Lock.{Lock}
 use Rattle.lock_table.specs.declared.record_id.RecordId.{RecordId}
@@ -23,12 +19,3 @@ is_record r s = is_eq (record_cmp r s)
 -- the owners and the waits of a record: none where the list does not have it
 abbrev pub queue_at : RecordId → List (RecordId × (List Lock × List Lock)) → List Lock × List Lock
 queue_at r records = unwrap_or (lookup (is_record r) records) ([], [])
-
--- where a database's records begin: behind the end of the database before it
-abbrev pub start_bound : ℕ → Bound RecordId
-start_bound zero = Unbounded
-start_bound (suc n) = Excluded (record { db = n; at = End })
-
--- where a database's records end
-abbrev pub end_bound : ℕ → Bound RecordId
-end_bound n = Included (record { db = n; at = End })

@@ -105,6 +105,14 @@ IsTable records lists pending = IsSound (λ r. queue_at r records) (is_listed li
 abbrev pub is_among : BTreeSet TxnId → TxnId → Bool
 is_among set t = contains txn_cmp set t
 
+-- a lock was asked for in the database
+abbrev pub is_used : BTreeSet ℕ → ℕ → Bool
+is_used set db = contains nat_cmp set db
+
+-- a record of another database than these has neither owner nor wait
+abbrev pub AreUsed : (ℕ → Bool) → (RecordId → List Lock × List Lock) → Type 0
+AreUsed used Q = (r : RecordId) → used r.db ≡ false → Q r ≡ ([], [])
+
 -- a lock of a range type is one of these transactions'
 abbrev pub IsRangeOf : (TxnId → Bool) → Lock → Type 0
 IsRangeOf S l = is_range l.mode ≡ true → S l.txn ≡ true

@@ -20,12 +20,12 @@ use crate::{Asked, Lock, RecordId, lists};
 use je_order::{TxnId, copy_of};
 use lock_mode::LockType;
 use std::alloc::{AllocError, Global};
-use std::collections::BTreeMap;
+use std::collections::{BTreeMap, HashMap};
 
 // A request: it waits exactly where it conflicts with another owner. Running out of memory changes
 // nothing.
 pub(crate) fn ask_in(
-    queues: &mut BTreeMap<RecordId, Queue>,
+    queues: &mut HashMap<RecordId, Queue>,
     lists: &mut BTreeMap<TxnId, Vec<RecordId>>,
     pending: &mut BTreeMap<TxnId, RecordId>,
     alloc: Global,
@@ -129,7 +129,7 @@ fn wait_there(
 
 // A request for a record that has neither owner nor wait: it is granted.
 fn ask_first(
-    queues: &mut BTreeMap<RecordId, Queue>,
+    queues: &mut HashMap<RecordId, Queue>,
     lists: &mut BTreeMap<TxnId, Vec<RecordId>>,
     alloc: Global,
     at: &RecordId,
@@ -167,7 +167,7 @@ fn note_wait(
 
 // The transaction's wait is taken back, if it has one. It takes no memory.
 pub(crate) fn cancel_in(
-    queues: &mut BTreeMap<RecordId, Queue>,
+    queues: &mut HashMap<RecordId, Queue>,
     pending: &mut BTreeMap<TxnId, RecordId>,
     txn: TxnId,
 )
@@ -203,7 +203,7 @@ fn note_again(pending: &mut BTreeMap<TxnId, RecordId>, txn: TxnId, place: Option
 // The transaction's wait is taken back, and where it was told to wait before it is noted again. It takes no
 // memory.
 pub(crate) fn undo_wait_in(
-    queues: &mut BTreeMap<RecordId, Queue>,
+    queues: &mut HashMap<RecordId, Queue>,
     pending: &mut BTreeMap<TxnId, RecordId>,
     txn: TxnId,
     place: Option<RecordId>,
@@ -222,7 +222,7 @@ pub(crate) fn undo_wait_in(
 
 // Forgets where the transaction was told to wait, if it waits no more. It takes no memory.
 pub(crate) fn forget_in(
-    queues: &BTreeMap<RecordId, Queue>,
+    queues: &HashMap<RecordId, Queue>,
     pending: &mut BTreeMap<TxnId, RecordId>,
     txn: TxnId,
 )
@@ -239,7 +239,7 @@ pub(crate) fn forget_in(
 
 // The locks of a transaction that are no more than READ go. It takes no memory.
 pub(crate) fn read_back_in(
-    queues: &mut BTreeMap<RecordId, Queue>,
+    queues: &mut HashMap<RecordId, Queue>,
     lists: &BTreeMap<TxnId, Vec<RecordId>>,
     txn: TxnId,
 )
@@ -254,7 +254,7 @@ pub(crate) fn read_back_in(
 }
 
 // The transaction's locks on these records go, where they are no more than READ.
-fn read_back_each(queues: &mut BTreeMap<RecordId, Queue>, list: &[RecordId], txn: TxnId)
+fn read_back_each(queues: &mut HashMap<RecordId, Queue>, list: &[RecordId], txn: TxnId)
     requires settled { (r : RecordId) → IsSettled (queue_at r queues.old.entries) }
     requires listed { (r : RecordId) → list_any (is_record r) list.now ≡ false → IsOut txn (queue_at r queues.old.entries) }
     ensures { (r : RecordId) → queue_at r queues.new.entries ≡ after_read txn (queue_at r queues.old.entries) }
@@ -266,7 +266,7 @@ fn read_back_each(queues: &mut BTreeMap<RecordId, Queue>, list: &[RecordId], txn
 
 // All locks and the wait of a transaction go. It takes no memory.
 pub(crate) fn release_in(
-    queues: &mut BTreeMap<RecordId, Queue>,
+    queues: &mut HashMap<RecordId, Queue>,
     lists: &mut BTreeMap<TxnId, Vec<RecordId>>,
     txn: TxnId,
 )
@@ -282,7 +282,7 @@ pub(crate) fn release_in(
 }
 
 // The transaction's locks and waits on these records go.
-fn release_each(queues: &mut BTreeMap<RecordId, Queue>, list: &[RecordId], txn: TxnId)
+fn release_each(queues: &mut HashMap<RecordId, Queue>, list: &[RecordId], txn: TxnId)
     requires settled { (r : RecordId) → IsSettled (queue_at r queues.old.entries) }
     requires listed { (r : RecordId) → list_any (is_record r) list.now ≡ false → IsOut txn (queue_at r queues.old.entries) }
     ensures { (r : RecordId) → queue_at r queues.new.entries ≡ after_release txn (queue_at r queues.old.entries) }
@@ -294,7 +294,7 @@ fn release_each(queues: &mut BTreeMap<RecordId, Queue>, list: &[RecordId], txn: 
 
 // The transaction's lock on a record is what it was before. It takes no memory.
 pub(crate) fn give_back_in(
-    queues: &mut BTreeMap<RecordId, Queue>,
+    queues: &mut HashMap<RecordId, Queue>,
     lists: &mut BTreeMap<TxnId, Vec<RecordId>>,
     txn: TxnId,
     at: &RecordId,

@@ -5,15 +5,14 @@ ghost use Rattle.je_order.specs.declared.txn_id.TxnId.{TxnId};
 ghost use Rattle.lock_table.specs.declared.record_id.RecordId.{RecordId};
 ghost use Rattle.std.specs.List.{flat_map, filter};
 ghost use Rattle.lock_table.specs.Locks.{lesser, least};
-ghost use Rattle.lock_table.specs.Records.{start_bound, end_bound};
-ghost use Rattle.lock_table.specs.Table.{at_txn, OwnsIn};
+ghost use Rattle.lock_table.specs.Records.{queue_at};
+ghost use Rattle.lock_table.specs.Table.{at_txn, OwnsIn, is_used, AreUsed};
 
 use crate::lists::lesser_of;
 use crate::queue::Queue;
 use crate::{Lock, RecordId};
-use je_order::{Bound, TxnId};
-use std::collections::BTreeMap;
-use std::ops;
+use je_order::TxnId;
+use std::collections::{BTreeMap, BTreeSet, HashMap};
 
 // The lesser of a transaction and the least owner.
 fn least_with(found: Option<TxnId>, owners: &[Lock]) -> Option<TxnId>
@@ -26,14 +25,26 @@ fn least_with(found: Option<TxnId>, owners: &[Lock]) -> Option<TxnId>
     found
 }
 
-// The least owner of the records of a database. It looks at no other database's records.
-pub(crate) fn least_in(queues: &BTreeMap<RecordId, Queue>, db: u32) -> Option<TxnId>
+// The least owner of the records of a database. It looks at every record, but at none where no lock was asked
+// for in the database.
+pub(crate) fn least_in(
+    queues: &HashMap<RecordId, Queue>,
+    dbs: &BTreeSet<u32>,
+    db: u32,
+) -> Option<TxnId>
+    requires { AreUsed (is_used dbs.now) (λ r. queue_at r queues.now.entries) }
     ensures least { result ≡ least (map (λ o. o.txn) (flat_map (λ e. e.1.0) (filter (λ e. e.0.db == db) queues.now.entries))) }
     ensures owns { IfSome result (λ t. OwnsIn db t queues.now.entries) }
 {
+    let records = queues.iter();
+    if !dbs.contains(&db) {
+        return None;
+    }
     let mut found = None;
-    for (_, queue) in queues.range((start_of(db), end_of(db))) {
-        found = least_with(found, queue.owners());
+    for (at, queue) in records {
+        if at.db == db {
+            found = least_with(found, queue.owners());
+        }
     }
     found
 }
@@ -49,24 +60,4 @@ pub(crate) fn told_in(pending: &BTreeMap<TxnId, RecordId>, db: u32) -> Option<Tx
         }
     }
     None
-}
-
-// What stands before a database's first record: the end of the database before it.
-fn start_of(db: u32) -> ops::Bound<RecordId>
-    ensures { result ≡ start_bound db }
-{
-    if db == 0 {
-        return ops::Bound::Unbounded;
-    }
-    ops::Bound::Excluded(RecordId {
-        db: db - 1,
-        at: Bound::End,
-    })
-}
-
-// The end of a database.
-fn end_of(db: u32) -> ops::Bound<RecordId>
-    ensures { result ≡ end_bound db }
-{
-    ops::Bound::Included(RecordId { db, at: Bound::End })
 }

@@ -7,6 +7,7 @@
 
 pub mod asked;
 pub mod calls;
+pub mod dbs;
 pub mod holders;
 pub mod listed;
 pub mod lists;

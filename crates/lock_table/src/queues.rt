@@ -12,10 +12,10 @@ use crate::{Lock, RecordId, lists};
 use je_order::TxnId;
 use lock_mode::LockType;
 use std::alloc::{AllocError, Global};
-use std::collections::BTreeMap;
+use std::collections::HashMap;
 
 // The owners of a record.
-pub(crate) fn owners_at<'a>(queues: &'a BTreeMap<RecordId, Queue>, at: &RecordId) -> &'a [Lock]
+pub(crate) fn owners_at<'a>(queues: &'a HashMap<RecordId, Queue>, at: &RecordId) -> &'a [Lock]
     ensures { result.now ≡ (queue_at at.now queues.now.entries).0 }
 {
     match queues.get(at) {
@@ -25,7 +25,7 @@ pub(crate) fn owners_at<'a>(queues: &'a BTreeMap<RecordId, Queue>, at: &RecordId
 }
 
 // The waits on a record.
-pub(crate) fn waits_at<'a>(queues: &'a BTreeMap<RecordId, Queue>, at: &RecordId) -> &'a [Lock]
+pub(crate) fn waits_at<'a>(queues: &'a HashMap<RecordId, Queue>, at: &RecordId) -> &'a [Lock]
     ensures { result.now ≡ (queue_at at.now queues.now.entries).1 }
 {
     match queues.get(at) {
@@ -44,7 +44,7 @@ pub(crate) fn first_queue(alloc: Global, lock: Lock) -> Result<Queue, AllocError
 }
 
 // A transaction's wait on a record is taken back. It takes no memory.
-pub(crate) fn cancel_at(queues: &mut BTreeMap<RecordId, Queue>, at: &RecordId, txn: TxnId)
+pub(crate) fn cancel_at(queues: &mut HashMap<RecordId, Queue>, at: &RecordId, txn: TxnId)
     ensures { (r : RecordId) → queue_at r queues.new.entries ≡ (if is_record at.now r then after_cancel txn (queue_at r queues.old.entries) else queue_at r queues.old.entries) }
 {
     let Some(queue) = queues.get_mut(at) else {
@@ -58,7 +58,7 @@ pub(crate) fn cancel_at(queues: &mut BTreeMap<RecordId, Queue>, at: &RecordId, t
 }
 
 // A transaction's lock and wait on a record go, and others are granted. It takes no memory.
-pub(crate) fn release_at(queues: &mut BTreeMap<RecordId, Queue>, at: &RecordId, txn: TxnId)
+pub(crate) fn release_at(queues: &mut HashMap<RecordId, Queue>, at: &RecordId, txn: TxnId)
     ensures { (r : RecordId) → queue_at r queues.new.entries ≡ (if is_record at.now r then after_release txn (queue_at r queues.old.entries) else queue_at r queues.old.entries) }
 {
     let Some(queue) = queues.get_mut(at) else {
@@ -73,7 +73,7 @@ pub(crate) fn release_at(queues: &mut BTreeMap<RecordId, Queue>, at: &RecordId, 
 
 // A transaction's lock on a record is what it was before, and others are granted. It takes no memory.
 pub(crate) fn give_back_at(
-    queues: &mut BTreeMap<RecordId, Queue>,
+    queues: &mut HashMap<RecordId, Queue>,
     at: &RecordId,
     txn: TxnId,
     was: Option<LockType>,
@@ -99,7 +99,7 @@ fn is_read_alone(held: Option<LockType>) -> bool
 }
 
 // A transaction's lock on a record goes, if it is no more than READ. It takes no memory.
-pub(crate) fn read_back_at(queues: &mut BTreeMap<RecordId, Queue>, at: &RecordId, txn: TxnId)
+pub(crate) fn read_back_at(queues: &mut HashMap<RecordId, Queue>, at: &RecordId, txn: TxnId)
     ensures { (r : RecordId) → queue_at r queues.new.entries ≡ (if is_record at.now r then after_read txn (queue_at r queues.old.entries) else queue_at r queues.old.entries) }
 {
     let held = lists::held_in(owners_at(queues, at), txn);

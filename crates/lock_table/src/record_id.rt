@@ -3,7 +3,7 @@ use je_order::Bound;
 
 /// A record of a database by its number, or the end behind all its records. Records come by database
 /// and then in name order.
-#[derive(Clone, Debug, Drop, PartialEq, Eq, PartialOrd, Ord)]
+#[derive(Clone, Debug, Drop, PartialEq, Eq, PartialOrd, Ord, Hash)]
 pub struct RecordId {
     pub db: u32,
     pub at: Bound,

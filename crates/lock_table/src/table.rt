@@ -16,6 +16,7 @@ ghost use Rattle.lock_table.specs.Table.{locks_at, pending_at, is_waiting, was_g
 use crate::calls::{
     ask_in, cancel_in, forget_in, give_back_in, read_back_in, release_in, undo_wait_in,
 };
+use crate::dbs::{forget_dbs, note_db};
 use crate::holders::{least_in, told_in};
 use crate::queue::Queue;
 use crate::queues::{owners_at, waits_at};
@@ -25,7 +26,7 @@ use crate::{Asked, Lock, RecordId, lists};
 use je_order::{List, TxnId, copy_of};
 use lock_mode::LockType;
 use std::alloc::{AllocError, Global};
-use std::collections::{BTreeMap, BTreeSet};
+use std::collections::{BTreeMap, BTreeSet, HashMap};
 use std::marker::Model;
 
 /// The locks of an environment: for each record its owners and, in order of arrival, its waits. It is
@@ -33,7 +34,9 @@ use std::marker::Model;
 /// wait. A transaction has one wait at most. The rules are this project's own.
 #[derive(Drop)]
 pub struct LockTable {
-    queues: BTreeMap<RecordId, Queue>,
+    queues: HashMap<RecordId, Queue>,
+    // The databases where a lock was asked for since no record had an owner or a wait.
+    dbs: BTreeSet<u32>,
     // Of each transaction the records where it has a lock or a wait, and maybe others: a list is cheap to
     // add to.
     lists: BTreeMap<TxnId, Vec<RecordId>>,
@@ -48,13 +51,13 @@ pub struct LockTable {
 impl Model for LockTable {
     ghost use Rattle.lock_table.specs.declared.record_id.RecordId.{RecordId};
     ghost use Rattle.lock_table.specs.Records.{queue_at};
-    ghost use Rattle.lock_table.specs.Table.{Locks, IsTable, at_txn, is_among, AreRangesOf, AreReadsNoted};
+    ghost use Rattle.lock_table.specs.Table.{Locks, IsTable, at_txn, is_among, AreRangesOf, AreReadsNoted, is_used, AreUsed};
 
     ghost Value = { Locks };
 
     ghost view = { λ a. record { records = a.queues.entries; pending = a.pending.entries } };
 
-    ghost invariant = { λ a. IsTable a.queues.entries a.lists.entries a.pending.entries × ((r : RecordId) → AreRangesOf (is_among a.ranging) (queue_at r a.queues.entries)) × ((r : RecordId) → AreReadsNoted (λ t. at_txn t a.reading.entries) (queue_at r a.queues.entries)) };
+    ghost invariant = { λ a. IsTable a.queues.entries a.lists.entries a.pending.entries × ((r : RecordId) → AreRangesOf (is_among a.ranging) (queue_at r a.queues.entries)) × ((r : RecordId) → AreReadsNoted (λ t. at_txn t a.reading.entries) (queue_at r a.queues.entries)) × AreUsed (is_used a.dbs) (λ r. queue_at r a.queues.entries) };
 }
 
 impl LockTable {
@@ -65,7 +68,8 @@ impl LockTable {
         ensures settled { IsLockTable result }
     {
         LockTable {
-            queues: BTreeMap::new(alloc),
+            queues: HashMap::new(alloc),
+            dbs: BTreeSet::new(alloc),
             lists: BTreeMap::new(alloc),
             pending: BTreeMap::new(alloc),
             ranging: BTreeSet::new(alloc),
@@ -91,6 +95,7 @@ impl LockTable {
         ensures err { OnErr result (IsSameTable self.old self.new) }
     {
         let lock = Lock { txn, mode: asked };
+        note_db(&mut self.dbs, at.db)?;
         note_range(&mut self.ranging, lock)?;
         note_read(&mut self.reading, lock)?;
         ask_in(
@@ -175,6 +180,7 @@ impl LockTable {
         drop(self.pending.remove(&txn));
         let _ = self.ranging.remove(&txn);
         let _ = self.reading.remove(&txn);
+        forget_dbs(&mut self.dbs, &self.queues);
     }
 
     /// Whether a wait of the transaction was granted, and it has neither asked nor ended since.
@@ -229,12 +235,13 @@ impl LockTable {
         !owners_at(&self.queues, at).is_empty()
     }
 
-    /// The least owner of the records of a database. It looks at no other database's records.
+    /// The least owner of the records of a database. It looks at every record that is locked, but at none where
+    /// no lock was asked for in the database since no record was locked.
     pub fn holder_in(&self, db: u32) -> Option<TxnId>
         ensures least { result ≡ holder_of db self.now }
         ensures owns { IfSome result (λ t. OwnsIn db t self.now.records) }
     {
-        least_in(&self.queues, db)
+        least_in(&self.queues, &self.dbs, db)
     }
 
     /// A transaction that was last told to wait on a record of the database; the least one. It looks at
@@ -304,7 +311,7 @@ fn put_pairs(
 // Who waits for whom, waiter by waiter.
 fn pairs_in(
     alloc: Global,
-    queues: &BTreeMap<RecordId, Queue>,
+    queues: &HashMap<RecordId, Queue>,
     pending: &BTreeMap<TxnId, RecordId>,
 ) -> Result<Vec<(TxnId, TxnId)>, AllocError>
     ensures { IfOk result (λ pairs. pairs.items ≡ flat_map (λ e. map (λ u. (e.0, u)) (waited_for e.0 (queue_at e.1 queues.now.entries))) pending.now.entries) }

@@ -2,7 +2,7 @@ use Rattle.std.proofs.Common.{◌∙◌}
 use Rattle.std.specs.Map.Iter.{deref_pair}
 use Rattle.std.proofs.lemmas.Map.Iter.{btree_map_turn}
 use Rattle.je_order.specs.contracts.txn_id.TxnIdOrd.TheImpl.Laws as order
-use Rattle.lock_table.proofs.DatabaseRanges.{left_begins, left_step, left_ends}
+use Rattle.lock_table.proofs.DatabaseOwners.{left_begins, left_step, left_ends}
 use Rattle.lock_table.proofs.holders.told_in.Goals as goal
 
 pub returns-then-at-db-clause-told : goal.returns-then-at-db-clause-told

@@ -1,4 +1,4 @@
-use Rattle.lock_table.proofs.DatabaseRanges.{IsLeft}
+use Rattle.lock_table.proofs.DatabaseOwners.{IsLeft}
 use Rattle.lock_table.proofs.holders.told_in.Given as goal
 
 abbrev pub invariant-loop-txn : goal.invariant-loop-txn

@@ -1,7 +1,8 @@
 use Rattle.std.proofs.Common.{sym, ◌≡◌, Some, subst}
 use Rattle.lock_table.specs.Records.{queue_at}
-use Rattle.lock_table.specs.Table.{locks_at, at_txn, is_listed, is_among}
+use Rattle.lock_table.specs.Table.{locks_at, at_txn, is_listed, is_among, is_used}
 use Rattle.lock_table.proofs.RangeLocks.{ranges_back}
+use Rattle.lock_table.proofs.UsedDatabases.{used_back}
 use Rattle.lock_table.proofs.NotedReads.{noted_back}
 use Rattle.std.specs.Option.{IsSome}
 use Rattle.lock_table.specs.Locks.{held_by}
@@ -16,6 +17,7 @@ invariant_of-self c =
       sound_give_back (λ r. queue_at r c.self.inside.queues.entries) (λ r. queue_at r c.give_back_in.new.queues.entries) (is_listed c.self.inside.lists.entries) (is_listed c.give_back_in.new.lists.entries) (λ t. at_txn t c.self.inside.pending.entries) c.args.txn c.args.at.now c.args.was h.0 c.self.invariant.0 h.1 w c.give_back_in.ensures.queues c.give_back_in.ensures.lists,
       ranges_back (is_among c.self.inside.ranging) (λ r. queue_at r c.self.inside.queues.entries) (λ r. queue_at r c.give_back_in.new.queues.entries) c.args.txn c.args.at.now c.args.was h.0 c.self.invariant.0.settled h.1 w c.give_back_in.ensures.queues c.self.invariant.1,
       noted_back (λ t. at_txn t c.self.inside.reading.entries) (λ t. at_txn t c.note_back.new.reading.entries) (λ r. queue_at r c.self.inside.queues.entries) (λ r. queue_at r c.give_back_in.new.queues.entries) c.args.txn c.args.at.now c.args.was h.0 c.self.invariant.0.settled h.1 c.note_back.ensures.kept c.note_back.ensures.back c.give_back_in.ensures.queues c.self.invariant.2,
+      used_back (is_used c.self.inside.dbs) (λ r. queue_at r c.self.inside.queues.entries) (λ r. queue_at r c.give_back_in.new.queues.entries) c.args.txn c.args.at.now c.args.was c.give_back_in.ensures.queues c.self.invariant.3,
     )
 
 pub returns-clause-settled : goal.returns-clause-settled

@@ -1,7 +1,8 @@
-use Rattle.std.proofs.Common.{◌≡◌, sym, subst, ap, ◌∙◌}
+use Rattle.std.proofs.Common.{refl, ◌≡◌, sym, subst, ap, ◌∙◌}
 use Rattle.lock_table.specs.Locks.{held_by, after_read}
 use Rattle.lock_table.specs.Records.{queue_at}
-use Rattle.lock_table.specs.Table.{locks_at, at_txn, is_waiting, is_listed, is_among, AreRangesOf, AreReadsNoted}
+use Rattle.lock_table.specs.Table.{locks_at, at_txn, is_waiting, is_listed, is_among, AreRangesOf, AreReadsNoted, is_used}
+use Rattle.lock_table.proofs.UsedDatabases.{used_by}
 use Rattle.lock_table.proofs.NotedReads.{noted_nothing, noted_read, noted_less, waits_nowhere}
 use Rattle.lock_table.proofs.RangeLocks.{ranges_read}
 use Rattle.lock_table.proofs.WholeTable.{sound_read}
@@ -16,6 +17,7 @@ invariant_of-self c = (
   sound_read (λ r. queue_at r c.self.inside.queues.entries) (λ r. queue_at r c.read_back_in.new.queues.entries) (is_listed c.self.inside.lists.entries) (λ t. at_txn t c.self.inside.pending.entries) c.args.txn c.self.invariant.0 c.read_back_in.ensures,
   λ r. subst (AreRangesOf (is_among c.self.inside.ranging)) (sym (c.read_back_in.ensures r)) (ranges_read (is_among c.self.inside.ranging) c.args.txn (held_by c.args.txn (queue_at r c.self.inside.queues.entries).0) (queue_at r c.self.inside.queues.entries) (c.self.invariant.1 r)),
   λ r. subst (AreReadsNoted (λ t. at_txn t c.self.inside.reading.entries)) (sym (c.read_back_in.ensures r)) (noted_read (λ t. at_txn t c.self.inside.reading.entries) c.args.txn (queue_at r c.self.inside.queues.entries) (c.self.invariant.2 r)),
+  used_by (is_used c.self.inside.dbs) (λ r. queue_at r c.self.inside.queues.entries) (λ r. queue_at r c.read_back_in.new.queues.entries) (after_read c.args.txn) refl c.read_back_in.ensures c.self.invariant.3,
 )
 
 pub returns-then-waiting-clause-settled : goal.returns-then-waiting-clause-settled
@@ -27,6 +29,7 @@ invariant_of-self-2 c =
       sound_read (λ r. queue_at r c.self.inside.queues.entries) (λ r. queue_at r c.read_back_in.new.queues.entries) (is_listed c.self.inside.lists.entries) (λ t. at_txn t c.self.inside.pending.entries) c.args.txn c.self.invariant.0 c.read_back_in.ensures,
       λ r. subst (AreRangesOf (is_among c.self.inside.ranging)) (sym (c.read_back_in.ensures r)) (ranges_read (is_among c.self.inside.ranging) c.args.txn (held_by c.args.txn (queue_at r c.self.inside.queues.entries).0) (queue_at r c.self.inside.queues.entries) (c.self.invariant.1 r)),
       λ r. subst (AreReadsNoted (λ t. at_txn t c.note_none.new.reading.entries)) (sym (c.read_back_in.ensures r)) (noted_less (λ t. at_txn t c.self.inside.reading.entries) (λ t. at_txn t c.note_none.new.reading.entries) c.args.txn (queue_at r c.self.inside.queues.entries) (c.self.invariant.0.settled r) (nowhere r) c.note_none.ensures (c.self.invariant.2 r)),
+      used_by (is_used c.self.inside.dbs) (λ r. queue_at r c.self.inside.queues.entries) (λ r. queue_at r c.read_back_in.new.queues.entries) (after_read c.args.txn) refl c.read_back_in.ensures c.self.invariant.3,
     )
 
 pub returns-clause-settled : goal.returns-clause-settled

@@ -1,9 +1,11 @@
-use Rattle.std.proofs.Common.{sym, subst, ◌∙◌}
+use Rattle.std.proofs.Common.{refl, sym, subst, ◌∙◌}
 use Rattle.std.proofs.lemmas.Bool.{cond-false}
 use Rattle.je_order.specs.Transactions.{is_same_txn}
 use Rattle.lock_table.specs.Records.{queue_at}
-use Rattle.lock_table.specs.Table.{at_txn, is_listed, is_among, AreRangesOf, AreReadsNoted, IsTable}
+use Rattle.lock_table.specs.Table.{at_txn, is_listed, is_among, AreRangesOf, AreReadsNoted, is_used}
 use Rattle.lock_table.proofs.RangeLocks.{ranges_cancelled}
+use Rattle.lock_table.specs.Locks.{after_cancel}
+use Rattle.lock_table.proofs.UsedDatabases.{used_by}
 use Rattle.lock_table.proofs.NotedReads.{noted_cancelled}
 use Rattle.lock_table.proofs.WholeTable.{sound_cancel}
 use Rattle.lock_table.proofs.table.LockTable.undo_wait.Goals as goal
@@ -14,6 +16,7 @@ invariant_of-self c = (
       (λ t h. c.undo_wait_in.ensures.pending t ∙ cond-false (is_same_txn c.args.txn t) c.args.place (at_txn t c.self.inside.pending.entries) h),
   λ r. subst (AreRangesOf (is_among c.self.inside.ranging)) (sym (c.undo_wait_in.ensures.queues r)) (ranges_cancelled (is_among c.self.inside.ranging) c.args.txn (queue_at r c.self.inside.queues.entries) (c.self.invariant.1 r)),
   λ r. subst (AreReadsNoted (λ t. at_txn t c.self.inside.reading.entries)) (sym (c.undo_wait_in.ensures.queues r)) (noted_cancelled (λ t. at_txn t c.self.inside.reading.entries) c.args.txn (queue_at r c.self.inside.queues.entries) (c.self.invariant.2 r)),
+  used_by (is_used c.self.inside.dbs) (λ r. queue_at r c.self.inside.queues.entries) (λ r. queue_at r c.undo_wait_in.new.queues.entries) (after_cancel c.args.txn) refl c.undo_wait_in.ensures.queues c.self.invariant.3,
 )
 
 pub returns-clause-settled : goal.returns-clause-settled

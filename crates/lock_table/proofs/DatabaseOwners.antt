@@ -1,32 +1,13 @@
--- The records of one database stand between the end of the one before it and its own end. Those who were told to wait there.
-use Rattle.std.proofs.Common.{◌≡◌, ℕ, Bool, cond, List, [], ◌∷◌, ◌++◌, map, Some, None, true, false, Option, refl, ap, sym, ◌∙◌, arith, zero, suc}
-use Rattle.std.specs.Prelude.{◌==◌}
+-- The least owner of the records of one database, and those who were told to wait there.
+use Rattle.std.proofs.Common.{◌≡◌, ℕ, Bool, cond, List, [], ◌∷◌, ◌++◌, map, Some, None, true, false, Option, refl, ap, sym, ◌∙◌}
 use Rattle.std.specs.Ordering.{nat_cmp, is_eq}
-use Rattle.std.specs.List.{filter, flat_map}
-use Rattle.std.specs.BTreeMap.Range.{range_contains}
-use Rattle.std.proofs.lemmas.Bool.Decides.{nat_tests}
-use Rattle.je_order.specs.declared.bound.Bound.{Bound}
-use Rattle.je_order.specs.declared.bound.Bound.TheVariants.{At, End}
+use Rattle.std.specs.List.{flat_map}
 use Rattle.je_order.specs.declared.txn_id.TxnId.{TxnId}
 use Rattle.lock_table.specs.declared.lock.Lock.{Lock}
 use Rattle.lock_table.specs.declared.record_id.RecordId.{RecordId}
 use Rattle.lock_table.specs.Locks.{lesser, least}
-use Rattle.lock_table.specs.Records.{record_cmp, start_bound, end_bound}
 use Rattle.lock_table.specs.Table.{at_txn}
 use Rattle.lock_table.proofs.LeastTxn.{lesser_assoc}
-
-in_db_at : (db n : ℕ) (at : Bound) → range_contains record_cmp (start_bound db) (end_bound db) (record { db = n; at = at }) ≡ (n == db)
-in_db_at zero n (At m) = grind (arith, nat_tests)
-in_db_at zero n End = grind (arith, nat_tests)
-in_db_at (suc d) n (At m) = grind (arith, nat_tests)
-in_db_at (suc d) n End = grind (arith, nat_tests)
-
-filter_alike : {X : Type 0} (p q : X → Bool) → ((x : X) → p x ≡ q x) → (xs : List X) → filter p xs ≡ filter q xs
-filter_alike p q h [] = refl
-filter_alike p q h (x ∷ xs) = ap (λ b. cond b (x ∷ filter p xs) (filter p xs)) (h x) ∙ ap (λ ys. cond (q x) (x ∷ ys) ys) (filter_alike p q h xs)
-
-pub in_db : (db : ℕ) (es : List (RecordId × (List Lock × List Lock))) → filter (λ e. range_contains record_cmp (start_bound db) (end_bound db) e.0) es ≡ filter (λ e. e.0.db == db) es
-in_db db es = filter_alike _ (λ e. e.0.db == db) (λ e. in_db_at db e.0.db e.0.at) es
 
 pub least_append : (xs ys : List TxnId) → least (xs ++ ys) ≡ lesser (least xs) (least ys)
 least_append [] ys = refl
