@@ -94,7 +94,7 @@ fn grant_there(
         return Ok(());
     }
     list_new(lists, alloc, lock.txn, at, queue.owners())?;
-    queue.ask(lock)?;
+    queue.ask(alloc, lock)?;
     Ok(())
 }
 
@@ -117,7 +117,7 @@ fn wait_there(
     ensures err_pending { OnErr result ((t : TxnId) → at_txn t pending.new.entries ≡ at_txn t pending.old.entries) }
 {
     list_wait(lists, alloc, lock.txn, at, queue.owners())?;
-    queue.ask(lock)?;
+    queue.ask(alloc, lock)?;
     match note_wait(pending, lock.txn, at) {
         Ok(()) => Ok(()),
         Err(failed) => {

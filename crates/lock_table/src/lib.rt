@@ -8,6 +8,7 @@
 pub mod asked;
 pub mod calls;
 pub mod dbs;
+pub mod held;
 pub mod holders;
 pub mod listed;
 pub mod lists;

@@ -133,7 +133,7 @@ pub(crate) fn remove_from(locks: &mut Vec<Lock>, txn: TxnId)
 }
 
 // An owner's lock, upgraded if it is that of the request's transaction.
-fn upgraded_lock(owner: Lock, lock: Lock) -> Lock
+pub(crate) fn upgraded_lock(owner: Lock, lock: Lock) -> Lock
     ensures { result ≡ upgraded_by lock owner }
 {
     if lock.txn != owner.txn {
@@ -172,7 +172,7 @@ pub(crate) fn take_in(owners: &mut Vec<Lock>, lock: Lock)
 }
 
 // An owner's lock, set to the type if it is the transaction's.
-fn set_lock(owner: Lock, txn: TxnId, mode: LockType) -> Lock
+pub(crate) fn set_lock(owner: Lock, txn: TxnId, mode: LockType) -> Lock
     ensures { result ≡ set_by txn mode owner }
 {
     if txn != owner.txn {

@@ -38,8 +38,8 @@ pub(crate) fn waits_at<'a>(queues: &'a HashMap<RecordId, Queue>, at: &RecordId) 
 pub(crate) fn first_queue(alloc: Global, lock: Lock) -> Result<Queue, AllocError>
     ensures { IfOk result (λ queue. queue ≡ after_ask lock ([], [])) }
 {
-    let mut queue = Queue::new(alloc);
-    queue.ask(lock)?;
+    let mut queue = Queue::new();
+    queue.ask(alloc, lock)?;
     Ok(queue)
 }
 
