@@ -17,7 +17,7 @@ use Rattle.lock_table.specs.Locks.{has_lock, is_blocked, lesser, least, IsSettle
 use Rattle.lock_table.specs.Records.{is_record, queue_at}
 use Rattle.lock_table.specs.Table.{Locks, locks_at, holder_of, IsToldIn, OwnsIn}
 use Rattle.lock_table.proofs.QueueMaps.{record_is}
-use Rattle.lock_table.proofs.DatabaseRanges.{least_owner, least_more}
+use Rattle.lock_table.proofs.DatabaseOwners.{least_owner, least_more}
 use Rattle.lock_mgr.specs.Deadlock.{NoDeadlock}
 use Rattle.store_model.specs.declared.place.Place.{Place}
 use Rattle.je_answers.specs.declared.active.Active.{Active}
