@@ -1,0 +1,2 @@
+-- A dump as the lines of a script that load it.
+pub mod Lines
