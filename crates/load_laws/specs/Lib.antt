@@ -1,0 +1,5 @@
+pub mod Loads
+-- Answers behind which a load gives no further line.
+pub mod Given
+-- What a crash leaves of a load.
+pub mod Images
