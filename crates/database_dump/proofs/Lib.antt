@@ -1,0 +1,2 @@
+-- One record of a walk more.
+mod WalkLaws

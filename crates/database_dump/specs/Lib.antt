@@ -1,0 +1,2 @@
+-- A database as a dump.
+pub mod Text
