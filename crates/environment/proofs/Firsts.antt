@@ -165,18 +165,18 @@ pushed_first txn t lsn c pending is = by_test (txn == t)
     by_test false = is
 
 entry_first : (at t lsn : ℕ) (e : Entry) (redo : Redo) → IsNoCommitOf t e → IsFirstIn (redo.pending t) lsn → IsFirstIn ((redo_entry at e redo).pending t) lsn
-entry_first at t lsn (Put txn db name value) redo no is = pushed_first txn.0 t lsn (set_at at db name value) redo.pending is
-entry_first at t lsn (Delete txn db name) redo no is = pushed_first txn.0 t lsn (unset_at at db name) redo.pending is
-entry_first at t lsn (Commit txn) redo no is = subst (λ (l : List LoggedChange). IsFirstIn l lsn) (sym (cond-false (txn.0 == t) [] (redo.pending t) (ne_eqb txn.0 t no))) is
-entry_first at t lsn e redo no is = is
+entry_first at t lsn (Put txn db name value) redo others is = pushed_first txn.0 t lsn (set_at at db name value) redo.pending is
+entry_first at t lsn (Delete txn db name) redo others is = pushed_first txn.0 t lsn (unset_at at db name) redo.pending is
+entry_first at t lsn (Commit txn) redo others is = subst (λ (l : List LoggedChange). IsFirstIn l lsn) (sym (cond-false (txn.0 == t) [] (redo.pending t) (ne_eqb txn.0 t others))) is
+entry_first at t lsn e redo others is = is
 
 all_first : (t lsn : ℕ) (more : List Placed) (redo : Redo) → AllByRecursion (λ p. IsNoCommitOf t p.1) more → IsFirstIn (redo.pending t) lsn → IsFirstIn ((redo_all more redo).pending t) lsn
-all_first t lsn [] redo no is = is
-all_first t lsn (p ∷ more) redo no is = all_first t lsn more (redo_entry p.0 p.1 redo) no.1 (entry_first p.0 t lsn p.1 redo no.0 is)
+all_first t lsn [] redo others is = is
+all_first t lsn (p ∷ more) redo others is = all_first t lsn more (redo_entry p.0 p.1 redo) others.1 (entry_first p.0 t lsn p.1 redo others.0 is)
 
 -- the first change that waits stays the first one
 pub waits_first : (t lsn : ℕ) (more : List Placed) (logged : ℕ → List LoggedChange) → AllByRecursion (λ p. IsNoCommitOf t p.1) more → IsFirstIn (logged t) lsn → IsFirstIn (waiting more logged t) lsn
-waits_first t lsn more logged no is = all_first t lsn more (record { done = []; pending = logged }) no is
+waits_first t lsn more logged others is = all_first t lsn more (record { done = []; pending = logged }) others is
 
 pub neutral_no_commit : (t : ℕ) (entries : List Entry) → AllByRecursion (λ e. is_neutral e ≡ true) entries → AllByRecursion (IsNoCommitOf t) entries
 neutral_no_commit t [] all = tt

@@ -4,7 +4,7 @@ pub mod ReachedLaws
 -- What an environment knows of its databases.
 pub mod Databases
 pub mod Bases
--- The LSN that each transaction logged nothing before.
+-- The first LSN of each transaction.
 pub mod Firsts
 -- Where an environment stands when its log was written out or synced, or the disk failed.
 pub mod Standing
