@@ -210,7 +210,7 @@ module _ (rows : Rows) (st : Standing) (t : TxnId) (change : Change) (more : Lis
         (subst (λ (n : ℕ). Lives later_forest (longer old a.entries v.log) n (pos_lsn (end_of new)) written v.gives.base) (sym since_is)
         (lives_on observable history sync_out read_out read_of old new v.log a.entries later_forest since v.gives.base written v.has a.grew (transaction_no_ends t planned a.entries a.logs)
         (carries v.log v.gives.base v.has (begun_with v.log (end_of old) (committed cells) st.last_txn st.last_db (active_number st.actives) st.own v.gives) v.fits) v.from
-      (λ u named. transaction_no_commit u t planned a.entries (λ same. is_begun v.log (end_of old) (committed cells) st.last_txn st.last_db (active_number st.actives) st.own v.gives written (pos_lsn (end_of old)) u v.firsts named (omega (arith, next, same))) a.logs) v.firsts)) in
+        (λ u named. transaction_no_commit u t planned a.entries (λ same. is_begun v.log (end_of old) (committed cells) st.last_txn st.last_db (active_number st.actives) st.own v.gives written (pos_lsn (end_of old)) u v.firsts named (omega (arith, next, same))) a.logs) v.firsts)) in
         record {
           log = longer old a.entries v.log;
           has = on.given.has;

@@ -1,5 +1,5 @@
 -- What transactions wrote, after a change of the map.
-use Rattle.std.proofs.Common.{◌≡◌, ◌≤◌, ◌<◌, ◌+◌, ◌^◌, ℕ, Bool, true, cond, List, [], ◌∷◌, ◌++◌, None, Some, Option, Result, Ok, Err, OnOk, refl, sym, ap, ap₂, ◌∙◌, subst, ⊎_elim, length, arith}
+use Rattle.std.proofs.Common.{◌≡◌, ◌≤◌, ◌<◌, ◌+◌, ◌^◌, ℕ, Bool, true, cond, List, [], ◌∷◌, ◌++◌, None, Some, Option, Result, Ok, Err, OnOk, refl, sym, ap, ap₂, ◌∙◌, subst, ⊎_elim, length}
 use Rattle.std.specs.Prelude.{vec_capacity}
 use Rattle.std.specs.Option.{option_map_or}
 use Rattle.std.proofs.lemmas.Bool.{cases_Bool}
