@@ -21,8 +21,8 @@ use Rattle.tree_nodes.specs.declared.node.Node.{Node}
 use Rattle.tree_nodes.specs.Nodes.{NodeRow, IsUpTo, IsOver, low_behind}
 use Rattle.tree_nodes.specs.Levels.{row_of}
 use Rattle.tree_nodes.proofs.RisingLists.{none_behind}
-use Rattle.db_tree.specs.Images.{record_in, lsn_in, IsBin}
-use Rattle.db_tree.specs.Content.{held_by, lsn_of, lsn_under, slot_for, record_slots}
+use Rattle.db_tree.specs.Images.{slot_version, version_in, IsBin}
+use Rattle.db_tree.specs.Content.{held_under, kept_by, slot_for, record_slots}
 use Rattle.db_tree.specs.Laws.{BinImagesShowCells}
 use Rattle.db_tree.proofs.Order.{up_cases, less_not_up, up_trans}
 
@@ -143,42 +143,42 @@ passed_is {V} p (e ∷ row) x h = by_test (p e.0) (passed_is p row x) h
 
 -- the slots of cells that pass a test show what is held under a name that passes it
 shows_held : (p : Name → Bool) (cells : List (Name × Cell)) (x : Name) → IsStrictlySortedBy name_cmp (keys_of cells) → p x ≡ true →
-    lsn_in (find (λ (slot : RecordSlot). is_eq (name_cmp x slot.name)) (record_slots (filter (λ e. p e.0) cells))) ≡ held_by cells x
+    slot_version (find (λ (slot : RecordSlot). is_eq (name_cmp x slot.name)) (record_slots (filter (λ e. p e.0) cells))) ≡ (kept_by cells x).version
 unfolding IsStrictlySortedBy
 shows_held p [] x up h = refl
 shows_held p (e ∷ cells) x up h = by_name (same_or_other x e.0) (shows_held p cells x up.1 h)
   where
     -- a cell of another name is passed over
-    over_slots : (v : Version) → is_eq (name_cmp x e.0) ≡ false → lsn_in (find (λ (slot : RecordSlot). is_eq (name_cmp x slot.name)) (slot_for e.0 v ++ record_slots (filter (λ (f : Name × Cell). p f.0) cells))) ≡ lsn_in (find (λ (slot : RecordSlot). is_eq (name_cmp x slot.name)) (record_slots (filter (λ (f : Name × Cell). p f.0) cells)))
-    over_slots (There lsn) apart = ap lsn_in (other_stays x e.0 (Some (record { name = e.0; lsn = Some lsn })) (find (λ (slot : RecordSlot). is_eq (name_cmp x slot.name)) (record_slots (filter (λ (f : Name × Cell). p f.0) cells))) apart)
-    over_slots Deleted apart = ap lsn_in (other_stays x e.0 (Some (record { name = e.0; lsn = None })) (find (λ (slot : RecordSlot). is_eq (name_cmp x slot.name)) (record_slots (filter (λ (f : Name × Cell). p f.0) cells))) apart)
+    over_slots : (v : Version) → is_eq (name_cmp x e.0) ≡ false → slot_version (find (λ (slot : RecordSlot). is_eq (name_cmp x slot.name)) (slot_for e.0 v ++ record_slots (filter (λ (f : Name × Cell). p f.0) cells))) ≡ slot_version (find (λ (slot : RecordSlot). is_eq (name_cmp x slot.name)) (record_slots (filter (λ (f : Name × Cell). p f.0) cells)))
+    over_slots (There lsn) apart = ap slot_version (other_stays x e.0 (Some (record { name = e.0; lsn = Some lsn })) (find (λ (slot : RecordSlot). is_eq (name_cmp x slot.name)) (record_slots (filter (λ (f : Name × Cell). p f.0) cells))) apart)
+    over_slots Deleted apart = ap slot_version (other_stays x e.0 (Some (record { name = e.0; lsn = None })) (find (λ (slot : RecordSlot). is_eq (name_cmp x slot.name)) (record_slots (filter (λ (f : Name × Cell). p f.0) cells))) apart)
     over_slots Unset apart = refl
 
     -- a cell of the name shows what it holds, and is the only one
-    at_slots : (v : Version) → is_eq (name_cmp x e.0) ≡ true → value_at x cells ≡ None → lsn_in (find (λ (slot : RecordSlot). is_eq (name_cmp x slot.name)) (record_slots (filter (λ (f : Name × Cell). p f.0) cells))) ≡ held_by cells x →
-        lsn_in (find (λ (slot : RecordSlot). is_eq (name_cmp x slot.name)) (slot_for e.0 v ++ record_slots (filter (λ (f : Name × Cell). p f.0) cells))) ≡ lsn_of v
-    at_slots (There lsn) same none rest = ap (λ (t : Bool). lsn_in (cond t (Some (record { name = e.0; lsn = Some lsn })) (find (λ (slot : RecordSlot). is_eq (name_cmp x slot.name)) (record_slots (filter (λ (f : Name × Cell). p f.0) cells))))) same
-    at_slots Deleted same none rest = ap (λ (t : Bool). lsn_in (cond t (Some (record { name = e.0; lsn = None })) (find (λ (slot : RecordSlot). is_eq (name_cmp x slot.name)) (record_slots (filter (λ (f : Name × Cell). p f.0) cells))))) same
-    at_slots Unset same none rest = rest ∙ ap lsn_under none
+    at_slots : (v : Version) → is_eq (name_cmp x e.0) ≡ true → value_at x cells ≡ None → slot_version (find (λ (slot : RecordSlot). is_eq (name_cmp x slot.name)) (record_slots (filter (λ (f : Name × Cell). p f.0) cells))) ≡ (kept_by cells x).version →
+        slot_version (find (λ (slot : RecordSlot). is_eq (name_cmp x slot.name)) (slot_for e.0 v ++ record_slots (filter (λ (f : Name × Cell). p f.0) cells))) ≡ v
+    at_slots (There lsn) same none rest = ap (λ (t : Bool). slot_version (cond t (Some (record { name = e.0; lsn = Some lsn })) (find (λ (slot : RecordSlot). is_eq (name_cmp x slot.name)) (record_slots (filter (λ (f : Name × Cell). p f.0) cells))))) same
+    at_slots Deleted same none rest = ap (λ (t : Bool). slot_version (cond t (Some (record { name = e.0; lsn = None })) (find (λ (slot : RecordSlot). is_eq (name_cmp x slot.name)) (record_slots (filter (λ (f : Name × Cell). p f.0) cells))))) same
+    at_slots Unset same none rest = rest ∙ ap (λ (o : Option Cell). (held_under o).version) none
 
-    by_name : (x ≡ e.0) ⊎ (is_eq (name_cmp x e.0) ≡ false) → lsn_in (find (λ (slot : RecordSlot). is_eq (name_cmp x slot.name)) (record_slots (filter (λ (f : Name × Cell). p f.0) cells))) ≡ held_by cells x →
-        lsn_in (find (λ (slot : RecordSlot). is_eq (name_cmp x slot.name)) (record_slots (filter (λ (f : Name × Cell). p f.0) (e ∷ cells)))) ≡ held_by (e ∷ cells) x
+    by_name : (x ≡ e.0) ⊎ (is_eq (name_cmp x e.0) ≡ false) → slot_version (find (λ (slot : RecordSlot). is_eq (name_cmp x slot.name)) (record_slots (filter (λ (f : Name × Cell). p f.0) cells))) ≡ (kept_by cells x).version →
+        slot_version (find (λ (slot : RecordSlot). is_eq (name_cmp x slot.name)) (record_slots (filter (λ (f : Name × Cell). p f.0) (e ∷ cells)))) ≡ (kept_by (e ∷ cells) x).version
     by_name (inl same) rest =
         let equal : is_eq (name_cmp x e.0) ≡ true = subst (λ (y : Name). is_eq (name_cmp x y) ≡ true) same (ap is_eq (name_same x)) in
         let none : value_at x cells ≡ None = subst (λ (y : Name). value_at y cells ≡ None) (sym same) (none_behind e.0 cells up.0) in
-        ap (λ (t : Bool). lsn_in (find (λ (slot : RecordSlot). is_eq (name_cmp x slot.name)) (record_slots (cond t (e ∷ filter (λ (f : Name × Cell). p f.0) cells) (filter (λ (f : Name × Cell). p f.0) cells))))) (ap p (sym same) ∙ h)
+        ap (λ (t : Bool). slot_version (find (λ (slot : RecordSlot). is_eq (name_cmp x slot.name)) (record_slots (cond t (e ∷ filter (λ (f : Name × Cell). p f.0) cells) (filter (λ (f : Name × Cell). p f.0) cells))))) (ap p (sym same) ∙ h)
         ∙ at_slots e.1.version equal none rest
-        ∙ sym (ap (λ (t : Bool). lsn_under (cond t (Some e.1) (value_at x cells))) equal)
+        ∙ sym (ap (λ (t : Bool). (held_under (cond t (Some e.1) (value_at x cells))).version) equal)
     by_name (inr apart) rest =
-        by_test (p e.0) ∙ rest ∙ sym (ap lsn_under (other_stays x e.0 (Some e.1) (value_at x cells) apart))
+        by_test (p e.0) ∙ rest ∙ sym (ap (λ (o : Option Cell). (held_under o).version) (other_stays x e.0 (Some e.1) (value_at x cells) apart))
       where
-        by_test : (t : Bool) → lsn_in (find (λ (slot : RecordSlot). is_eq (name_cmp x slot.name)) (record_slots (cond t (e ∷ filter (λ (f : Name × Cell). p f.0) cells) (filter (λ (f : Name × Cell). p f.0) cells)))) ≡ lsn_in (find (λ (slot : RecordSlot). is_eq (name_cmp x slot.name)) (record_slots (filter (λ (f : Name × Cell). p f.0) cells)))
+        by_test : (t : Bool) → slot_version (find (λ (slot : RecordSlot). is_eq (name_cmp x slot.name)) (record_slots (cond t (e ∷ filter (λ (f : Name × Cell). p f.0) cells) (filter (λ (f : Name × Cell). p f.0) cells)))) ≡ slot_version (find (λ (slot : RecordSlot). is_eq (name_cmp x slot.name)) (record_slots (filter (λ (f : Name × Cell). p f.0) cells)))
         by_test true = over_slots e.1.version apart
         by_test false = refl
 
 pub bins_show : BinImagesShowCells
-bins_show es rows cells db number at low n up is = record {
+bins_show es rows cells db number at low n up touched is = record {
   reads = λ x over. subst IsBin (sym is) tt;
-  shows = λ x over. ap (λ (o : Option Entry). record_in o x) is ∙ shows_held (is_between (At low) (upper_edge (low_behind low (row_of rows 0)))) cells x up (within (row_of rows 0) x (low, n) over);
+  shows = λ x over. (ap (λ (o : Option Entry). version_in o x) is ∙ shows_held (is_between (At low) (upper_edge (low_behind low (row_of rows 0)))) cells x up (within (row_of rows 0) x (low, n) over), touched x);
   names = λ x over. tt;
 }

@@ -2,6 +2,8 @@
 pub mod Order
 -- The node over a name.
 pub mod Over
+-- What the last images of BINs say of names.
+pub mod Says
 -- What images show is the same in a longer log.
 pub mod Longer
 -- A mark, a split and a commit keep that a tree fits its log.
@@ -70,3 +72,17 @@ pub mod LoadingLaws
 pub mod NotingLaws
 -- Nodes that are not noted, and have no mark before an LSN.
 pub mod SinceLaws
+-- A BIN that has its last image's content needs no mark.
+pub mod DirtyLaws
+-- A commit keeps that cells know what the last images of their BINs say.
+pub mod DirtyCommits
+-- BINs are dirty exactly where they have not their last images' content.
+pub mod DirtyExact
+-- Changes of cells that leave which BINs have their last images' content.
+pub mod DirtyCells
+-- Which BINs are dirty, where nodes change.
+pub mod NodesExact
+-- A BIN has its last image's content exactly where this says what is committed.
+pub mod DirtyContent
+-- BINs that were read are not dirty.
+pub mod ReadExact

@@ -1,5 +1,5 @@
 -- An image of a node, and a new root, keep that a tree fits its log.
-use Rattle.std.proofs.Common.{◌≡◌, ◌≤◌, ◌<◌, ◌⊎◌, ℕ, zero, suc, List, [], Option, None, Some, IsSome, Bool, true, false, cond, length, ap, sym, subst, ◌∙◌, inl, inr, arith, is_eq}
+use Rattle.std.proofs.Common.{◌≡◌, ◌≤◌, ◌<◌, ◌⊎◌, ℕ, zero, suc, List, [], None, Some, IsSome, Bool, true, false, cond, length, ap, sym, subst, ◌∙◌, inl, inr, arith, is_eq}
 use Rattle.std.proofs.lemmas.Bool.{cases_eq, cases_order}
 use Rattle.std.proofs.lemmas.Option.{none-some, same_Some}
 use Rattle.std.proofs.lemmas.List.{get_or_past}
@@ -9,12 +9,15 @@ use Rattle.record_map.specs.Cells.{value_at}
 use Rattle.tree_nodes.specs.declared.node.Node.{Node}
 use Rattle.tree_nodes.specs.Nodes.{NodeRow, least, IsOver}
 use Rattle.tree_nodes.specs.Levels.{row_of, AreParts}
-use Rattle.db_tree.specs.Images.{Placed, entry_at, child_in, shown, shows, IsRead}
+use Rattle.node_core.specs.declared.slot.Version.{Version}
+use Rattle.db_tree.specs.Content.{Held, lsn_of, shown_held}
+use Rattle.db_tree.specs.Images.{Placed, entry_at, child_in, says, shown, shows, version_in, IsRead}
 use Rattle.db_tree.specs.Trees.{IsTreeOf, IsBehind, IsMarked, ShowsContent, NamesChildren}
 use Rattle.db_tree.specs.Laws.{TreesAreLogged, TreesAreRaised}
 use Rattle.db_tree.proofs.Order.{up_trans}
 use Rattle.tree_nodes.proofs.LevelLaws.{is_level}
 use Rattle.db_tree.proofs.Over.{over_put, over_low, there_is, is_over}
+use Rattle.db_tree.proofs.Says.{image_says, says_shown, shown_behind}
 
 -- the node over a name of a level, seen from a low of the level below that is over it too
 pub over_above : (rows : List NodeRow) (level : ℕ) (x : Name) (e c : Name × Node) → AreParts rows → IsOver (row_of rows (suc level)) x e → IsOver (row_of rows level) x c →
@@ -34,13 +37,13 @@ child_is_over rows level x low are there =
 -- ---- a node is logged
 
 -- what an image shows is what the node's last one showed, but for names that the node is behind for
-image_same : (es : Placed) (base : ℕ) (newest : Name → ℕ) (rows : List NodeRow) (held : Name → Option ℕ) (level : ℕ) (x : Name) (e : Name × Node) (at : ℕ) →
+image_same : (es : Placed) (base : ℕ) (newest : Name → ℕ) (rows : List NodeRow) (held : Name → Held) (level : ℕ) (x : Name) (e : Name × Node) (at : ℕ) →
     AreParts rows → IsTreeOf es base newest rows held → IsOver (row_of rows level) x e → ShowsContent es rows held level at x →
     (shown es level e.1.last x ≡ shows es level at x) ⊎ IsBehind base newest e.1 x
 image_same es base newest rows held zero x e at are tree over content = by_side (tree.leaf x e over)
   where
-    by_side : (shown es 0 e.1.last x ≡ held x) ⊎ IsBehind base newest e.1 x → (shown es 0 e.1.last x ≡ shows es 0 at x) ⊎ IsBehind base newest e.1 x
-    by_side (inl h) = inl (h ∙ sym content)
+    by_side : (says es e.1.last x ≡ (held x).version) ⊎ IsBehind base newest e.1 x → (shown es 0 e.1.last x ≡ shows es 0 at x) ⊎ IsBehind base newest e.1 x
+    by_side (inl h) = inl (sym (says_shown es e.1.last x) ∙ ap (λ (v : Version). lsn_of v) (h ∙ sym content.0) ∙ image_says (entry_at es at) x)
     by_side (inr h) = inr h
 image_same es base newest rows held (suc level) x e at are tree over content =
     by_child (child_is_over rows level x e.0 are (there_is (row_of rows (suc level)) e.0 e.1 over.there))
@@ -59,6 +62,7 @@ logged es base newest old new held level low n m at are there has last image han
   leaf = λ x e over. at_leaf x e (kind 0 x e over);
   inner = λ l x e c upper lower. at_inner l x e c (kind (suc l) x e upper) (kind l x c lower);
   names = λ l x e c lsn upper lower is. at_names l x e c lsn is (kind (suc l) x e upper) (kind l x c lower);
+  know = record { shown = λ x e lsn over is. at_shown x e lsn is (kind 0 x e over); unset = tree.know.unset; touched = tree.know.touched };
 }
   where
     -- a node over a name is the one that was logged, or was there before
@@ -82,11 +86,17 @@ logged es base newest old new held level low n m at are there has last image han
         subst (λ k. IsRead es k lsn x) (sym new_.0) (subst (λ k. IsRead es level k x) (same_Some at lsn (sym (last_is e new_.1) ∙ is)) (image.reads x new_.2))
     at_reads l x e lsn is (inr over) = tree.reads l x e lsn over is
 
-    at_leaf : (x : Name) (e : Name × Node) → ((0 ≡ level) × (e.1 ≡ m) × IsOver (row_of old level) x (low, n)) ⊎ IsOver (row_of old 0) x e → (shown es 0 e.1.last x ≡ held x) ⊎ IsBehind base newest e.1 x
+    at_leaf : (x : Name) (e : Name × Node) → ((0 ≡ level) × (e.1 ≡ m) × IsOver (row_of old level) x (low, n)) ⊎ IsOver (row_of old 0) x e → (says es e.1.last x ≡ (held x).version) ⊎ IsBehind base newest e.1 x
     at_leaf x e (inl new_) =
-        let content : shows es 0 at x ≡ held x = subst (λ k. ShowsContent es old held k at x) (sym new_.0) (image.shows x new_.2) in
-        inl (ap (λ k. shown es 0 k x) (last_is e new_.1) ∙ content)
+        let content : ShowsContent es old held 0 at x = subst (λ k. ShowsContent es old held k at x) (sym new_.0) (image.shows x new_.2) in
+        inl (ap (λ k. says es k x) (last_is e new_.1) ∙ content.0)
     at_leaf x e (inr over) = tree.leaf x e over
+
+    at_shown : (x : Name) (e : Name × Node) (lsn : ℕ) → e.1.last ≡ Some lsn → ((0 ≡ level) × (e.1 ≡ m) × IsOver (row_of old level) x (low, n)) ⊎ IsOver (row_of old 0) x e → version_in (entry_at es lsn) x ≡ shown_held lsn (held x)
+    at_shown x e lsn is (inl new_) =
+        let content : ShowsContent es old held 0 at x = subst (λ k. ShowsContent es old held k at x) (sym new_.0) (image.shows x new_.2) in
+        subst (λ (k : ℕ). version_in (entry_at es k) x ≡ shown_held k (held x)) (same_Some at lsn (sym (last_is e new_.1) ∙ is)) (content.0 ∙ sym (shown_behind at (held x) content.1))
+    at_shown x e lsn is (inr over) = tree.know.shown x e lsn over is
 
     -- the node above the one that was logged
     at_child : (x : Name) (e c : Name × Node) → IsOver (row_of old (suc level)) x e → c.1 ≡ m → IsOver (row_of old level) x (low, n) →
@@ -138,6 +148,7 @@ raised es base newest old new held top root at height has last reads content nam
   leaf = λ x e over. at_leaf x e (kind 0 x e over);
   inner = λ l x e c upper lower. at_inner l x e c (kind (suc l) x e upper) (kind l x c lower);
   names = λ l x e c lsn upper lower is. at_names l x e c lsn is (kind (suc l) x e upper) (kind l x c lower);
+  know = record { shown = λ x e lsn over is. at_shown x e lsn is (kind 0 x e over); unset = tree.know.unset; touched = tree.know.touched };
 }
   where
     is_root : (x : Name) (e : Name × Node) → IsOver (row_of new (length old)) x e → e.1 ≡ root
@@ -165,9 +176,13 @@ raised es base newest old new held top root at height has last reads content nam
         subst (λ k. IsRead es k lsn x) (sym new_.0) (subst (λ k. IsRead es (suc top) k x) (same_Some at lsn (sym (last_is e new_.1) ∙ is)) (reads x))
     at_reads l x e lsn is (inr over) = tree.reads l x e lsn over.1 is
 
-    at_leaf : (x : Name) (e : Name × Node) → ((0 ≡ suc top) × (e.1 ≡ root)) ⊎ ((0 ≤ top) × IsOver (row_of old 0) x e) → (shown es 0 e.1.last x ≡ held x) ⊎ IsBehind base newest e.1 x
+    at_leaf : (x : Name) (e : Name × Node) → ((0 ≡ suc top) × (e.1 ≡ root)) ⊎ ((0 ≤ top) × IsOver (row_of old 0) x e) → (says es e.1.last x ≡ (held x).version) ⊎ IsBehind base newest e.1 x
     at_leaf x e (inl new_) = let none : 0 ≡ suc top = new_.0 in absurd (omega arith)
     at_leaf x e (inr over) = tree.leaf x e over.1
+
+    at_shown : (x : Name) (e : Name × Node) (lsn : ℕ) → e.1.last ≡ Some lsn → ((0 ≡ suc top) × (e.1 ≡ root)) ⊎ ((0 ≤ top) × IsOver (row_of old 0) x e) → version_in (entry_at es lsn) x ≡ shown_held lsn (held x)
+    at_shown x e lsn is (inl new_) = let none : 0 ≡ suc top = new_.0 in absurd (omega arith)
+    at_shown x e lsn is (inr over) = tree.know.shown x e lsn over.1 is
 
     at_inner : (l : ℕ) (x : Name) (e c : Name × Node) → ((suc l ≡ suc top) × (e.1 ≡ root)) ⊎ ((suc l ≤ top) × IsOver (row_of old (suc l)) x e) →
         ((l ≡ suc top) × (c.1 ≡ root)) ⊎ ((l ≤ top) × IsOver (row_of old l) x c) → (shown es (suc l) e.1.last x ≡ shown es l c.1.last x) ⊎ IsBehind base newest e.1 x

@@ -7,9 +7,10 @@ use Rattle.log_entry.specs.declared.entry.Entry.{Entry}
 use Rattle.tree_nodes.specs.declared.node.Node.{Node}
 use Rattle.tree_nodes.specs.Nodes.{IsOver}
 use Rattle.tree_nodes.specs.Levels.{row_of}
-use Rattle.db_tree.specs.Images.{Placed, entry_at, record_in, child_in, shows, shown, IsBin, IsRead}
+use Rattle.db_tree.specs.Images.{Placed, entry_at, record_in, child_in, says, shows, shown, version_in, IsBin, IsRead}
 use Rattle.db_tree.specs.Trees.{IsBehind, IsMarked}
 use Rattle.db_tree.specs.Laws.{TreesStayInLongerLogs}
+use Rattle.db_tree.proofs.Says.{all_front}
 
 -- an entry that is there stays
 entry_stays : (es more : Placed) (at : ℕ) (e : Entry) → entry_at es at ≡ Some e → entry_at (es ++ more) at ≡ Some e
@@ -58,17 +59,26 @@ behind_stays base newest newer n x le behind = (behind.0, behind.1, by_side behi
 pub longer : TreesStayInLongerLogs
 longer es more base newest newer rows held le tree = record {
   reads = λ level x e at over is. read_stays es more level at x (tree.reads level x e at over is);
-  leaf = λ x e over. at_leaf x e (same_shown 0 x e over e.1.last refl) (tree.leaf x e over);
+  leaf = λ x e over. at_leaf x e (same_says x e over e.1.last refl) (tree.leaf x e over);
   inner = λ level x e c upper lower. at_inner level x e c (same_shown (suc level) x e upper e.1.last refl) (same_shown level x c lower c.1.last refl) (tree.inner level x e c upper lower);
   names = λ level x e c at upper lower is. at_names level x e c at (tree.reads (suc level) x e at upper is) (tree.names level x e c at upper lower is);
+  know = record {
+    shown = λ x e at over is. ap (λ (o : Option Entry). version_in o x) (bin_stays es more at (tree.reads 0 x e at over is)) ∙ tree.know.shown x e at over is;
+    unset = tree.know.unset;
+    touched = λ x next low all. tree.know.touched x next low (all_front next es more all);
+  };
 }
   where
     same_shown : (level : ℕ) (x : Name) (e : Name × Node) → IsOver (row_of rows level) x e → (last : Option ℕ) → e.1.last ≡ last → shown (es ++ more) level last x ≡ shown es level last x
     same_shown level x e over None is = refl
     same_shown level x e over (Some at) is = shows_stays es more level at x (tree.reads level x e at over is)
 
-    at_leaf : (x : Name) (e : Name × Node) → shown (es ++ more) 0 e.1.last x ≡ shown es 0 e.1.last x → (shown es 0 e.1.last x ≡ held x) ⊎ IsBehind base newest e.1 x →
-        (shown (es ++ more) 0 e.1.last x ≡ held x) ⊎ IsBehind base newer e.1 x
+    same_says : (x : Name) (e : Name × Node) → IsOver (row_of rows 0) x e → (last : Option ℕ) → e.1.last ≡ last → says (es ++ more) last x ≡ says es last x
+    same_says x e over None is = refl
+    same_says x e over (Some at) is = ap (λ (o : Option Entry). version_in o x) (bin_stays es more at (tree.reads 0 x e at over is))
+
+    at_leaf : (x : Name) (e : Name × Node) → says (es ++ more) e.1.last x ≡ says es e.1.last x → (says es e.1.last x ≡ (held x).version) ⊎ IsBehind base newest e.1 x →
+        (says (es ++ more) e.1.last x ≡ (held x).version) ⊎ IsBehind base newer e.1 x
     at_leaf x e same (inl h) = inl (same ∙ h)
     at_leaf x e same (inr h) = inr (behind_stays base newest newer e.1 x (le x) h)
 

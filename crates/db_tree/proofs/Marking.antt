@@ -1,14 +1,16 @@
 -- A mark, a split and a commit keep that a tree fits its log.
-use Rattle.std.proofs.Common.{◌≡◌, ◌≤◌, ◌<◌, ◌⊎◌, ℕ, suc, List, Option, Some, refl, ap, sym, subst, ◌∙◌, inl, inr, arith}
+use Rattle.std.proofs.Common.{◌≡◌, ◌≤◌, ◌<◌, ◌⊎◌, ℕ, suc, List, Some, refl, ap, sym, subst, ◌∙◌, inl, inr, arith}
 use Rattle.std.proofs.lemmas.Bool.{cases_eq}
 use Rattle.je_order.specs.declared.name.Name.{Name}
 use Rattle.tree_nodes.specs.declared.node.Node.{Node}
 use Rattle.tree_nodes.specs.Nodes.{NodeRow, IsOver}
 use Rattle.tree_nodes.specs.Levels.{row_of}
-use Rattle.db_tree.specs.Images.{Placed, entry_at, child_in, shown}
+use Rattle.db_tree.specs.Content.{Held}
+use Rattle.db_tree.specs.Images.{Placed, entry_at, child_in, says, shown}
 use Rattle.db_tree.specs.Trees.{IsTreeOf, IsBehind, IsMark, IsMarked}
 use Rattle.db_tree.specs.Laws.{TreesAreSplitAndMarked, TreesAreCommitted}
 use Rattle.db_tree.proofs.Over.{over_put}
+use Rattle.db_tree.proofs.Says.{know_come, know_same}
 
 -- a node over a name comes from one that was over it, has its last image, and is behind where that was
 pub record Comes (base : ℕ) (newest : Name → ℕ) (row : NodeRow) (x : Name) (e : Name × Node) : Type 0 where
@@ -32,7 +34,7 @@ behind_marked base newest m n x mark behind =
     by_side g le (inr h) = inr (omega arith)
 
 -- a tree of nodes that come from those of a tree of the log
-pub come : (es : Placed) (base : ℕ) (newest : Name → ℕ) (old new : List NodeRow) (held : Name → Option ℕ) →
+pub come : (es : Placed) (base : ℕ) (newest : Name → ℕ) (old new : List NodeRow) (held : Name → Held) →
     ((level : ℕ) (x : Name) (e : Name × Node) → IsOver (row_of new level) x e → Comes base newest (row_of old level) x e) →
     IsTreeOf es base newest old held → IsTreeOf es base newest new held
 come es base newest old new held from tree = record {
@@ -40,13 +42,14 @@ come es base newest old new held from tree = record {
   leaf = λ x e over. at_leaf x e (from 0 x e over);
   inner = λ level x e c upper lower. at_inner level x e c (from (suc level) x e upper) (from level x c lower);
   names = λ level x e c at upper lower is. at_names level x e c at is (from (suc level) x e upper) (from level x c lower);
+  know = know_come es base old new held (λ x e over. let c = from 0 x e over in (c.was, c.over, c.last)) tree.know;
 }
   where
-    at_leaf : (x : Name) (e : Name × Node) → Comes base newest (row_of old 0) x e → (shown es 0 e.1.last x ≡ held x) ⊎ IsBehind base newest e.1 x
+    at_leaf : (x : Name) (e : Name × Node) → Comes base newest (row_of old 0) x e → (says es e.1.last x ≡ (held x).version) ⊎ IsBehind base newest e.1 x
     at_leaf x e c = by_side (tree.leaf x c.was c.over)
       where
-        by_side : (shown es 0 c.was.1.last x ≡ held x) ⊎ IsBehind base newest c.was.1 x → (shown es 0 e.1.last x ≡ held x) ⊎ IsBehind base newest e.1 x
-        by_side (inl h) = inl (ap (λ last. shown es 0 last x) c.last ∙ h)
+        by_side : (says es c.was.1.last x ≡ (held x).version) ⊎ IsBehind base newest c.was.1 x → (says es e.1.last x ≡ (held x).version) ⊎ IsBehind base newest e.1 x
+        by_side (inl h) = inl (ap (λ last. says es last x) c.last ∙ h)
         by_side (inr h) = inr (c.behind h)
 
     at_inner : (level : ℕ) (x : Name) (e c : Name × Node) → Comes base newest (row_of old (suc level)) x e → Comes base newest (row_of old level) x c →
@@ -87,15 +90,21 @@ marked_or_split es base newest old new held level low at m n under has mark tree
     comes l x e over (inr other) = comes_itself base newest (row_of old l) x e (subst (λ (row : NodeRow). IsOver row x e) (has.others l other) over)
 
 pub committed : TreesAreCommitted
-committed es base newest rows held next changes tree = record {
+committed es base newest rows held next changes know tree = record {
   reads = tree.reads;
   leaf = λ x e over. by_side x e (tree.leaf x e over) (changes x e over);
   inner = tree.inner;
   names = tree.names;
+  know = know;
 }
   where
-    by_side : (x : Name) (e : Name × Node) → (shown es 0 e.1.last x ≡ held x) ⊎ IsBehind base newest e.1 x → (next x ≡ held x) ⊎ IsBehind base newest e.1 x →
-        (shown es 0 e.1.last x ≡ next x) ⊎ IsBehind base newest e.1 x
+    by_side : (x : Name) (e : Name × Node) → (says es e.1.last x ≡ (held x).version) ⊎ IsBehind base newest e.1 x → ((next x).version ≡ (held x).version) ⊎ IsBehind base newest e.1 x →
+        (says es e.1.last x ≡ (next x).version) ⊎ IsBehind base newest e.1 x
     by_side x e (inl h) (inl same) = inl (h ∙ sym same)
     by_side x e (inl h) (inr behind) = inr behind
     by_side x e (inr behind) change = inr behind
+
+-- what is held stays
+pub same_held : (es : Placed) (base : ℕ) (newest : Name → ℕ) (rows : List NodeRow) (held next : Name → Held) → ((x : Name) → next x ≡ held x) → IsTreeOf es base newest rows held → IsTreeOf es base newest rows next
+same_held es base newest rows held next same tree =
+    committed es base newest rows held next (λ x e over. inl (ap (λ (h : Held). h.version) (same x))) (know_same es base rows held next same tree.know) tree

@@ -13,13 +13,13 @@ use Rattle.record_map.proofs.NameLaws.{same_or_other, same_gets, other_stays}
 use Rattle.tree_nodes.specs.declared.node.Node.{Node}
 use Rattle.tree_nodes.specs.Nodes.{NodeRow, logged, marked}
 use Rattle.tree_nodes.specs.Levels.{row_of, AreParts, HasPutAt, HasMarkedAt}
-use Rattle.db_tree.specs.Content.{held_by, lsn_under}
+use Rattle.db_tree.specs.Content.{held_under, kept_by}
 use Rattle.db_tree.specs.Images.{Placed}
 use Rattle.db_tree.specs.NodeSteps.{IsSameNode, WasThere, AreSameNodes, IsNoted, written_lsn}
 use Rattle.db_tree.specs.Trees.{IsTree}
 use Rattle.db_tree.specs.Waiting.{is_among}
 use Rattle.db_tree.proofs.ForcedLaws.{one_at, one_cases}
-use Rattle.db_tree.proofs.Marking.{committed as is_committed}
+use Rattle.db_tree.proofs.Marking.{same_held}
 use Rattle.db_tree.proofs.SplitLaws.{level_cases}
 use Rattle.db_tree.proofs.WaitLaws.{put_lows}
 
@@ -52,7 +52,7 @@ pub put_here : (old new : List NodeRow) (level : ℕ) (low : Name) (n : Node) �
 put_here old new level low n put = put.here low ∙ same_gets low (Some n) (value_at low (row_of old level))
 
 -- a value that is found at a place is found at the one that it is
-moved : (rows : List NodeRow) (level : ℕ) (low : Name) (k : ℕ) (x : Name) (o : Node) → level ≡ k → low ≡ x → value_at x (row_of rows k) ≡ Some o → value_at low (row_of rows level) ≡ Some o
+pub moved : (rows : List NodeRow) (level : ℕ) (low : Name) (k : ℕ) (x : Name) (o : Node) → level ≡ k → low ≡ x → value_at x (row_of rows k) ≡ Some o → value_at low (row_of rows level) ≡ Some o
 moved rows level low k x o at_level at_low there =
     subst (λ (i : ℕ). value_at low (row_of rows i) ≡ Some o) (sym at_level) (subst (λ (y : Name). value_at y (row_of rows k) ≡ Some o) (sym at_low) there)
 
@@ -98,19 +98,23 @@ none_noted row low none some = absurd (true≢false (sym some ∙ ap is_some non
 -- ---- cells
 
 -- a cell with another change has committed what it had
-pub write_kept : (es : Placed) (base : ℕ) (newest : Name → ℕ) (rows : List NodeRow) (old new : List (Name × Cell)) (name : Name) (w : Option (Box Write Global)) →
-    ((x : Name) → value_at x new ≡ cond (is_eq (name_cmp name x)) (option_map (with_write w) (value_at name old)) (value_at x old)) → IsTree es base newest rows old → IsTree es base newest rows new
-write_kept es base newest rows old new name w others tree = is_committed es base newest rows (held_by old) (held_by new) (λ x e over. inl (by_name x (same_or_other name x))) tree
+pub write_held : (old new : List (Name × Cell)) (name : Name) (w : Option (Box Write Global)) →
+    ((x : Name) → value_at x new ≡ cond (is_eq (name_cmp name x)) (option_map (with_write w) (value_at name old)) (value_at x old)) → (x : Name) → kept_by new x ≡ kept_by old x
+write_held old new name w others x = by_name (same_or_other name x)
   where
-    held : (o : Option Cell) → lsn_under (option_map (with_write w) o) ≡ lsn_under o
+    held : (o : Option Cell) → held_under (option_map (with_write w) o) ≡ held_under o
     held None = refl
     held (Some cell) = refl
 
-    by_name : (x : Name) → (name ≡ x) ⊎ (is_eq (name_cmp name x) ≡ false) → held_by new x ≡ held_by old x
-    by_name x (inr apart) = ap lsn_under (others x ∙ other_stays name x (option_map (with_write w) (value_at name old)) (value_at x old) apart)
-    by_name x (inl same) =
-        subst (λ (y : Name). held_by new y ≡ held_by old y) same
-        (ap lsn_under (others name ∙ same_gets name (option_map (with_write w) (value_at name old)) (value_at name old)) ∙ held (value_at name old))
+    by_name : (name ≡ x) ⊎ (is_eq (name_cmp name x) ≡ false) → kept_by new x ≡ kept_by old x
+    by_name (inr apart) = ap held_under (others x ∙ other_stays name x (option_map (with_write w) (value_at name old)) (value_at x old) apart)
+    by_name (inl same) =
+        subst (λ (y : Name). kept_by new y ≡ kept_by old y) same
+        (ap held_under (others name ∙ same_gets name (option_map (with_write w) (value_at name old)) (value_at name old)) ∙ held (value_at name old))
+
+pub write_kept : (es : Placed) (base : ℕ) (newest : Name → ℕ) (rows : List NodeRow) (old new : List (Name × Cell)) (name : Name) (w : Option (Box Write Global)) →
+    ((x : Name) → value_at x new ≡ cond (is_eq (name_cmp name x)) (option_map (with_write w) (value_at name old)) (value_at x old)) → IsTree es base newest rows old → IsTree es base newest rows new
+write_kept es base newest rows old new name w others tree = same_held es base newest rows (kept_by old) (kept_by new) (write_held old new name w others) tree
 
 -- a cell without a change has none to commit
 committed_none : (at : ℕ) (o : Option Cell) → written_lsn o ≡ None → option_map (committed at None) o ≡ o
@@ -130,3 +134,13 @@ none_committed cells name at none = (None, λ x. by_name x (same_or_other name x
     by_name x (inl same) =
         subst (λ (y : Name). value_at y cells ≡ cond (is_eq (name_cmp name y)) (option_map (committed at None) (value_at name cells)) (value_at y cells)) same
         (sym (committed_none at (value_at name cells) none) ∙ sym (same_gets name (option_map (committed at None) (value_at name cells)) (value_at name cells)))
+
+-- nodes that stay twice
+pub nodes_then : (a b c : List NodeRow) → AreSameNodes a b → AreSameNodes b c → AreSameNodes a c
+nodes_then a b c first next = record {
+  lows = next.lows ∙ first.lows;
+  each = λ level x n there.
+      let mid = next.each level x n there in
+      let was = first.each level x mid.0 mid.1 in
+      (was.0, was.1, record { number = mid.2.number ∙ was.2.number; last = mid.2.last ∙ was.2.last; forced = mid.2.forced ∙ was.2.forced });
+}

@@ -1,5 +1,5 @@
 -- Changes of a tree's records keep that it fits its log.
-use Rattle.std.proofs.Common.{◌≡◌, ◌<◌, ◌≤◌, ◌⊎◌, ℕ, List, Bool, true, false, cond, Option, None, Some, IsSome, option_map, refl, ap, sym, subst, ◌∙◌, inl, inr, arith, is_eq}
+use Rattle.std.proofs.Common.{◌≡◌, ◌<◌, ◌≤◌, ◌⊎◌, ℕ, List, Bool, true, false, cond, Option, None, Some, IsSome, option_map, refl, ap, ap₂, sym, subst, ◌∙◌, inl, inr, arith, is_eq}
 use Rattle.std.proofs.lemmas.Bool.{true≢false}
 use Rattle.std.proofs.lemmas.Option.{same_Some}
 use Rattle.je_order.specs.Order.{name_cmp}
@@ -8,18 +8,18 @@ use Rattle.record_map.specs.declared.cell.Cell.{Cell}
 use Rattle.node_core.specs.declared.slot.Version.{Version}
 use Rattle.node_core.specs.declared.slot.Version.TheVariants.{There, Deleted, Unset}
 use Rattle.node_core.specs.Changes.{is_committed}
-use Rattle.record_map.specs.Cells.{value_at, with_write}
+use Rattle.record_map.specs.Cells.{fresh, value_at, with_write}
 use Rattle.record_map.proofs.NameLaws.{same_or_other, name_same, other_stays, same_gets}
 use Rattle.tree_nodes.specs.declared.node.Node.{Node}
 use Rattle.tree_nodes.specs.Nodes.{NodeRow, IsUpTo, IsOver, earlier, marked}
 use Rattle.tree_nodes.specs.Levels.{row_of, HasMarkedAt, HasPutAt}
 use Rattle.db_tree.specs.Images.{Placed}
-use Rattle.db_tree.specs.Content.{held_by, lsn_of, lsn_under}
+use Rattle.db_tree.specs.Content.{Held, held_of, held_under, kept_by}
 use Rattle.db_tree.specs.Stored.{with_logged, version_logged}
-use Rattle.db_tree.specs.Trees.{IsTreeOf, IsBehind, IsMark, IsTree, HasCell, cell_or_fresh, given_up}
+use Rattle.db_tree.specs.Trees.{IsTreeOf, IsBehind, IsMark, IsTree, HasCell, KnowImages, cell_or_fresh, given_up}
 use Rattle.db_tree.proofs.Order.{same_up}
 use Rattle.db_tree.proofs.Over.{over_low, over_once}
-use Rattle.db_tree.proofs.Marking.{marked_or_split, committed}
+use Rattle.db_tree.proofs.Marking.{marked_or_split, committed, same_held}
 
 -- ---- marks
 
@@ -33,23 +33,21 @@ earlier_below (Some f) from = omega arith
 is_mark : (n : Node) (from : ℕ) → IsMark n (marked from n)
 is_mark n from = record { last = refl; from = λ f is. (earlier n.from from, refl, earlier_up n.from f from is) }
 
-pub marks : (es : Placed) (base : ℕ) (newest : Name → ℕ) (old new : List NodeRow) (held : Name → Option ℕ) (level : ℕ) (x : Name) (from : ℕ) →
+pub marks : (es : Placed) (base : ℕ) (newest : Name → ℕ) (old new : List NodeRow) (held : Name → Held) (level : ℕ) (x : Name) (from : ℕ) →
     HasMarkedAt old new level x from → IsTreeOf es base newest old held → IsTreeOf es base newest new held
 marks es base newest old new held level x from m tree =
     marked_or_split es base newest old new held level m.e.0 m.e.0 m.e.1 (marked from m.e.1) (over_low (row_of old level) m.e.0 m.e.1 m.over.there) m.put (is_mark m.e.1 from) tree
 
 -- a node waits to be logged
-pub waits : (es : Placed) (base : ℕ) (newest : Name → ℕ) (old new : List NodeRow) (held : Name → Option ℕ) (level : ℕ) (low : Name) (m n : Node) (from : ℕ) → value_at low (row_of old level) ≡ Some m →
+pub waits : (es : Placed) (base : ℕ) (newest : Name → ℕ) (old new : List NodeRow) (held : Name → Held) (level : ℕ) (low : Name) (m n : Node) (from : ℕ) → value_at low (row_of old level) ≡ Some m →
     HasPutAt old new level low n → n.last ≡ m.last → n.from ≡ Some (earlier m.from from) → IsTreeOf es base newest old held → IsTreeOf es base newest new held
 waits es base newest old new held level low m n from there put last is tree =
     marked_or_split es base newest old new held level low low m n (over_low (row_of old level) low m there) put
     (record { last = last; from = λ f own. (earlier m.from from, is, earlier_up m.from f from own) }) tree
 
 -- the node over a name after it was marked
-pub over_marked : (old new : List NodeRow) (level : ℕ) (x : Name) (from : ℕ) (e : Name × Node) → (m : HasMarkedAt old new level x from) → IsOver (row_of new level) x e → e.1 ≡ marked from m.e.1
-over_marked old new level x from e m over =
-    let names : e.0 ≡ m.e.0 = over_once (row_of new level) x e (m.e.0, marked from m.e.1) over is_over in
-    same_Some e.1 (marked from m.e.1) (sym over.there ∙ ap (λ (y : Name). value_at y (row_of new level)) names ∙ here)
+pub marked_over : (old new : List NodeRow) (level : ℕ) (x : Name) (from : ℕ) → (m : HasMarkedAt old new level x from) → IsOver (row_of new level) x (m.e.0, marked from m.e.1)
+marked_over old new level x from m = record { there = here; below = m.over.below; most = most }
   where
     here : value_at m.e.0 (row_of new level) ≡ Some (marked from m.e.1)
     here = m.put.here m.e.0 ∙ same_gets m.e.0 (Some (marked from m.e.1)) (value_at m.e.0 (row_of old level))
@@ -61,17 +59,20 @@ over_marked old new level x from e m over =
         by_name (inl same) = same_up q m.e.0 (sym same)
         by_name (inr apart) = m.over.most q (subst IsSome (m.put.here q ∙ other_stays m.e.0 q (Some (marked from m.e.1)) (value_at q (row_of old level)) apart) there) up
 
-    is_over : IsOver (row_of new level) x (m.e.0, marked from m.e.1)
-    is_over = record { there = here; below = m.over.below; most = most }
+pub over_marked : (old new : List NodeRow) (level : ℕ) (x : Name) (from : ℕ) (e : Name × Node) → (m : HasMarkedAt old new level x from) → IsOver (row_of new level) x e → e.1 ≡ marked from m.e.1
+over_marked old new level x from e m over =
+    let is_over : IsOver (row_of new level) x (m.e.0, marked from m.e.1) = marked_over old new level x from m in
+    let names : e.0 ≡ m.e.0 = over_once (row_of new level) x e (m.e.0, marked from m.e.1) over is_over in
+    same_Some e.1 (marked from m.e.1) (sym over.there ∙ ap (λ (y : Name). value_at y (row_of new level)) names ∙ is_over.there)
 
 -- ---- commits
 
 -- a name's BIN is marked, and the name has other data
-pub changes : (es : Placed) (base : ℕ) (newest : Name → ℕ) (old new : List NodeRow) (held next : Name → Option ℕ) (name : Name) (from : ℕ) →
+pub changes : (es : Placed) (base : ℕ) (newest : Name → ℕ) (old new : List NodeRow) (held next : Name → Held) (name : Name) (from : ℕ) →
     HasMarkedAt old new 0 name from → (from ≤ newest name) ⊎ (from < base) → ((x : Name) → is_eq (name_cmp name x) ≡ false → next x ≡ held x) →
-    IsTreeOf es base newest old held → IsTreeOf es base newest new next
-changes es base newest old new held next name from m marked others tree =
-    committed es base newest new held next (λ x e over. by_name x e over (same_or_other name x)) (marks es base newest old new held 0 name from m tree)
+    KnowImages es base new next → IsTreeOf es base newest old held → IsTreeOf es base newest new next
+changes es base newest old new held next name from m marked others know tree =
+    committed es base newest new held next (λ x e over. by_name x e over (same_or_other name x)) know (marks es base newest old new held 0 name from m tree)
   where
     behind : (e : Name × Node) → IsOver (row_of new 0) name e → IsBehind base newest e.1 name
     behind e over = (earlier m.e.1.from from, ap (λ (n : Node). n.from) (over_marked old new 0 name from e m over), by_mark marked)
@@ -80,37 +81,39 @@ changes es base newest old new held next name from m marked others tree =
         by_mark (inl le) = let low : earlier m.e.1.from from ≤ from = earlier_below m.e.1.from from in inl (omega (arith, low, le))
         by_mark (inr less) = let low : earlier m.e.1.from from ≤ from = earlier_below m.e.1.from from in inr (omega (arith, low, less))
 
-    by_name : (x : Name) (e : Name × Node) → IsOver (row_of new 0) x e → (name ≡ x) ⊎ (is_eq (name_cmp name x) ≡ false) → (next x ≡ held x) ⊎ IsBehind base newest e.1 x
+    by_name : (x : Name) (e : Name × Node) → IsOver (row_of new 0) x e → (name ≡ x) ⊎ (is_eq (name_cmp name x) ≡ false) → ((next x).version ≡ (held x).version) ⊎ IsBehind base newest e.1 x
     by_name x e over (inl same) = inr (subst (λ (y : Name). IsBehind base newest e.1 y) same (behind e (subst (λ (y : Name). IsOver (row_of new 0) y e) (sym same) over)))
-    by_name x e over (inr apart) = inl (others x apart)
+    by_name x e over (inr apart) = inl (ap (λ (h : Held). h.version) (others x apart))
 
-pub commits : (es : Placed) (base : ℕ) (newest : Name → ℕ) (old new : List NodeRow) (held next : Name → Option ℕ) (name : Name) (from : ℕ) →
+pub commits : (es : Placed) (base : ℕ) (newest : Name → ℕ) (old new : List NodeRow) (held next : Name → Held) (name : Name) (from : ℕ) →
     HasMarkedAt old new 0 name from → from ≤ newest name → ((x : Name) → is_eq (name_cmp name x) ≡ false → next x ≡ held x) →
-    IsTreeOf es base newest old held → IsTreeOf es base newest new next
-commits es base newest old new held next name from m le others tree = changes es base newest old new held next name from m (inl le) others tree
+    KnowImages es base new next → IsTreeOf es base newest old held → IsTreeOf es base newest new next
+commits es base newest old new held next name from m le others know tree = changes es base newest old new held next name from m (inl le) others know tree
 
 -- cells that differ at one name alone hold the same under the others
 pub held_apart : (old new : List (Name × Cell)) (name : Name) (o : Option Cell) → ((x : Name) → value_at x new ≡ cond (is_eq (name_cmp name x)) o (value_at x old)) →
-    (x : Name) → is_eq (name_cmp name x) ≡ false → held_by new x ≡ held_by old x
-held_apart old new name o has x apart = ap lsn_under (has x ∙ other_stays name x o (value_at x old) apart)
+    (x : Name) → is_eq (name_cmp name x) ≡ false → kept_by new x ≡ kept_by old x
+held_apart old new name o has x apart = ap held_under (has x ∙ other_stays name x o (value_at x old) apart)
 
 -- ---- changes that are not committed
 
-fresh_holds : (o : Option Cell) → lsn_of (cell_or_fresh o).version ≡ lsn_under o
+pub fresh_holds : (o : Option Cell) → held_of (cell_or_fresh o) ≡ held_under o
 fresh_holds None = refl
 fresh_holds (Some cell) = refl
 
--- what is held stays where the one name that changed has the same version
-pub holds : (es : Placed) (base : ℕ) (newest : Name → ℕ) (rows : List NodeRow) (old new : List (Name × Cell)) (name : Name) (cell : Cell) →
-    HasCell old new name cell → cell.version ≡ (cell_or_fresh (value_at name old)).version → IsTree es base newest rows old → IsTree es base newest rows new
-holds es base newest rows old new name cell has same tree =
-    committed es base newest rows (held_by old) (held_by new) (λ x e over. inl (by_name x (same_or_other name x))) tree
+-- what is held stays where the one name that changed has what it had
+pub same_kept : (old new : List (Name × Cell)) (name : Name) (cell : Cell) → HasCell old new name cell → held_of cell ≡ held_of (cell_or_fresh (value_at name old)) → (x : Name) → kept_by new x ≡ kept_by old x
+same_kept old new name cell has same x = by_name (same_or_other name x)
   where
-    by_name : (x : Name) → (name ≡ x) ⊎ (is_eq (name_cmp name x) ≡ false) → held_by new x ≡ held_by old x
-    by_name x (inl is) =
-        subst (λ (y : Name). held_by new y ≡ held_by old y) is
-        (ap lsn_under (has name ∙ same_gets name (Some cell) (value_at name old)) ∙ ap lsn_of same ∙ fresh_holds (value_at name old))
-    by_name x (inr apart) = held_apart old new name (Some cell) has x apart
+    by_name : (name ≡ x) ⊎ (is_eq (name_cmp name x) ≡ false) → kept_by new x ≡ kept_by old x
+    by_name (inl is) =
+        subst (λ (y : Name). kept_by new y ≡ kept_by old y) is
+        (ap held_under (has name ∙ same_gets name (Some cell) (value_at name old)) ∙ same ∙ fresh_holds (value_at name old))
+    by_name (inr apart) = held_apart old new name (Some cell) has x apart
+
+pub holds : (es : Placed) (base : ℕ) (newest : Name → ℕ) (rows : List NodeRow) (old new : List (Name × Cell)) (name : Name) (cell : Cell) →
+    HasCell old new name cell → held_of cell ≡ held_of (cell_or_fresh (value_at name old)) → IsTree es base newest rows old → IsTree es base newest rows new
+holds es base newest rows old new name cell has same tree = same_held es base newest rows (kept_by old) (kept_by new) (same_kept old new name cell has same) tree
 
 -- a cell that is there
 pub kept_cell : (cells : List (Name × Cell)) (name : Name) (cell : Cell) → value_at name cells ≡ Some cell → HasCell cells cells name (cell_or_fresh (value_at name cells))
@@ -136,6 +139,20 @@ there_cell cells name some = by_value (value_at name cells) refl some
 pub logged_version : (value : Option (List ℕ)) (at commit : ℕ) (last : Option ℕ) (cell : Cell) → (with_logged value at commit last cell).version ≡ version_logged at value
 logged_version None at commit last cell = refl
 logged_version (Some value) at commit last cell = refl
+
+-- what is committed of a cell, logged again
+abbrev held_with : Version → Version → ℕ → Held
+held_with version shown touched = record { version = version; shown = shown; touched = touched }
+
+pub again_holds : (value : Option (List ℕ)) (at commit : ℕ) (cell : Cell) → version_logged at value ≡ cell.version → commit ≡ cell.touched → held_of (with_logged value at commit None cell) ≡ held_of cell
+again_holds value at commit cell version touched = by_value value version
+  where
+    whole : (v : Version) → v ≡ cell.version → held_with v cell.shown commit ≡ held_with cell.version cell.shown cell.touched
+    whole v is = ap₂ (λ (k : Version) (t : ℕ). held_with k cell.shown t) is touched
+
+    by_value : (v : Option (List ℕ)) → version_logged at v ≡ cell.version → held_of (with_logged v at commit None cell) ≡ held_of cell
+    by_value None is = whole Deleted is
+    by_value (Some bytes) is = whole (There at) is
 
 pub cell_there : (old new : List (Name × Cell)) (name : Name) (cell : Cell) → HasCell old new name cell → value_at name new ≡ Some cell
 cell_there old new name cell has = has name ∙ same_gets name (Some cell) (value_at name old)
@@ -174,22 +191,26 @@ nothing_given cells name none x = by_name (same_or_other name x)
         (sym here ∙ sym (same_gets name (given_up (value_at name cells)) (value_at name cells)))
     by_name (inr apart) = sym (other_stays name x (given_up (value_at name cells)) (value_at x cells) apart)
 
-given_holds : (o : Option Cell) → lsn_under (given_up o) ≡ lsn_under o
-given_holds None = refl
-given_holds (Some cell) = by_version cell.version refl
+given_holds : (o : Option Cell) → ((held_under o).version ≡ Unset → held_under o ≡ held_of fresh) → held_under (given_up o) ≡ held_under o
+given_holds None unset = refl
+given_holds (Some cell) unset = by_version cell.version refl
   where
-    by_version : (v : Version) → cell.version ≡ v → lsn_under (cond (is_committed cell.version) (Some (with_write None cell)) None) ≡ lsn_of cell.version
-    by_version (There lsn) is = ap (λ (k : Version). lsn_under (cond (is_committed k) (Some (with_write None cell)) None)) is
-    by_version Deleted is = ap (λ (k : Version). lsn_under (cond (is_committed k) (Some (with_write None cell)) None)) is
-    by_version Unset is = ap (λ (k : Version). lsn_under (cond (is_committed k) (Some (with_write None cell)) None)) is ∙ sym (ap lsn_of is)
+    by_version : (v : Version) → cell.version ≡ v → held_under (cond (is_committed cell.version) (Some (with_write None cell)) None) ≡ held_of cell
+    by_version (There lsn) is = ap (λ (k : Version). held_under (cond (is_committed k) (Some (with_write None cell)) None)) is
+    by_version Deleted is = ap (λ (k : Version). held_under (cond (is_committed k) (Some (with_write None cell)) None)) is
+    by_version Unset is = ap (λ (k : Version). held_under (cond (is_committed k) (Some (with_write None cell)) None)) is ∙ sym (unset is)
+
+-- what is held stays where of a name of which nothing is committed no image says anything
+pub given_kept : (old new : List (Name × Cell)) (name : Name) → ((x : Name) → value_at x new ≡ cond (is_eq (name_cmp name x)) (given_up (value_at name old)) (value_at x old)) →
+    ((kept_by old name).version ≡ Unset → kept_by old name ≡ held_of fresh) → (x : Name) → kept_by new x ≡ kept_by old x
+given_kept old new name has unset x = by_name (same_or_other name x)
+  where
+    by_name : (name ≡ x) ⊎ (is_eq (name_cmp name x) ≡ false) → kept_by new x ≡ kept_by old x
+    by_name (inl is) =
+        subst (λ (y : Name). kept_by new y ≡ kept_by old y) is
+        (ap held_under (has name ∙ same_gets name (given_up (value_at name old)) (value_at name old)) ∙ given_holds (value_at name old) unset)
+    by_name (inr apart) = held_apart old new name (given_up (value_at name old)) has x apart
 
 pub gives_up : (es : Placed) (base : ℕ) (newest : Name → ℕ) (rows : List NodeRow) (old new : List (Name × Cell)) (name : Name) →
     ((x : Name) → value_at x new ≡ cond (is_eq (name_cmp name x)) (given_up (value_at name old)) (value_at x old)) → IsTree es base newest rows old → IsTree es base newest rows new
-gives_up es base newest rows old new name has tree =
-    committed es base newest rows (held_by old) (held_by new) (λ x e over. inl (by_name x (same_or_other name x))) tree
-  where
-    by_name : (x : Name) → (name ≡ x) ⊎ (is_eq (name_cmp name x) ≡ false) → held_by new x ≡ held_by old x
-    by_name x (inl is) =
-        subst (λ (y : Name). held_by new y ≡ held_by old y) is
-        (ap lsn_under (has name ∙ same_gets name (given_up (value_at name old)) (value_at name old)) ∙ given_holds (value_at name old))
-    by_name x (inr apart) = held_apart old new name (given_up (value_at name old)) has x apart
+gives_up es base newest rows old new name has tree = same_held es base newest rows (kept_by old) (kept_by new) (given_kept old new name has (tree.know.unset name)) tree

@@ -16,6 +16,7 @@ use Rattle.db_tree.specs.Content.{child_slot_for, child_slots, lsn_of, in_image}
 use Rattle.db_tree.specs.Splitting.{children_in, split_off, AreSameByName}
 use Rattle.db_tree.specs.Laws.{TreesAreByName}
 use Rattle.db_tree.specs.Trees.{IsMark}
+use Rattle.db_tree.proofs.Says.{know_come}
 
 -- what is split off has the image and the mark of what it was part of
 pub split_is_mark : (node : Node) (number slots : ℕ) → IsMark node (split_off number slots node)
@@ -63,6 +64,7 @@ by_name es base newest old new held same tree = record {
   inner = λ level x e c over lower. tree.inner level x e c (over_same (row_of old (suc level)) (row_of new (suc level)) x e (same (suc level)) over) (over_same (row_of old level) (row_of new level) x c (same level) lower);
   names = λ level x e c at over lower is.
       tree.names level x e c at (over_same (row_of old (suc level)) (row_of new (suc level)) x e (same (suc level)) over) (over_same (row_of old level) (row_of new level) x c (same level) lower) is;
+  know = know_come es base old new held (λ x e over. (e, over_same (row_of old 0) (row_of new 0) x e (same 0) over, refl)) tree.know;
 }
 
 pub level_cases : (k level : ℕ) → (k ≡ level) ⊎ (k ≡ level → ⊥)

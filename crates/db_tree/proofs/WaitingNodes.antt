@@ -27,7 +27,7 @@ use Rattle.db_tree.proofs.NodeSteps.{put_here, put_elsewhere, IsElsewhere}
 use Rattle.db_tree.proofs.WaitLaws.{put_lows}
 
 itself : (n : Node) → MayWait false n n
-itself n = record { number = refl; last = refl; waits = λ h. absurd (true≢false (sym h)); still = λ h. h }
+itself n = record { number = refl; last = refl; waits = λ h. absurd (true≢false (sym h)); still = λ h. h; mark = λ h. refl }
 
 -- ---- one node
 
@@ -57,6 +57,7 @@ waiting_put old new level low m n was are there put number last forced = record 
       last = sym (ap (λ (i : Node). i.last) same) ∙ last;
       waits = λ h. sym (ap (λ (i : Node). i.forced) same) ∙ forced;
       still = λ h. absurd (true≢false (sym forced ∙ ap (λ (i : Node). i.forced) same ∙ h));
+      mark = λ h. absurd (true≢false h);
     }
 
     by_case : (k : ℕ) (x : Name) (o : Node) → value_at x (row_of new k) ≡ Some o → ((level ≡ k) × (low ≡ x) × (is_among (one_at level low) k x ≡ true)) ⊎ ((is_among (one_at level low) k x ≡ false) × IsElsewhere level low k x) →
@@ -84,8 +85,14 @@ waiting_then a b old mid new first second = record { lows = second.lows ∙ firs
       last = late.last ∙ early.last;
       waits = λ h. by_tests (is_among a k x) refl (is_among b k x) refl (sym (list_any-append (λ (p : NodeAt). (p.level == k) && is_same_name p.low x) a b) ∙ h);
       still = λ h. early.still (late.still h);
+      mark = λ h. by_sides (is_among a k x) refl (is_among b k x) refl (sym (list_any-append (λ (p : NodeAt). (p.level == k) && is_same_name p.low x) a b) ∙ h);
     }
       where
+        by_sides : (s : Bool) → is_among a k x ≡ s → (t : Bool) → is_among b k x ≡ t → (is_among a k x || is_among b k x) ≡ false → n.from ≡ o.from
+        by_sides false is_a false is_b h = late.mark is_b ∙ early.mark is_a
+        by_sides true is_a t is_b h = absurd (true≢false (sym (ap (λ (u : Bool). u || is_among b k x) is_a) ∙ h))
+        by_sides false is_a true is_b h = absurd (true≢false (sym (ap₂ (λ (u w : Bool). u || w) is_a is_b) ∙ h))
+
         by_forced : (t : Bool) → n.forced ≡ t → m.forced ≡ true → n.forced ≡ true
         by_forced true h waits = h
         by_forced false h waits = absurd (true≢false (sym waits ∙ late.still h))

@@ -1,5 +1,5 @@
 -- The content of nodes: what is committed under names, and the images that are made of it.
-use Rattle.std.specs.Prelude.{ℕ, List, [], ◌∷◌, Option, Some, None}
+use Rattle.std.specs.Prelude.{ℕ, List, [], ◌∷◌, Option, Some, None, nat_lt, if◌then◌else◌}
 use Rattle.std.specs.List.{flat_map}
 use Rattle.je_order.specs.Edges.Edge.{At}
 use Rattle.je_order.specs.declared.name.Name.{Name}
@@ -10,7 +10,7 @@ use Rattle.log_entry.specs.declared.entry.Entry.TheVariants.{In, Bin}
 use Rattle.node_core.specs.declared.slot.Version.{Version}
 use Rattle.node_core.specs.declared.slot.Version.TheVariants.{There, Deleted, Unset}
 use Rattle.record_map.specs.declared.cell.Cell.{Cell}
-use Rattle.record_map.specs.Cells.{value_at, between_edges, upper_edge}
+use Rattle.record_map.specs.Cells.{value_at, between_edges, fresh, upper_edge}
 use Rattle.tree_nodes.specs.Nodes.{NodeRow, low_behind}
 
 -- the LSN of a record that is committed
@@ -19,13 +19,37 @@ lsn_of (There lsn) = Some lsn
 lsn_of Deleted = None
 lsn_of Unset = None
 
+-- what is held of a name: what is committed of it, by which Commit, and what the last image of its BIN says of it if that stands before
+-- this Commit
+pub record Held : Type 0 where
+  pub version : Version
+  pub shown : Version
+  pub touched : ℕ
+
+-- so it is in a cell; of a name without a cell nothing is committed
+abbrev pub held_of : Cell → Held
+held_of cell = record { version = cell.version; shown = cell.shown; touched = cell.touched }
+
+abbrev pub held_under : Option Cell → Held
+held_under None = held_of fresh
+held_under (Some cell) = held_of cell
+
+abbrev pub kept_by : List (Name × Cell) → Name → Held
+kept_by cells x = held_under (value_at x cells)
+
+-- what the last image of a name's BIN says of it, by the image's LSN
+abbrev pub shown_held : ℕ → Held → Version
+shown_held last held = if nat_lt last held.touched then held.shown else held.version
+
 abbrev pub lsn_under : Option Cell → Option ℕ
-lsn_under None = None
-lsn_under (Some cell) = lsn_of cell.version
+lsn_under o = lsn_of (held_under o).version
 
 -- what is committed under each name
 abbrev pub held_by : List (Name × Cell) → Name → Option ℕ
 held_by cells x = lsn_under (value_at x cells)
+
+abbrev pub lsn_held : (Name → Held) → Name → Option ℕ
+lsn_held held x = lsn_of (held x).version
 
 -- the slot of a cell in its BIN's image; a cell of which nothing is committed has none
 abbrev pub slot_for : Name → Version → List RecordSlot

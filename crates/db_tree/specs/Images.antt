@@ -8,6 +8,8 @@ use Rattle.log_entry.specs.declared.child_slot.ChildSlot.{ChildSlot}
 use Rattle.log_entry.specs.declared.record_slot.RecordSlot.{RecordSlot}
 use Rattle.log_entry.specs.declared.entry.Entry.{Entry}
 use Rattle.log_entry.specs.declared.entry.Entry.TheVariants.{In, Bin}
+use Rattle.node_core.specs.declared.slot.Version.{Version}
+use Rattle.node_core.specs.declared.slot.Version.TheVariants.{There, Deleted, Unset}
 
 -- a log's entries with their LSNs
 abbrev pub Placed : Type 0
@@ -26,6 +28,20 @@ lsn_in (Some slot) = slot.lsn
 abbrev pub record_in : Option Entry → Name → Option ℕ
 record_in (Some (Bin db node slots)) x = lsn_in (find (λ slot. is_eq (name_cmp x slot.name)) slots)
 record_in entry x = None
+
+-- what the slot of a BIN's image says of its name: where a record stands, or that it was deleted; a name without a slot has nothing committed
+abbrev pub version_of_slot : Option ℕ → Version
+version_of_slot None = Deleted
+version_of_slot (Some lsn) = There lsn
+
+abbrev pub slot_version : Option RecordSlot → Version
+slot_version None = Unset
+slot_version (Some slot) = version_of_slot slot.lsn
+
+-- what the image of a BIN says of a name; of another entry nothing
+abbrev pub version_in : Option Entry → Name → Version
+version_in (Some (Bin db node slots)) x = slot_version (find (λ slot. is_eq (name_cmp x slot.name)) slots)
+version_in entry x = Unset
 
 -- the image of the child over a name: that of the last slot up to it, which is the first slot where no other is
 abbrev pub child_behind : Name → ℕ → List ChildSlot → ℕ
@@ -50,6 +66,11 @@ shows es (suc level) at x = option_and_then (λ child. shows es level child x) (
 abbrev pub shown : Placed → ℕ → Option ℕ → Name → Option ℕ
 shown es level None x = None
 shown es level (Some at) x = shows es level at x
+
+-- what a BIN's last image says of a name; a BIN without an image says nothing
+abbrev pub says : Placed → Option ℕ → Name → Version
+says es None x = Unset
+says es (Some at) x = version_in (entry_at es at) x
 
 -- the entry is an image of a BIN
 abbrev pub IsBin : Option Entry → Type 0

@@ -14,3 +14,4 @@ pub mod Numbers
 pub mod NodeSteps
 pub mod Loading
 pub mod Notes
+pub mod Dirty

@@ -6,6 +6,7 @@ use Rattle.node_core.specs.declared.slot.Version.TheVariants.{Deleted}
 use Rattle.record_map.specs.declared.cell.Cell.{Cell}
 use Rattle.record_map.specs.Cells.{value_at}
 use Rattle.record_tree.specs.LoadedNodes.{LoadedNode}
+use Rattle.record_tree.specs.LoadedSlots.{ReadSlot}
 use Rattle.tree_nodes.specs.declared.node.Node.{Node}
 use Rattle.tree_nodes.specs.Nodes.{NodeRow, least}
 use Rattle.tree_nodes.specs.Levels.{row_of}
@@ -50,3 +51,7 @@ deleted_cell at = record { version = Deleted; shown = Deleted; touched = at; «d
 -- of the names that a test finds, each that has no slot got that cell; all else is as before
 abbrev pub GetsDeletions : (Name → Bool) → ℕ → List (Name × Cell) → List (Name × Cell) → Type 0
 GetsDeletions shown at old new = (x : Name) → value_at x new ≡ (if shown x && not (has_version (value_at x old)) then Some (deleted_cell at) else value_at x old)
+
+-- what is read of a name, as its cell has it
+abbrev pub slot_read : Cell → ReadSlot
+slot_read cell = record { version = cell.version; shown = cell.shown; touched = cell.touched }

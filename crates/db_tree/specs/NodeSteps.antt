@@ -40,12 +40,13 @@ pub record IsNoted (old new : List NodeRow) (level : ℕ) (low : Name) (at : ℕ
   pub here : (n : Node) → value_at low (row_of new level) ≡ Some n → (m : Node) × (value_at low (row_of old level) ≡ Some m) × IsLogged at m n
   pub others : (k : ℕ) (x : Name) (n : Node) → (k ≡ level → x ≡ low → ⊥) → value_at x (row_of new k) ≡ Some n → WasThere old k x n
 
--- a node is another one, perhaps with another mark, and waits to be logged if it did or is to now
+-- a node is another one, and waits to be logged if it did or is to now, perhaps with another mark then
 pub record MayWait (is_to : Bool) (old new : Node) : Type 0 where
   pub number : new.number ≡ old.number
   pub last : new.last ≡ old.last
   pub waits : is_to ≡ true → new.forced ≡ true
   pub still : new.forced ≡ false → old.forced ≡ false
+  pub mark : is_to ≡ false → new.from ≡ old.from
 
 -- some nodes wait to be logged now; else each node is as it was but for its mark
 pub record AreWaiting (nodes : List NodeAt) (old new : List NodeRow) : Type 0 where
@@ -80,11 +81,6 @@ abbrev pub written_lsn : Option Cell → Option ℕ
 written_lsn o = option_and_then (λ cell. option_map (λ w. w.value.at) cell.write) o
 
 -- ---- marks
-
--- the BIN over a name is marked from where the name's change was logged, if it has one
-abbrev pub IsMarkedFrom : Option ℕ → List NodeRow → List NodeRow → Name → Type 0
-IsMarkedFrom None old new x = new ≡ old
-IsMarkedFrom (Some from) old new x = HasMarkedAt old new 0 x from
 
 -- from which LSN on the node above one lacks what an image of that one has, which was logged at another LSN: from its mark on, if it has one
 abbrev pub mark_above : Option ℕ → ℕ → ℕ

@@ -1,5 +1,6 @@
 -- How a tree stands to the log: what its nodes' last images show, and which nodes are behind.
 use Rattle.std.specs.Prelude.{◌≡◌, ◌<◌, ◌≤◌, ◌⊎◌, ℕ, zero, suc, List, Option, Some, None, if◌then◌else◌}
+use Rattle.std.specs.List.{AllByRecursion}
 use Rattle.std.specs.Ordering.{is_eq}
 use Rattle.je_order.specs.Order.{name_cmp}
 use Rattle.je_order.specs.declared.name.Name.{Name}
@@ -8,9 +9,10 @@ use Rattle.tree_nodes.specs.Nodes.{NodeRow, IsOver}
 use Rattle.tree_nodes.specs.Levels.{row_of}
 use Rattle.record_map.specs.declared.cell.Cell.{Cell}
 use Rattle.node_core.specs.Changes.{is_committed}
+use Rattle.node_core.specs.declared.slot.Version.TheVariants.{Unset}
 use Rattle.record_map.specs.Cells.{value_at, fresh, with_write}
-use Rattle.db_tree.specs.Images.{Placed, entry_at, child_in, shown, shows, IsRead}
-use Rattle.db_tree.specs.Content.{held_by}
+use Rattle.db_tree.specs.Images.{Placed, entry_at, child_in, says, shown, shows, version_in, IsRead}
+use Rattle.db_tree.specs.Content.{Held, held_of, kept_by, shown_held}
 
 -- a node is marked for a name: the log has a committed change of the name at the mark or behind it, or the
 -- mark is older than this life of the environment, which begins at `base`
@@ -21,27 +23,37 @@ IsBehind base newest node x = (from : ℕ) × (node.from ≡ Some from) × ((fro
 abbrev pub IsMarked : Node → Type 0
 IsMarked node = (from : ℕ) × (node.from ≡ Some from)
 
--- a tree of a log: `newest` has the LSN of each name's newest committed change, `held` the LSN of what is committed
-pub record IsTreeOf (es : Placed) (base : ℕ) (newest : Name → ℕ) (rows : List NodeRow) (held : Name → Option ℕ) : Type 0 where
+-- what is held of names knows what the last images of their BINs say of them, and was committed before all that is logged next in this life of the
+-- environment, which begins at `base`
+pub record KnowImages (es : Placed) (base : ℕ) (rows : List NodeRow) (held : Name → Held) : Type 0 where
+  pub shown : (x : Name) (e : Name × Node) (at : ℕ) → IsOver (row_of rows 0) x e → e.1.last ≡ Some at → version_in (entry_at es at) x ≡ shown_held at (held x)
+  -- of a name of which nothing is committed no image says anything
+  pub unset : (x : Name) → (held x).version ≡ Unset → held x ≡ held_of fresh
+  pub touched : (x : Name) (next : ℕ) → base ≤ next → AllByRecursion (λ p. p.0 < next) es → (held x).touched ≤ next
+
+-- a tree of a log: `newest` has the LSN of each name's newest committed change, `held` what is held of it
+pub record IsTreeOf (es : Placed) (base : ℕ) (newest : Name → ℕ) (rows : List NodeRow) (held : Name → Held) : Type 0 where
   -- the images that a node's last image leads to are there
   pub reads : (level : ℕ) (x : Name) (e : Name × Node) (at : ℕ) → IsOver (row_of rows level) x e → e.1.last ≡ Some at → IsRead es level at x
-  -- a BIN's last image shows what is committed, or the BIN is marked
-  pub leaf : (x : Name) (e : Name × Node) → IsOver (row_of rows 0) x e → (shown es 0 e.1.last x ≡ held x) ⊎ IsBehind base newest e.1 x
+  -- a BIN's last image says what is committed, or the BIN is marked
+  pub leaf : (x : Name) (e : Name × Node) → IsOver (row_of rows 0) x e → (says es e.1.last x ≡ (held x).version) ⊎ IsBehind base newest e.1 x
   -- an IN's last image shows what its child's does, or the IN is marked
   pub inner : (level : ℕ) (x : Name) (e c : Name × Node) → IsOver (row_of rows (suc level)) x e → IsOver (row_of rows level) x c →
       (shown es (suc level) e.1.last x ≡ shown es level c.1.last x) ⊎ IsBehind base newest e.1 x
   -- and names its child's last image, or the IN is marked
   pub names : (level : ℕ) (x : Name) (e c : Name × Node) (at : ℕ) → IsOver (row_of rows (suc level)) x e → IsOver (row_of rows level) x c → e.1.last ≡ Some at →
       (child_in (entry_at es at) x ≡ c.1.last) ⊎ IsMarked e.1
+  pub know : KnowImages es base rows held
 
 -- a node is another one, perhaps with an earlier mark
 pub record IsMark (old new : Node) : Type 0 where
   pub last : new.last ≡ old.last
   pub from : (f : ℕ) → old.from ≡ Some f → (g : ℕ) × (new.from ≡ Some g) × (g ≤ f)
 
--- the image at an LSN has the content of the node of a level with a low: what is committed, or what its children's last images show
-abbrev pub ShowsContent : Placed → List NodeRow → (Name → Option ℕ) → ℕ → ℕ → Name → Type 0
-ShowsContent es rows held zero at x = shows es zero at x ≡ held x
+-- the image at an LSN has the content of the node of a level with a low: what is committed, by Commits before the image, or what its
+-- children's last images show
+abbrev pub ShowsContent : Placed → List NodeRow → (Name → Held) → ℕ → ℕ → Name → Type 0
+ShowsContent es rows held zero at x = (version_in (entry_at es at) x ≡ (held x).version) × ((held x).touched ≤ at)
 ShowsContent es rows held (suc level) at x = (c : Name × Node) → IsOver (row_of rows level) x c → shows es (suc level) at x ≡ shown es level c.1.last x
 
 -- the image at an LSN names the last images of the children of the node of a level with a low; a BIN has none
@@ -49,7 +61,7 @@ abbrev pub NamesChildren : Placed → List NodeRow → ℕ → ℕ → Name → 
 NamesChildren es rows zero at x = Unit {0}
 NamesChildren es rows (suc level) at x = (c : Name × Node) → IsOver (row_of rows level) x c → child_in (entry_at es at) x ≡ c.1.last
 
-pub record IsImageOf (es : Placed) (rows : List NodeRow) (held : Name → Option ℕ) (level : ℕ) (e : Name × Node) (at : ℕ) : Type 0 where
+pub record IsImageOf (es : Placed) (rows : List NodeRow) (held : Name → Held) (level : ℕ) (e : Name × Node) (at : ℕ) : Type 0 where
   pub reads : (x : Name) → IsOver (row_of rows level) x e → IsRead es level at x
   pub shows : (x : Name) → IsOver (row_of rows level) x e → ShowsContent es rows held level at x
   pub names : (x : Name) → IsOver (row_of rows level) x e → NamesChildren es rows level at x
@@ -61,7 +73,7 @@ IsHandedOn rows level low node =
 
 -- a database's tree fits a log: of what its cells hold
 abbrev pub IsTree : Placed → ℕ → (Name → ℕ) → List NodeRow → List (Name × Cell) → Type 0
-IsTree es base newest rows cells = IsTreeOf es base newest rows (held_by cells)
+IsTree es base newest rows cells = IsTreeOf es base newest rows (kept_by cells)
 
 -- the cell of a name, or one of which nothing is committed
 abbrev pub cell_or_fresh : Option Cell → Cell

@@ -1,5 +1,5 @@
 // What holds of every tree of a log.
-ghost use Rattle.db_tree.specs.Laws.{TreesStayInLongerLogs, TreesAreSplitAndMarked, TreesAreCommitted, TreesAreLogged, TreesAreRaised, TreesAreByName, TreesAreCovered, BinImagesShowCells, InImagesShowChildren, ImagesAreFew, NodesAreFew};
+ghost use Rattle.db_tree.specs.Laws.{TreesStayInLongerLogs, TreesAreSplitAndMarked, TreesAreCommitted, TreesAreLogged, TreesAreRaised, TreesAreByName, TreesAreCovered, BinsAreDirtyByContent, BinImagesShowCells, InImagesShowChildren, ImagesAreFew, NodesAreFew};
 
 /// Each step of a tree and its log keeps that the tree fits the log: the log gets an entry of any kind; a
 /// node is marked, or split by a copy of it that takes part of its names; records are committed whose BINs are marked; a
@@ -17,6 +17,12 @@ pub fn trees_fit_their_log()
 /// committed, or the name's newest committed change is at the redo LSN or behind it.
 pub fn trees_are_covered()
     ensures { TreesAreCovered }
+{}
+
+/// A BIN is dirty by its content: where it does not wait to be logged, it is clean exactly where its last image says of each of its names what is
+/// committed.
+pub fn bins_are_dirty_by_content()
+    ensures { BinsAreDirtyByContent }
 {}
 
 /// The image that is made of a BIN's cells shows what is committed of them; the image that is made of an IN's children shows what

@@ -23,6 +23,7 @@ pub mod noting;
 pub mod placing;
 pub mod planning;
 pub mod reading;
+pub mod settling;
 pub mod slot_room;
 pub mod splitting;
 pub mod tree;

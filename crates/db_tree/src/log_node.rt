@@ -1,16 +1,18 @@
 // Logging a node.
-ghost use Rattle.std.specs.Prelude.{◌≡◌, ◌≤◌, ◌<◌, ◌++◌, ◌∷◌, ℕ, [], suc, Option, None, Some, IsSome, IfOk, OnErr, length};
+ghost use Rattle.std.specs.Prelude.{◌≡◌, ◌≤◌, ◌<◌, ◌++◌, ◌∷◌, ℕ, [], suc, Option, None, Some, IsSome, IfOk, OnErr, length, List as Items};
 ghost use Rattle.je_order.specs.declared.name.Name.{Name};
 ghost use Rattle.log_entry.specs.Body.{IsEntry};
 ghost use Rattle.record_map.specs.Cells.{value_at, IsRising};
 ghost use Rattle.tree_nodes.specs.Levels.{row_of, AreParts};
+ghost use Rattle.db_tree.specs.declared.node_at.NodeAt.{NodeAt};
+ghost use Rattle.db_tree.specs.Dirty.{AreExact};
 ghost use Rattle.db_tree.specs.Images.{Placed};
 ghost use Rattle.db_tree.specs.NodeSteps.{AreSameNodes, IsHandedUp, IsLoggedUp, IsNoted, mark_above};
 ghost use Rattle.db_tree.specs.Notes.{AreNotesKept};
 ghost use Rattle.db_tree.specs.Shapes.{count_in, AreAlike};
 ghost use Rattle.db_tree.specs.Waiting.{waiting_of, still_waiting};
 ghost use Rattle.tree_nodes.specs.Lows.{lows_of};
-ghost use Rattle.db_tree.specs.Content.{bin_image, held_by};
+ghost use Rattle.db_tree.specs.Content.{Held, bin_image, kept_by};
 ghost use Rattle.db_tree.specs.Splitting.{ImagedBelow, IsInImage};
 ghost use Rattle.tree_nodes.specs.declared.node.Node.{Node as Kept};
 ghost use Rattle.db_tree.specs.Trees.{IsTreeOf, IsTree, IsImageOf, IsHandedOn};
@@ -50,7 +52,7 @@ fn hand_on(levels: &mut Levels, level: usize, low: &SortKey, node: &Node, at: Ls
     requires { level < length levels.old }
     ensures handed { IsHandedOn levels.new level low.now node.now }
     ensures up { IsHandedUp levels.old levels.new level low.now (mark_above node.now.from at) }
-    ensures tree { (es : Placed) (base : ℕ) (newest : Name → ℕ) (held : Name → Option ℕ) → IsTreeOf es base newest levels.old held → IsTreeOf es base newest levels.new held }
+    ensures tree { (es : Placed) (base : ℕ) (newest : Name → ℕ) (held : Name → Held) → IsTreeOf es base newest levels.old held → IsTreeOf es base newest levels.new held }
     ensures row { row_of levels.new level ≡ row_of levels.old level }
     ensures others { (k : ℕ) → (k ≡ suc level → ⊥) → row_of levels.new k ≡ row_of levels.old k }
     ensures height { length levels.new ≡ length levels.old }
@@ -78,7 +80,7 @@ impl DbTree {
         requires there { IsSome (value_at low.now (row_of self.old.levels 0)) }
         requires entry { IsEntry entry.now }
         requires image { (db : ℕ) × (number : ℕ) × (entry.now ≡ bin_image db number low.now (row_of self.old.levels 0) self.old.cells) }
-        ensures tree { IfOk result (λ at. (es : Placed) (base : ℕ) (newest : Name → ℕ) → L.is_log log.old es → IsTree es base newest self.old.levels self.old.cells → IsTree (es ++ (at, entry.now) ∷ []) base newest self.new.levels self.new.cells) }
+        ensures tree { IfOk result (λ at. (es : Placed) (base : ℕ) (newest : Name → ℕ) → base ≤ at → L.is_log log.old es → IsTree es base newest self.old.levels self.old.cells → IsTree (es ++ (at, entry.now) ∷ []) base newest self.new.levels self.new.cells) }
         ensures log { IfOk result (λ at. (es : Placed) → L.is_log log.old es → L.is_log log.new (es ++ (at, entry.now) ∷ [])) }
         ensures noted { IfOk result (λ at. IsNoted self.old.levels self.new.levels 0 low.now at) }
         ensures cells { self.new.cells ≡ self.old.cells }
@@ -130,9 +132,11 @@ impl DbTree {
         ensures up { IsSome (value_at low.now (row_of self.old.levels level)) → IsLoggedUp self.old.levels self.new.levels level low.now at }
         ensures cleared { (n : Kept) → level < length self.old.levels → value_at low.now (row_of self.new.levels level) ≡ Some n → n.from ≡ None }
         ensures noted { IsSome (value_at low.now (row_of self.old.levels level)) → IsNoted self.old.levels self.new.levels level low.now at }
-        ensures tree { (es : Placed) (base : ℕ) (newest : Name → ℕ) → ((n : Kept) → value_at low.now (row_of self.old.levels level) ≡ Some n → IsImageOf es self.old.levels (held_by self.old.cells) level (low.now, n) at) → IsTree es base newest self.old.levels self.old.cells → IsTree es base newest self.new.levels self.new.cells }
+        ensures tree { (es : Placed) (base : ℕ) (newest : Name → ℕ) → ((n : Kept) → value_at low.now (row_of self.old.levels level) ≡ Some n → IsImageOf es self.old.levels (kept_by self.old.cells) level (low.now, n) at) → IsTree es base newest self.old.levels self.old.cells → IsTree es base newest self.new.levels self.new.cells }
+        ensures exact { (es : Placed) (due : Items NodeAt) → ((n : Kept) → value_at low.now (row_of self.old.levels level) ≡ Some n → IsImageOf es self.old.levels (kept_by self.old.cells) level (low.now, n) at) → AreExact (record { level = level; low = low.now } ∷ due) self.old.levels self.old.cells → AreExact due self.new.levels self.new.cells }
     {
         let height = self.levels.height();
+        let _len = self.cells.len();
         if level >= height {
             return;
         }

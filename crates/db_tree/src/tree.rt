@@ -1,10 +1,11 @@
 // The tree of one database.
-ghost use Rattle.std.specs.Prelude.{◌≡◌, ◌<◌, ◌≤◌, ◌⊎◌, ◌++◌, ◌∷◌, ℕ, true, [], Option, None, Some, IsSome, IfOk, IfSome, OnOk, OnErr, option_map, if◌then◌else◌};
+ghost use Rattle.std.specs.Prelude.{◌≡◌, ◌<◌, ◌≤◌, ◌⊎◌, ◌++◌, ◌∷◌, ◌+◌, ◌^◌, ℕ, true, [], Option, None, Some, IsSome, IfOk, IfSome, OnOk, OnErr, List as Items, option_map, if◌then◌else◌};
 ghost use Rattle.std.specs.Ordering.{is_eq};
 ghost use Rattle.je_order.specs.Order.{name_cmp};
 ghost use Rattle.je_order.specs.declared.name.Name.{Name};
 ghost use Rattle.std.specs.BTreeMap.{insert_entry};
 ghost use Rattle.record_map.specs.Cells.{value_at, fresh, with_write, committed, IsRising};
+ghost use Rattle.db_tree.specs.declared.node_at.NodeAt.{NodeAt};
 ghost use Rattle.db_tree.specs.Images.{Placed};
 ghost use Rattle.tree_nodes.specs.Nodes.{least};
 ghost use Rattle.tree_nodes.specs.Levels.{row_of, HasMarkedAt};
@@ -12,11 +13,12 @@ ghost use Rattle.tree_nodes.specs.Lows.{lows_of};
 ghost use Rattle.db_tree.specs.Content.{slot_for, record_slots, bin_image};
 ghost use Rattle.db_tree.specs.Trees.{IsTree, HasCell, cell_or_fresh, given_up};
 ghost use Rattle.db_tree.specs.Seen.{occupied, seen, with_change, with_value};
+ghost use Rattle.db_tree.specs.Dirty.{is_same_version, AreExact, IsCommitAt, IsMarkedOrSettled, IsCommittedOver, IsRedoneAt};
 ghost use Rattle.db_tree.specs.Stored.{with_logged};
 ghost use Rattle.db_tree.specs.Stored.{HasLogged, loaded_cell, version_logged, IsLoggedAlready};
 ghost use Rattle.record_tree.specs.Occupied.{after_commit, after_abort};
 ghost use Rattle.node_core.specs.declared.slot.Version.TheVariants.{There};
-ghost use Rattle.db_tree.specs.NodeSteps.{AreSameNodes, IsMarkedFrom, IsOneNode, written_lsn};
+ghost use Rattle.db_tree.specs.NodeSteps.{AreSameNodes, IsOneNode, written_lsn};
 ghost use Rattle.std.specs.Map.{set_value};
 ghost use Rattle.std.specs.BTreeMap.{is_at};
 ghost use Rattle.record_map.specs.declared.cell.Cell.{Cell as Kept};
@@ -73,7 +75,10 @@ fn set_logged(
 
 // An LSN at which a change that was logged at `at` counts as committed: behind the BIN's last image, which may be
 // behind the change and before its Commit. No image is logged before the redo is over.
-fn behind(last: &Option<Lsn>, at: Lsn) -> Lsn {
+fn behind(last: &Option<Lsn>, at: Lsn) -> Lsn
+    ensures above { IfSome last.now (λ l. l + 1 < 2 ^ 64 → l < result) }
+    ensures upto { (next : ℕ) → at ≤ next → IfSome last.now (λ l. l < next) → result ≤ next }
+{
     match last {
         Some(image) if *image >= at => Lsn::from_u64(image.as_u64().saturating_add(1)),
         _ => at,
@@ -92,8 +97,7 @@ fn version_logged(value: &Option<Octets>, at: Lsn) -> Version
 
 // Whether the version is that of a record that was logged at the LSN.
 fn is_there(version: Version, at: Lsn) -> bool
-    ensures yes { result ≡ true → version ≡ There at }
-    ensures no { version ≡ There at → result ≡ true }
+    ensures { result ≡ is_same_version version (There at) }
 {
     match version {
         Version::There(lsn) => lsn.as_u64() == at.as_u64(),
@@ -102,9 +106,8 @@ fn is_there(version: Version, at: Lsn) -> bool
 }
 
 // Whether two versions are the same.
-fn is_same(a: Version, b: Version) -> bool
-    ensures yes { result ≡ true → a ≡ b }
-    ensures no { a ≡ b → result ≡ true }
+pub(crate) fn is_same(a: Version, b: Version) -> bool
+    ensures { result ≡ is_same_version a b }
 {
     match b {
         Version::There(at) => is_there(a, at),
@@ -209,6 +212,7 @@ impl DbTree {
         ensures err { OnErr result (self.new.cells ≡ self.old.cells) }
         ensures tree { OnOk result ((es : Placed) (base : ℕ) (newest : Name → ℕ) → IsTree es base newest self.old.levels self.old.cells → IsTree es base newest self.new.levels self.new.cells) }
         ensures levels { self.new.levels ≡ self.old.levels }
+        ensures exact { (due : Items NodeAt) → AreExact due self.old.levels self.old.cells → OnOk result (AreExact due self.new.levels self.new.cells) }
     {
         let _before = self.cells.len();
         make_cell(&mut self.cells, alloc, name)?;
@@ -236,6 +240,7 @@ impl DbTree {
         ensures kept { (x : Name) → IsSome (value_at x self.old.cells) → IsSome (value_at x self.new.cells) }
         ensures rising { IsRising (occupied self.new.cells) }
         ensures levels { self.new.levels ≡ self.old.levels }
+        ensures exact { (due : Items NodeAt) → AreExact due self.old.levels self.old.cells → AreExact due self.new.levels self.new.cells }
         ensures tree { (es : Placed) (base : ℕ) (newest : Name → ℕ) → IsTree es base newest self.old.levels self.old.cells → IsTree es base newest self.new.levels self.new.cells }
     {
         let _len = self.cells.len();
@@ -249,8 +254,9 @@ impl DbTree {
         ensures waits { AreAlike self.old.levels self.new.levels }
         ensures nodes { AreSameNodes self.old.levels self.new.levels }
         ensures committed { (last : Option ℕ) × ((x : Name) → value_at x self.new.cells ≡ (if is_eq (name_cmp name.now x) then option_map (committed at last) (value_at name.now self.old.cells) else value_at x self.old.cells)) }
-        ensures marked { IsMarkedFrom (written_lsn (value_at name.now self.old.cells)) self.old.levels self.new.levels name.now }
-        ensures tree { (es : Placed) (base : ℕ) (newest : Name → ℕ) → IfSome (written_lsn (value_at name.now self.old.cells)) (λ from. from ≤ newest name.now) → IsTree es base newest self.old.levels self.old.cells → IsTree es base newest self.new.levels self.new.cells }
+        ensures marked { IsCommittedOver (written_lsn (value_at name.now self.old.cells)) self.new.cells self.old.levels self.new.levels name.now }
+        ensures exact { (due : Items NodeAt) → AreExact due self.old.levels self.old.cells → AreExact due self.new.levels self.new.cells }
+        ensures tree { (es : Placed) (base : ℕ) (newest : Name → ℕ) → IfSome (written_lsn (value_at name.now self.old.cells)) (λ from. from ≤ newest name.now) → IsCommitAt es at → IsTree es base newest self.old.levels self.old.cells → IsTree es base newest self.new.levels self.new.cells }
     {
         let _before = self.cells.len();
         match self.written_at(name) {
@@ -260,6 +266,7 @@ impl DbTree {
         let _after = self.cells.len();
     }
 
+    #[tactic(auto, using(crate::proofs::DirtyLaws::same_is, crate::proofs::DirtyLaws::is_same))]
     // Whether what was logged at `at` is committed of the name already.
     fn has_logged(&self, name: &SortKey, value: &Option<Octets>, at: Lsn) -> bool
         ensures yes { result ≡ true → IsLoggedAlready self.now.cells name.now at value.now }
@@ -273,7 +280,9 @@ impl DbTree {
     }
 
     // The LSN of the Commit that gave the name what is committed of it.
-    fn touched(&self, name: &SortKey) -> Lsn {
+    fn touched(&self, name: &SortKey) -> Lsn
+        ensures { result ≡ (cell_or_fresh (value_at name.now self.now.cells)).touched }
+    {
         match self.cells.get(name) {
             Some(cell) => cell.touched,
             None => Lsn::from_u64(0),
@@ -288,8 +297,10 @@ impl DbTree {
         ensures logged { HasLogged self.old.cells self.new.cells name.now value at }
         ensures rising { IsRising self.new.cells }
         ensures levels { self.new.levels ≡ self.old.levels }
+        ensures exact { (due : Items NodeAt) → AreExact due self.old.levels self.old.cells → AreExact due self.new.levels self.new.cells }
         ensures tree { (es : Placed) (base : ℕ) (newest : Name → ℕ) → IsTree es base newest self.old.levels self.old.cells → IsTree es base newest self.new.levels self.new.cells }
     {
+        let _height = self.levels.height();
         let _before = self.cells.len();
         let commit = self.touched(name);
         set_logged(&mut self.cells, name, value, at, commit, &None);
@@ -312,7 +323,8 @@ impl DbTree {
         ensures err { OnErr result (self.new.cells ≡ self.old.cells) }
         ensures waits { AreAlike self.old.levels self.new.levels }
         ensures nodes { AreSameNodes self.old.levels self.new.levels }
-        ensures tree { (es : Placed) (base : ℕ) (newest : Name → ℕ) → (first ≤ newest name.now) ⊎ (first < base) → IsTree es base newest self.old.levels self.old.cells → IsTree es base newest self.new.levels self.new.cells }
+        ensures exact { (due : Items NodeAt) → AreExact due self.old.levels self.old.cells → OnOk result (AreExact due self.new.levels self.new.cells) }
+        ensures tree { (es : Placed) (base : ℕ) (newest : Name → ℕ) → (first ≤ newest name.now) ⊎ (first < base) → IsRedoneAt es base at → IsTree es base newest self.old.levels self.old.cells → IsTree es base newest self.new.levels self.new.cells }
     {
         let _height = self.levels.height();
         let _before = self.cells.len();
@@ -323,6 +335,7 @@ impl DbTree {
         self.levels.mark(0, name, first);
         let commit = behind(&last, at);
         set_logged(&mut self.cells, name, value, at, commit, &last);
+        self.settle(name);
         Ok(())
     }
 
@@ -343,7 +356,8 @@ impl DbTree {
         ensures err { OnErr result (self.new.cells ≡ self.old.cells) }
         ensures waits { AreAlike self.old.levels self.new.levels }
         ensures nodes { AreSameNodes self.old.levels self.new.levels }
-        ensures tree { (es : Placed) (base : ℕ) (newest : Name → ℕ) → (first ≤ newest name.now) ⊎ (first < base) → IsTree es base newest self.old.levels self.old.cells → IsTree es base newest self.new.levels self.new.cells }
+        ensures exact { (due : Items NodeAt) → AreExact due self.old.levels self.old.cells → OnOk result (AreExact due self.new.levels self.new.cells) }
+        ensures tree { (es : Placed) (base : ℕ) (newest : Name → ℕ) → (first ≤ newest name.now) ⊎ (first < base) → IsRedoneAt es base at → IsTree es base newest self.old.levels self.old.cells → IsTree es base newest self.new.levels self.new.cells }
         ensures already { IsLoggedAlready self.old.cells name.now at value → OnOk result (self.new.levels ≡ self.old.levels) }
     {
         let _height = self.levels.height();
@@ -379,29 +393,34 @@ impl DbTree {
     ) -> Result<(), AllocError>
         ensures cells { OnOk result (HasCell self.old.cells self.new.cells name.now (with_write (Some write) (cell_or_fresh (value_at name.now self.old.cells)))) }
         ensures tree { (es : Placed) (base : ℕ) (newest : Name → ℕ) → IsTree es base newest self.old.levels self.old.cells → IsTree es base newest self.new.levels self.new.cells }
+        ensures exact { (due : Items NodeAt) → AreExact due self.old.levels self.old.cells → OnOk result (AreExact due self.new.levels self.new.cells) }
         ensures levels { self.new.levels ≡ self.old.levels }
         ensures err { OnErr result (self.new.cells ≡ self.old.cells) }
     {
+        let _before = self.cells.len();
         make_cell(&mut self.cells, alloc, name)?;
         self.cells.set_write(name, Some(write));
         Ok(())
     }
 
     /// Commits the change of the name, by the Commit at `at`, and marks its BIN: the log has a committed
-    /// change at `from` that the BIN's last image lacks. It takes no memory.
+    /// change at `from` that the BIN's last image lacks. Where the BIN has that image's content then, it has no mark. It takes no memory.
     pub fn commit(&mut self, name: &SortKey, at: Lsn, from: Lsn)
         requires { IsSome (value_at name.now self.old.cells) }
         ensures cells { (last : Option ℕ) × ((x : Name) → value_at x self.new.cells ≡ (if is_eq (name_cmp name.now x) then option_map (committed at last) (value_at name.now self.old.cells) else value_at x self.old.cells)) }
         ensures waits { AreAlike self.old.levels self.new.levels }
         ensures nodes { AreSameNodes self.old.levels self.new.levels }
-        ensures marked { HasMarkedAt self.old.levels self.new.levels 0 name.now from }
-        ensures tree { (es : Placed) (base : ℕ) (newest : Name → ℕ) → from ≤ newest name.now → IsTree es base newest self.old.levels self.old.cells → IsTree es base newest self.new.levels self.new.cells }
+        ensures marked { IsMarkedOrSettled self.new.cells self.old.levels self.new.levels name.now from }
+        ensures tree { (es : Placed) (base : ℕ) (newest : Name → ℕ) → from ≤ newest name.now → IsCommitAt es at → IsTree es base newest self.old.levels self.old.cells → IsTree es base newest self.new.levels self.new.cells }
+        ensures exact { (due : Items NodeAt) → AreExact due self.old.levels self.old.cells → AreExact due self.new.levels self.new.cells }
     {
         let _height = self.levels.height();
+        let _len = self.cells.len();
         let (_low, node) = self.levels.over(0, name);
         let last = node.last;
         self.levels.mark(0, name, from);
         self.cells.commit(name, at, &last);
+        self.settle(name);
     }
 
     /// Gives the change of the name up: a cell of which nothing is committed goes. It takes no memory.
@@ -409,6 +428,7 @@ impl DbTree {
         ensures seen { (x : Name) → value_at x (occupied self.new.cells) ≡ (if is_eq (name_cmp name.now x) then after_abort (value_at x (occupied self.old.cells)) else value_at x (occupied self.old.cells)) }
         ensures cells { (x : Name) → value_at x self.new.cells ≡ (if is_eq (name_cmp name.now x) then given_up (value_at name.now self.old.cells) else value_at x self.old.cells) }
         ensures tree { (es : Placed) (base : ℕ) (newest : Name → ℕ) → IsTree es base newest self.old.levels self.old.cells → IsTree es base newest self.new.levels self.new.cells }
+        ensures exact { (es : Placed) (base : ℕ) (newest : Name → ℕ) → IsTree es base newest self.old.levels self.old.cells → (due : Items NodeAt) → AreExact due self.old.levels self.old.cells → AreExact due self.new.levels self.new.cells }
         ensures levels { self.new.levels ≡ self.old.levels }
         ensures rising { IsRising (occupied self.new.cells) }
     {

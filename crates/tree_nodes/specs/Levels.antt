@@ -6,7 +6,7 @@ use Rattle.node_core.specs.declared.slot.Version.{Version}
 use Rattle.node_core.specs.declared.slot.Version.TheVariants.{There, Unset}
 use Rattle.node_core.specs.declared.slot.Slot.{Slot}
 use Rattle.tree_nodes.specs.declared.node.Node.{Node}
-use Rattle.tree_nodes.specs.Nodes.{NodeRow, least, IsOver, HasPut, HasTaken, marked}
+use Rattle.tree_nodes.specs.Nodes.{NodeRow, least, IsOver, HasPut, HasTaken, marked, unmarked}
 
 -- a level; none above the top
 abbrev pub row_of : List NodeRow → ℕ → NodeRow
@@ -36,6 +36,12 @@ pub record HasMarkedAt (old new : List NodeRow) (level : ℕ) (x : Name) (from :
   pub e : Name × Node
   pub over : IsOver (row_of old level) x e
   pub put : HasPutAt old new level e.0 (marked from e.1)
+
+-- the levels without the mark of the node over a name of one level
+pub record HasUnmarkedAt (old new : List NodeRow) (level : ℕ) (x : Name) : Type 0 where
+  pub e : Name × Node
+  pub over : IsOver (row_of old level) x e
+  pub put : HasPutAt old new level e.0 (unmarked e.1)
 
 -- the levels with a root put above the top
 pub record HasRaised (old new : List NodeRow) (root : Node) : Type 0 where

@@ -14,7 +14,7 @@ ghost use Rattle.record_map.specs.Cells.{value_at, IsRising, first_of, last_of, 
 ghost use Rattle.je_order.specs.Edges.{is_between};
 ghost use Rattle.tree_nodes.specs.Lows.{low_up_to};
 ghost use Rattle.tree_nodes.specs.Noted.{NextDue, count_due, has_noted_child, is_first_due, is_low_over, noted_row};
-ghost use Rattle.tree_nodes.specs.Nodes.{least, IsUpTo, IsOver, IsLowOver, HasMarked, low_behind, HasPut, HasTaken, is_dirty, marked, node_at, placed, ArePlaces};
+ghost use Rattle.tree_nodes.specs.Nodes.{least, IsUpTo, IsOver, IsLowOver, HasMarked, HasUnmarked, low_behind, HasPut, HasTaken, is_dirty, marked, node_at, placed, ArePlaces};
 
 use crate::Node;
 use je_lsn::Lsn;
@@ -359,6 +359,17 @@ impl Level {
         let Level { lows, nodes } = self;
         let (_low, place) = low_over(lows, name);
         nodes[place] = nodes[place].marked(from);
+    }
+
+    /// Takes the mark of the node over the name: its last image lacks nothing of what it has. It takes no memory.
+    pub fn unmark(&mut self, name: &SortKey)
+        requires { IsSome (value_at least self.old) }
+        ensures unmarked { HasUnmarked self.old self.new name.now }
+        ensures rising { IsRising self.new }
+    {
+        let Level { lows, nodes } = self;
+        let (_low, place) = low_over(lows, name);
+        nodes[place] = nodes[place].unmarked();
     }
 
     /// Puts the node under a low that no node has. Running out of memory changes nothing.

@@ -11,7 +11,7 @@ ghost use Rattle.std.specs.Map.{keys_of};
 ghost use Rattle.je_order.specs.Edges.{is_between};
 ghost use Rattle.tree_nodes.specs.Lows.{lows_of, low_up_to, with_low, with_root};
 ghost use Rattle.tree_nodes.specs.Noted.{AreNoted, HasNotedLevel, NextIn, count_all_due};
-ghost use Rattle.tree_nodes.specs.Levels.{row_of, AreParts, HasPutAt, HasTakenAt, HasMarkedAt, HasRaised, slot_of};
+ghost use Rattle.tree_nodes.specs.Levels.{row_of, AreParts, HasPutAt, HasTakenAt, HasMarkedAt, HasUnmarkedAt, HasRaised, slot_of};
 
 use crate::{Level, Node};
 use je_lsn::Lsn;
@@ -60,6 +60,17 @@ fn mark_in(levels: &mut [Level], level: usize, name: &SortKey, from: Lsn)
 {
     let row = &mut levels[level];
     row.mark(name, from);
+}
+
+// Takes the mark of the node over the name.
+fn unmark_in(levels: &mut [Level], level: usize, name: &SortKey)
+    requires parts { AreParts levels.old }
+    requires there { level < length levels.old }
+    ensures unmarked { HasUnmarkedAt levels.old levels.new level name.now }
+    ensures parts { AreParts levels.new }
+{
+    let row = &mut levels[level];
+    row.unmark(name);
 }
 
 // Puts the node under a low that no node of the level has.
@@ -238,6 +249,15 @@ impl Levels {
         ensures parts { AreParts self.new }
     {
         mark_in(self.levels.as_mut_slice(), level, name, from);
+    }
+
+    /// Takes the mark of the node of the level over the name: its last image lacks nothing of what it has. It takes no memory.
+    pub fn unmark(&mut self, level: usize, name: &SortKey)
+        requires { level < length self.old }
+        ensures unmarked { HasUnmarkedAt self.old self.new level name.now }
+        ensures parts { AreParts self.new }
+    {
+        unmark_in(self.levels.as_mut_slice(), level, name);
     }
 
     /// Splits a node of the level: from `middle` on its names are those of the new node. The level below has

@@ -1,6 +1,6 @@
 // A node of a tree.
 ghost use Rattle.std.specs.Prelude.{◌≡◌};
-ghost use Rattle.tree_nodes.specs.Nodes.{earlier, is_dirty, is_due, logged, marked, noted_as};
+ghost use Rattle.tree_nodes.specs.Nodes.{earlier, is_dirty, is_due, logged, marked, noted_as, unmarked};
 
 use je_lsn::Lsn;
 
@@ -58,6 +58,20 @@ impl Node {
             number: self.number,
             last: self.last,
             from: Some(earlier(&self.from, from)),
+            slots: self.slots,
+            forced: self.forced,
+            noted: self.noted,
+        }
+    }
+
+    /// The node, where its last image lacks nothing of what it has.
+    pub fn unmarked(&self) -> Node
+        ensures { result ≡ unmarked self.now }
+    {
+        Node {
+            number: self.number,
+            last: self.last,
+            from: None,
             slots: self.slots,
             forced: self.forced,
             noted: self.noted,

@@ -1,8 +1,9 @@
 use Rattle.record_map.specs.Cells.{value_at}
 use Rattle.record_tree.specs.Occupied.{after_abort}
 use Rattle.db_tree.specs.Trees.{given_up}
-use Rattle.db_tree.proofs.Records.{gives_up}
+use Rattle.db_tree.proofs.Records.{given_kept, gives_up}
 use Rattle.db_tree.proofs.Seen.{change_seen, abort_seen, occupied_rises}
+use Rattle.db_tree.proofs.DirtyCells.{exact_held}
 use Rattle.db_tree.proofs.tree.DbTree.abort.Goals as goal
 
 pub returns-clause-tree : goal.returns-clause-tree
@@ -17,3 +18,8 @@ returns-clause-seen c =
 
 pub returns-clause-rising : goal.returns-clause-rising
 returns-clause-rising c = occupied_rises c.give_up.new.cells c.len-after.ensures.rising
+
+pub returns-clause-exact : goal.returns-clause-exact
+returns-clause-exact c = λ es base newest tree due exact.
+    let old = c.args.self.now.cells in
+    exact_held due c.args.self.now.levels old c.give_up.new.cells c.len-before.ensures.rising c.len-after.ensures.rising (given_kept old c.give_up.new.cells c.args.name.now c.give_up.ensures (tree.know.unset c.args.name.now)) exact

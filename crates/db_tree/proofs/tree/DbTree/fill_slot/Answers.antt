@@ -10,3 +10,6 @@ pub returns-in-Err-clause-err_cells : goal.returns-in-Err-clause-err_cells
 returns-in-Err-clause-err_cells c =
     cell_undone c.args.self.now.cells c.put_cell.new.self.cells c.take_images.new.self.cells c.remove.new.self c.args.name.now c.len-before.ensures.rising c.remove.ensures.rising c.requires c.in_ok-put_cell.ensures.cell c.in-Err.ensures.cells
     c.remove.ensures.others
+
+pub returns-in-Ok-clause-tree : goal.returns-in-Ok-clause-tree
+returns-in-Ok-clause-tree c = λ es base newest tree. c.in-Ok.ensures.tree es base newest (c.in_ok-put_cell.ensures.tree es base newest tree)

@@ -18,3 +18,9 @@ returns-in-Ok-clause-numbers c =
     numbered_high c.args.first c.saturating_add-number.result c.args.splits.now (is_raised c.args.splits.now (lows_of c.args.self.now.levels)) c.args.self.now.levels c.split_each.new.self.levels c.raise_root.new.self.levels
     (raised_is c.args.splits.now c.args.self.now.levels c.height.result c.height.ensures.value c.if-not-is_raised.false) c.in_ok-split_each.ensures.numbers height c.in_ok-split_each.ensures.height c.in-Ok.ensures.number
     c.saturating_add-number.ensures c.in-Ok.ensures.below
+
+pub returns-then-not-is_raised-clause-tree : goal.returns-then-not-is_raised-clause-tree
+returns-then-not-is_raised-clause-tree c = λ es base newest behind tree. c.in_ok-split_each.ensures.tree es base newest tree
+
+pub returns-in-Ok-clause-tree : goal.returns-in-Ok-clause-tree
+returns-in-Ok-clause-tree c = λ es base newest behind tree. c.in-Ok.ensures.tree es base newest behind (c.in_ok-split_each.ensures.tree es base newest tree)

@@ -1,9 +1,13 @@
-use Rattle.std.proofs.Common.{Some, ◌≤◌, ◌∙◌, ℕ, ap, subst, sym}
+use Rattle.std.proofs.Common.{Some, ◌≤◌, ◌∙◌, ℕ, ap, arith, subst, sym}
+use Rattle.std.proofs.lemmas.Option.{none-some}
+use Rattle.tree_nodes.proofs.LevelLaws.{is_level}
 use Rattle.tree_nodes.specs.declared.node.Node.{Node}
-use Rattle.tree_nodes.specs.Levels.{HasPutAt}
+use Rattle.tree_nodes.specs.Levels.{row_of, HasPutAt}
 use Rattle.record_map.specs.Cells.{value_at}
-use Rattle.db_tree.specs.Content.{held_by}
+use Rattle.db_tree.specs.Content.{kept_by}
 use Rattle.db_tree.proofs.NodeLogging.{image_noted}
+use Rattle.db_tree.proofs.NodesExact.{none_exact, noted_exact}
+use Rattle.db_tree.proofs.Over.{there_is}
 use Rattle.db_tree.proofs.NoteLaws.{cleared, noted_lows, noted_waits, few_still, past_waits, none_waits}
 use Rattle.db_tree.proofs.NodeSteps.{node_noted}
 use Rattle.db_tree.proofs.NotingLaws.{notes_put, notes_then}
@@ -21,8 +25,8 @@ returns-clause-tree c = λ es base newest image tree.
     let handed = c.hand_on.new.levels in
     let low = c.args.low.now in
     let there = sym c.in-Some.ensures ∙ ap Some (sym c.copy-node.ensures) in
-    image_noted es base newest old handed c.set.new.self (held_by c.args.self.now.cells) c.args.level low c.copy-node.result c.args.at c.hand_on.ensures.parts c.hand_on.ensures.row c.hand_on.ensures.others there c.hand_on.ensures.handed
-    (subst (λ (n : Node). HasPutAt handed c.set.new.self c.args.level low n) c.logged.ensures c.set.ensures.put) (image c.copy-node.result there) (c.hand_on.ensures.tree es base newest (held_by c.args.self.now.cells) tree)
+    image_noted es base newest old handed c.set.new.self (kept_by c.args.self.now.cells) c.args.level low c.copy-node.result c.args.at c.hand_on.ensures.parts c.hand_on.ensures.row c.hand_on.ensures.others there c.hand_on.ensures.handed
+    (subst (λ (n : Node). HasPutAt handed c.set.new.self c.args.level low n) c.logged.ensures c.set.ensures.put) (image c.copy-node.result there) (c.hand_on.ensures.tree es base newest (kept_by c.args.self.now.cells) tree)
 
 pub returns-clause-lows : goal.returns-clause-lows
 returns-clause-lows c =
@@ -60,3 +64,20 @@ returns-clause-up c = λ some. record {
   handed = c.hand_on.ensures.up;
   put = subst (λ (n : Node). HasPutAt c.hand_on.new.levels c.set.new.self c.args.level c.args.low.now n) c.logged.ensures c.set.ensures.put;
 }
+
+pub returns-clause-exact : goal.returns-clause-exact
+returns-clause-exact c = λ es due image exact.
+    let handed = c.hand_on.new.levels in
+    let there = sym c.in-Some.ensures ∙ ap Some (sym c.copy-node.ensures) in
+    noted_exact es due c.args.self.now.levels handed c.set.new.self c.args.self.now.cells c.args.level c.args.low.now c.copy-node.result c.args.at c.height-height.ensures.parts c.len-len.ensures.rising c.hand_on.ensures.alike.lows
+    (returns-clause-lows c) c.hand_on.ensures.others there (subst (λ (n : Node). HasPutAt handed c.set.new.self c.args.level c.args.low.now n) c.logged.ensures c.set.ensures.put) (image c.copy-node.result there) exact
+
+pub returns-then-level-height-clause-exact : goal.returns-then-level-height-clause-exact
+returns-then-level-height-clause-exact c = λ es due image exact.
+    let rows = c.args.self.now.levels in
+    let past = subst (λ (n : ℕ). n ≤ c.args.level) c.height-height.ensures.value c.if-level-height.true in
+    none_exact due rows c.args.self.now.cells c.args.level c.args.low.now (λ m there. (let less = is_level rows c.args.level c.args.low.now (there_is (row_of rows c.args.level) c.args.low.now m there) in absurd (omega (arith, past, less)))) exact
+
+pub returns-in-None-clause-exact : goal.returns-in-None-clause-exact
+returns-in-None-clause-exact c = λ es due image exact.
+    none_exact due c.args.self.now.levels c.args.self.now.cells c.args.level c.args.low.now (λ m there. none-some m (c.in-None.ensures ∙ there)) exact

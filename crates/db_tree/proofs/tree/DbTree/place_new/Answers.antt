@@ -18,3 +18,6 @@ returns-in-Ok-clause-numbers c =
     numbers_kept c.args.first (record { splits = c.args.splits; is_raised = c.len.result == c.height.result; is_new = true; images = c.in-Ok.images }) c.as_slice-2.result.now _ c.in_ok-nodes.nodes.items c.grow.new.self.levels c.fill_slot.new.self.levels
     c.as_slice-2.ensures.value
     (ap₂ (λ (m n : ℕ). m == n) (same ∙ sym (ap length c.as_slice-2.ensures.value)) (c.height.ensures.value ∙ sym (length-map c.args.self.now.levels keys_of))) c.in-Ok.ensures.filled.images.cleared c.in_ok-grow.ensures.numbers
+
+pub returns-in-Ok-clause-tree : goal.returns-in-Ok-clause-tree
+returns-in-Ok-clause-tree c = λ es base newest behind tree. c.in-Ok.ensures.tree es base newest (c.in_ok-grow.ensures.tree es base newest behind tree)

@@ -32,3 +32,9 @@ returns-then-not-is_raised-clause-since c = λ all. c.wait_each.ensures.since (s
 
 pub returns-clause-since : goal.returns-clause-since
 returns-clause-since c = λ all. c.wait.ensures.since (c.wait_each.ensures.since (subst (AreUnnotedSince c.args.mark) (sym c.in-Ok.ensures.levels) (c.in_ok-grow.ensures.since all)))
+
+pub returns-then-not-is_raised-clause-tree : goal.returns-then-not-is_raised-clause-tree
+returns-then-not-is_raised-clause-tree c = λ es base newest behind tree. c.wait_each.ensures.tree es base newest (c.in-Ok.ensures.tree es base newest (c.in_ok-grow.ensures.tree es base newest behind tree))
+
+pub returns-clause-tree : goal.returns-clause-tree
+returns-clause-tree c = λ es base newest behind tree. c.wait.ensures.tree es base newest (c.wait_each.ensures.tree es base newest (c.in-Ok.ensures.tree es base newest (c.in_ok-grow.ensures.tree es base newest behind tree)))

@@ -1,8 +1,9 @@
 use Rattle.std.proofs.Common.{Some, IsSome, refl, subst, sym}
 use Rattle.record_map.specs.Cells.{value_at}
 use Rattle.db_tree.specs.Trees.{cell_or_fresh}
-use Rattle.db_tree.proofs.Records.{cell_there, holds}
+use Rattle.db_tree.proofs.Records.{cell_there, holds, same_kept}
 use Rattle.db_tree.proofs.Seen.{same_seen, made_seen, kept_put}
+use Rattle.db_tree.proofs.DirtyCells.{exact_held}
 use Rattle.db_tree.proofs.tree.DbTree.put_cell.Goals as goal
 
 pub returns-clause-there : goal.returns-clause-there
@@ -21,3 +22,9 @@ returns-clause-kept c =
 pub returns-clause-tree : goal.returns-clause-tree
 returns-clause-tree c = λ es base newest tree.
     holds es base newest c.args.self.now.levels c.args.self.now.cells c.make_cell.new.cells c.args.name.now (cell_or_fresh (value_at c.args.name.now c.args.self.now.cells)) c.in_ok-make_cell.ensures.cell refl tree
+
+pub returns-clause-exact : goal.returns-clause-exact
+returns-clause-exact c = λ due exact.
+    let old = c.args.self.now.cells in
+    exact_held due c.args.self.now.levels old c.make_cell.new.cells c.len-before.ensures.rising c.len-after.ensures.rising
+    (same_kept old c.make_cell.new.cells c.args.name.now (cell_or_fresh (value_at c.args.name.now old)) c.in_ok-make_cell.ensures.cell refl) exact

@@ -1,5 +1,5 @@
 use Rattle.std.proofs.Common.{◌∙◌, ◌-◌, ℕ, ap, length}
-use Rattle.db_tree.specs.Content.{held_by}
+use Rattle.db_tree.specs.Content.{kept_by}
 use Rattle.db_tree.specs.Notes.{is_noted_at}
 use Rattle.db_tree.proofs.NotingLaws.{root_raised}
 use Rattle.db_tree.proofs.Ending.{ok_then}
@@ -18,7 +18,7 @@ returns-clause-raised c =
 pub returns-clause-tree : goal.returns-clause-tree
 returns-clause-tree c =
     ok_then c.raise.result
-    (λ has es base newest behind tree. root_put es base newest c.args.self.now.levels c.raise.new.self (held_by c.args.self.now.cells) c.new_root.result c.args.mark has c.new_root.ensures.last c.new_root.ensures.from behind tree)
+    (λ has es base newest behind tree. root_put es base newest c.args.self.now.levels c.raise.new.self (kept_by c.args.self.now.cells) c.new_root.result c.args.mark has c.new_root.ensures.last c.new_root.ensures.from behind tree)
     c.raise.ensures.ok
 
 pub returns-clause-waits : goal.returns-clause-waits

@@ -15,3 +15,6 @@ returns-then-has_logged-clause-nodes c = subst (λ (rows : List NodeRow). AreSam
 
 pub returns-clause-already : goal.returns-clause-already
 returns-clause-already c = λ already. absurd (true≢false (sym (c.has_logged.ensures.no already) ∙ c.if-has_logged.false))
+
+pub returns-then-has_logged-clause-tree : goal.returns-then-has_logged-clause-tree
+returns-then-has_logged-clause-tree c = λ es base newest behind redone tree. c.redo_again.ensures.tree es base newest tree

@@ -1,7 +1,7 @@
 use Rattle.std.proofs.Common.{Some, ◌≤◌, ◌∙◌, ℕ, ap, sym, subst}
 use Rattle.tree_nodes.specs.declared.node.Node.{Node}
 use Rattle.tree_nodes.specs.Levels.{HasPutAt}
-use Rattle.db_tree.specs.Content.{held_by}
+use Rattle.db_tree.specs.Content.{kept_by}
 use Rattle.db_tree.proofs.ForcedLaws.{force_put, force_none, force_past, force_tree}
 use Rattle.db_tree.proofs.tree.DbTree.set_forced.Goals as goal
 
@@ -19,5 +19,5 @@ returns-clause-forced c =
 
 pub returns-clause-tree : goal.returns-clause-tree
 returns-clause-tree c = λ es base newest tree.
-    force_tree c.args.forced es base newest c.args.self.now.levels c.set.new.self (held_by c.args.self.now.cells) c.args.level c.args.low.now c.copy-node.result
+    force_tree c.args.forced es base newest c.args.self.now.levels c.set.new.self (kept_by c.args.self.now.cells) c.args.level c.args.low.now c.copy-node.result
     (sym c.in-Some.ensures ∙ ap Some (sym c.copy-node.ensures)) (subst (λ (n : Node). HasPutAt c.args.self.now.levels c.set.new.self c.args.level c.args.low.now n) c.with_forced.ensures c.set.ensures.put) tree

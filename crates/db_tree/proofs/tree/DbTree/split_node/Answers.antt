@@ -3,7 +3,7 @@ use Rattle.tree_nodes.specs.declared.node.Node.{Node}
 use Rattle.tree_nodes.specs.Levels.{row_of}
 use Rattle.db_tree.specs.Trees.{IsMark}
 use Rattle.db_tree.proofs.NotingLaws.{over_from, over_noted}
-use Rattle.db_tree.specs.Content.{held_by}
+use Rattle.db_tree.specs.Content.{kept_by}
 use Rattle.db_tree.proofs.Marking.{marked_or_split}
 use Rattle.db_tree.proofs.SplitLaws.{split_is_mark}
 use Rattle.db_tree.proofs.WaitLaws.{put_number, split_waits}
@@ -21,7 +21,7 @@ returns-clause-put c = (
 
 pub returns-clause-tree : goal.returns-clause-tree
 returns-clause-tree c = λ es base newest tree.
-    marked_or_split es base newest c.args.self.now.levels c.split.new.self (held_by c.args.self.now.cells) c.args.level c.over.result.0.now c.args.middle c.over.result.1.now c.split_off-right.result
+    marked_or_split es base newest c.args.self.now.levels c.split.new.self (kept_by c.args.self.now.cells) c.args.level c.over.result.0.now c.args.middle c.over.result.1.now c.split_off-right.result
     c.over.ensures.over c.in_ok-split.ensures.ok
     (subst (λ (n : Node). IsMark c.over.result.1.now n) (sym c.split_off-right.ensures) (split_is_mark c.over.result.1.now c.args.number c.args.slots)) tree
 

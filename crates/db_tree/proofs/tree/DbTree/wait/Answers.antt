@@ -1,5 +1,5 @@
 use Rattle.std.proofs.Common.{Some, ◌∙◌, ap, sym}
-use Rattle.db_tree.specs.Content.{held_by}
+use Rattle.db_tree.specs.Content.{kept_by}
 use Rattle.db_tree.proofs.Records.{waits}
 use Rattle.db_tree.proofs.WaitCounts.{put_few}
 use Rattle.db_tree.proofs.WaitingNodes.{waiting_none, waiting_put}
@@ -8,7 +8,7 @@ use Rattle.db_tree.proofs.tree.DbTree.wait.Goals as goal
 
 pub returns-clause-tree : goal.returns-clause-tree
 returns-clause-tree c = λ es base newest tree.
-    waits es base newest c.args.self.now.levels c.set.new.self (held_by c.args.self.now.cells) c.args.level c.args.low.now c.copy-node.result c.waiting.result c.args.mark
+    waits es base newest c.args.self.now.levels c.set.new.self (kept_by c.args.self.now.cells) c.args.level c.args.low.now c.copy-node.result c.waiting.result c.args.mark
     (sym c.in-Some.ensures ∙ ap Some (sym c.copy-node.ensures)) c.set.ensures.put c.waiting.ensures.last c.waiting.ensures.from tree
 
 pub returns-clause-few : goal.returns-clause-few
