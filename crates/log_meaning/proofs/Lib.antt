@@ -30,3 +30,5 @@ pub mod NeededFiles
 pub mod Found
 -- The log worked by hand.
 pub mod Worked
+-- The nodes that are put with what is read of their names.
+pub mod Loading

@@ -1,11 +1,12 @@
 -- The slots of an environment's BINs while its log is read again.
-use Rattle.std.specs.Prelude.{◌≡◌, ◌==◌, ◌||◌, ◌&&◌, not, ℕ, Bool, true, false, List, Option, None, Some}
+use Rattle.std.specs.Prelude.{◌≡◌, ◌==◌, ◌||◌, ◌&&◌, not, ℕ, Bool, true, false, List, Option, None, Some, if◌then◌else◌}
 use Rattle.std.specs.List.{list_any}
 use Rattle.std.specs.Ordering.{is_eq, is_lt}
 use Rattle.je_order.specs.Order.{name_cmp}
 use Rattle.je_order.specs.declared.name.Name.{Name}
 use Rattle.node_core.specs.declared.slot.Version.{Version}
-use Rattle.node_core.specs.declared.slot.Version.TheVariants.{Deleted}
+use Rattle.node_core.specs.declared.slot.Version.TheVariants.{There, Deleted}
+use Rattle.node_core.specs.Changes.{is_committed}
 use Rattle.node_core.specs.declared.slot.Marked.{Marked}
 
 -- whether a name of a database has a slot that the next image of its BIN shows: that of a record, or of one that was deleted
@@ -41,3 +42,40 @@ HasMoreSlots old new db got = (d : ℕ) (x : Name) → new d x ≡ (old d x || (
 -- no slot came, and none went
 abbrev pub AreSlotsStill : AllSlots → AllSlots → Type 0
 AreSlotsStill old new = (d : ℕ) (x : Name) → new d x ≡ old d x
+
+-- ---- what is read of names
+
+-- what is read of a name: what is committed of it, what the last image of its BIN says of it, and since which LSN it is committed
+pub record ReadSlot : Type 0 where
+  pub version : Version
+  pub shown : Version
+  pub touched : ℕ
+
+-- of each name of a database that has a slot
+abbrev pub AllRead : Type 0
+AllRead = ℕ → Name → Option ReadSlot
+
+-- the slot of a record that was logged at an LSN
+abbrev pub slot_put : ℕ → ReadSlot
+slot_put at = record { version = There at; shown = There at; touched = at }
+
+-- the slot of a record that was deleted, as the image of its BIN at an LSN says
+abbrev pub slot_gone : ℕ → ReadSlot
+slot_gone at = record { version = Deleted; shown = Deleted; touched = at }
+
+-- whether a name has a slot that the next image of its BIN shows
+abbrev pub has_slot : Option ReadSlot → Bool
+has_slot None = false
+has_slot (Some s) = is_committed s.version
+
+-- of the names of a database that a test finds, each that has no slot got that of a record that was deleted
+abbrev pub HasGone : AllRead → AllRead → ℕ → (Name → Bool) → ℕ → Type 0
+HasGone old new db gone at = (d : ℕ) (x : Name) → new d x ≡ (if (db == d) && (gone x && not (has_slot (old d x))) then Some (slot_gone at) else old d x)
+
+-- a name of a database got the slot of a record that was logged at an LSN
+abbrev pub HasPutSlot : AllRead → AllRead → ℕ → Name → ℕ → Type 0
+HasPutSlot old new db name at = (d : ℕ) (x : Name) → new d x ≡ (if (db == d) && is_eq (name_cmp name x) then Some (slot_put at) else old d x)
+
+-- nothing else is read of any name
+abbrev pub IsReadStill : AllRead → AllRead → Type 0
+IsReadStill old new = (d : ℕ) (x : Name) → new d x ≡ old d x

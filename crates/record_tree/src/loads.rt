@@ -1,5 +1,5 @@
 // Trees that are made of a log.
-ghost use Rattle.std.specs.Prelude.{◌≡◌, ◌≤◌, ◌<◌, ◌-◌, ◌==◌, ◌||◌, ◌&&◌, nat_le, min, ℕ, List, [], length, option_map, option_copied, find, not, None, Some, IsSome, OnOk, IfOk, Bool, true, false, if◌then◌else◌};
+ghost use Rattle.std.specs.Prelude.{◌≡◌, ◌≤◌, ◌<◌, ◌-◌, ◌^◌, ◌==◌, ◌||◌, ◌&&◌, nat_le, min, ℕ, List, [], length, option_map, option_copied, find, not, None, Some, IsSome, OnOk, IfOk, Bool, true, false, if◌then◌else◌};
 ghost use Rattle.std.specs.List.{list_any};
 ghost use Rattle.std.specs.Ordering.{is_eq};
 ghost use Rattle.je_order.specs.Order.{name_cmp};
@@ -7,7 +7,7 @@ ghost use Rattle.je_order.specs.declared.name.Name.{Name as Named};
 ghost use Rattle.log_entry.specs.declared.entry.Entry.{Entry};
 ghost use Rattle.record_map.specs.Cells.{IsRising, value_at};
 ghost use Rattle.record_tree.specs.LoadedNodes.{AllNodes, node_read, HasPutNode, AreNodesStill, IsLoggedAt};
-ghost use Rattle.record_tree.specs.LoadedSlots.{AllSlots, shows_deletion_inside, HasMoreSlots, AreSlotsStill};
+ghost use Rattle.record_tree.specs.LoadedSlots.{AllRead, AllSlots, shows_deletion_inside, HasGone, HasMoreSlots, HasPutSlot, AreSlotsStill, IsReadStill};
 ghost use Rattle.record_tree.specs.Stored.{AllStored, stored_at, HasStored, AreStoredStill, lent, values_of};
 
 use crate::{LoadErr, RecordRef, StoredRecord};
@@ -34,6 +34,9 @@ pub trait Loads {
     /// Whether a name of a database has a slot that the next image of its BIN shows: that of a record, or of one that was deleted.
     ghost slots: { Self → AllSlots };
 
+    /// What is read of each name: what is committed of it, and what the last image of its BIN says.
+    ghost read: { Self → AllRead };
+
     /// The node number that was allocated last, at most 2^63 - 1.
     ghost last_number: { Self → ℕ };
 
@@ -51,6 +54,7 @@ pub trait Loads {
         ensures numbers { min last_node 0x7fffffffffffffff ≤ last_number self.new }
         ensures stored { AreStoredStill (stored self.old) (stored self.new) }
         ensures slots { AreSlotsStill (slots self.old) (slots self.new) }
+        ensures read { IsReadStill (read self.old) (read self.new) }
         ensures trees { (d : ℕ) → has_tree self.new d ≡ has_tree self.old d };
 
     /// Whether the database has a tree.
@@ -68,6 +72,7 @@ pub trait Loads {
         ensures fits { (es : List (ℕ × Entry)) (base : ℕ) → fits self.old es base → OnOk result (fits self.new es base) }
         ensures stored { OnOk result (AreStoredStill (stored self.old) (stored self.new)) }
         ensures slots { OnOk result (AreSlotsStill (slots self.old) (slots self.new)) }
+        ensures read { OnOk result (IsReadStill (read self.old) (read self.new)) }
         ensures trees { OnOk result ((d : ℕ) → has_tree self.new d ≡ ((d == db) || has_tree self.old d)) };
 
     /// Puts a node of a database's tree as the image at `at` shows it: its names lie from `low` on, and below `high` where it has an upper
@@ -85,6 +90,7 @@ pub trait Loads {
     ) -> Result<(), LoadErr>
         ensures stored { OnOk result (AreStoredStill (stored self.old) (stored self.new)) }
         ensures slots { OnOk result (HasMoreSlots (slots self.old) (slots self.new) node.now.db (shows_deletion_inside low.now (option_copied high.entry) node.now.slots)) }
+        ensures read { OnOk result (HasGone (read self.old) (read self.new) node.now.db (shows_deletion_inside low.now (option_copied high.entry) node.now.slots) at) }
         ensures nodes { OnOk result (HasPutNode (nodes self.old) (nodes self.new) node.now.db (node.now.level - 1) low.now (node_read node.now.number at keeps)) };
 
     /// Puts a record of the BIN that was put last, which was logged at `at`.
@@ -98,6 +104,7 @@ pub trait Loads {
     ) -> Result<(), LoadErr>
         ensures stored { OnOk result (HasStored (stored self.old) (stored self.new) db name.now (stored_at at (Some value.now))) }
         ensures slots { OnOk result (HasMoreSlots (slots self.old) (slots self.new) db (λ x. is_eq (name_cmp name.now x))) }
+        ensures read { OnOk result (HasPutSlot (read self.old) (read self.new) db name.now at) }
         ensures nodes { (k : ℕ) (low : Named) → IsSome (nodes self.old db k low) → OnOk result (AreNodesStill (nodes self.old) (nodes self.new)) };
 
     /// Takes the tree of a database out, with its records. It takes no memory.
@@ -120,7 +127,7 @@ pub trait Loads {
         value: Option<Octets>,
     ) -> Result<(), LoadErr>
         requires { has_tree self.old db ≡ true }
-        ensures fits { (es : List (ℕ × Entry)) (base : ℕ) → first < base → IsLoggedAt es db name at value → fits self.old es base → OnOk result (fits self.new es base) }
+        ensures fits { (es : List (ℕ × Entry)) (base : ℕ) → first < base → at < base → base < 2 ^ 64 → IsLoggedAt es db name at value → fits self.old es base → OnOk result (fits self.new es base) }
         ensures stored { OnOk result (HasStored (stored self.old) (stored self.new) db name (stored_at at value)) }
         ensures slots { OnOk result (HasMoreSlots (slots self.old) (slots self.new) db (λ x. is_eq (name_cmp name x))) }
         ensures nodes { slots self.old db name ≡ true → value_at name (stored self.old db) ≡ stored_at at value → OnOk result (AreNodesStill (nodes self.old) (nodes self.new)) }
@@ -158,4 +165,7 @@ pub trait Loads {
 
     /// And no nodes.
     ghost no_nodes: { (x : Self) (d k : ℕ) (low : Named) → has_tree x d ≡ false → nodes x d k low ≡ None };
+
+    /// And nothing was read of its names.
+    ghost none_read: { (x : Self) (d : ℕ) (name : Named) → has_tree x d ≡ false → read x d name ≡ None };
 }

@@ -7,6 +7,7 @@ use Rattle.je_order.specs.declared.name.Name.{Name}
 use Rattle.record_map.specs.Cells.{value_at}
 use Rattle.log_entry.specs.Body.{IsEntry}
 use Rattle.record_tree.specs.LoadedNodes.{AllNodes, AreNodesStill}
+use Rattle.record_tree.specs.LoadedSlots.{AllRead, IsReadStill}
 use Rattle.record_tree.specs.Stored.{AllStored, AreStoredStill}
 use Rattle.log_trees.specs.Placed.{Placed, AreInOrder}
 use Rattle.log_trees.specs.Changes.{LoggedChange, unwritten, last_of}
@@ -16,19 +17,19 @@ use Rattle.log_trees.specs.Walk.{Walk}
 use Rattle.log_trees.proofs.Right.{read_trees_are_right}
 use Rattle.log_meaning.proofs.Opened.{roots_rise}
 use Rattle.log_meaning.specs.Checkpoint.{Checkpoint, last_checkpoint}
-use Rattle.log_meaning.specs.ReadNodes.{stored_of, ArePutEach, IsRootPut, AreReadFrom}
+use Rattle.log_meaning.specs.ReadNodes.{stored_of, Loaded, AreLoadedEach, IsRootLoaded, AreReadFrom}
 use Rattle.recovery_je.specs.declared.roots.WalkNumbers.{WalkNumbers}
 use Rattle.recovery_je.specs.Putting.{AreRootsPut, IsIn, IsLogged, FitsRedo}
 use Rattle.recovery_je.specs.Recovering.{IsWalked}
 use Rattle.recovery_je.specs.Redoing.{waits}
-use Rattle.recovery_je.proofs.PutLaws.{same_nodes}
+use Rattle.recovery_je.proofs.PutLaws.{same_loaded}
 
 -- what reading the roots gives
-pub are_read : (files : List ℕ) (es : List Placed) (c : Checkpoint) (numbers : WalkNumbers) (begun before nodes : AllNodes) (was stored : AllStored) (walk : Walk) (last_node last : ℕ) → AllByRecursion (λ p. IsEntry p.1) es →
-    c ≡ last_checkpoint es → IsWalked files es c numbers was walk → AreRootsPut es c.roots numbers.node begun before → ((d k : ℕ) (low : Name) → begun d k low ≡ None) →
-    AreNodesStill before nodes → AreStoredStill was stored → numbers.node ≤ last_node → min last_node 0x7fffffffffffffff ≤ last → AreReadFrom es (last_checkpoint es) nodes stored last
-are_read files es c numbers begun before nodes was stored walk last_node last entries at walked roots none still same le reach =
-    subst (λ (k : Checkpoint). AreReadFrom es k nodes stored last) at (record {
+pub are_read : (files : List ℕ) (es : List Placed) (c : Checkpoint) (numbers : WalkNumbers) (begun before : Loaded) (nodes : AllNodes) (slots : AllRead) (was stored : AllStored) (walk : Walk) (last_node last : ℕ) → AllByRecursion (λ p. IsEntry p.1) es →
+    c ≡ last_checkpoint es → IsWalked files es c numbers was walk → AreRootsPut es c.roots numbers.node begun before → ((d k : ℕ) (low : Name) → begun.nodes d k low ≡ None) →
+    ((d : ℕ) (x : Name) → begun.slots d x ≡ None) → AreNodesStill before.nodes nodes → IsReadStill before.slots slots → AreStoredStill was stored → numbers.node ≤ last_node → min last_node 0x7fffffffffffffff ≤ last → AreReadFrom es (last_checkpoint es) nodes slots stored last
+are_read files es c numbers begun before nodes slots was stored walk last_node last entries at walked roots none bare still slots_still same le reach =
+    subst (λ (k : Checkpoint). AreReadFrom es k nodes slots stored last) at (record {
       entries = entries;
       rise = subst (λ (k : Checkpoint). rises root_before k.roots ≡ true) (sym at) (roots_rise es entries);
       home = right.home;
@@ -41,7 +42,8 @@ are_read files es c numbers begun before nodes was stored walk last_node last en
       reach = reach;
       begun = begun;
       none = none;
-      put = subst (ArePutEach (IsRootPut es roots.keeps last_node) c.roots begun) (sym (same_nodes before nodes still)) (roots.put last_node le);
+      bare = bare;
+      put = subst (AreLoadedEach (IsRootLoaded es roots.keeps last_node) c.roots begun) (sym (same_loaded before (record { nodes = nodes; slots = slots }) (record { nodes = still; slots = slots_still }))) (roots.put last_node le);
     })
   where
     right : AreRight es c.at c.roots walk

@@ -1,5 +1,5 @@
 // Recovery from the entries of a log.
-ghost use Rattle.std.specs.Prelude.{◌≡◌, ◌<◌, ℕ, List as Items, false, None, Ok, Err, IfOk, IfErr, map};
+ghost use Rattle.std.specs.Prelude.{◌≡◌, ◌<◌, ◌^◌, ℕ, List as Items, false, None, Ok, Err, IfOk, IfErr, map};
 ghost use Rattle.log_trees.specs.Walk.{Walk, and_then, read_roots as read_roots_of};
 ghost use Rattle.je_disk.specs.States.{AreRisingNumbers};
 ghost use Rattle.std.specs.List.{AllByRecursion};
@@ -11,7 +11,7 @@ ghost use Rattle.log_meaning.specs.Checkpoint.{behind};
 ghost use Rattle.log_meaning.specs.Meaning.{most};
 ghost use Rattle.log_meaning.specs.Reading.{redo_corruption as redo_corruption_of, unless, meaning_in};
 ghost use Rattle.recovery_je.specs.Indexing.{IsIndexCheck};
-ghost use Rattle.recovery_je.specs.Putting.{AreRootsPut, HasReadAgain, count_redone};
+ghost use Rattle.recovery_je.specs.Putting.{loaded, AreRootsPut, HasReadAgain, count_redone};
 ghost use Rattle.recovery_je.specs.Recovering.{HoldsChanges, HoldsRedo, IsWalked, IsMeant, IsFoundBy};
 
 use crate::checkpoint_end::{CheckpointEnd, last_end, or_none};
@@ -55,7 +55,7 @@ fn redo_entries<T: Loads + Drop>(
 ) -> Result<T, LoadErr>
     requires order { AreInOrder entries.items }
     ensures redone { (rows : Items LoggedChange) → HoldsChanges rows (T.stored trees) → IfOk result (λ made. HoldsRedo (behind rows (redone redo entries.items)) (T.stored made)) }
-    ensures fits { (base : ℕ) → AllByRecursion (λ p. p.0 < base) entries.items → T.fits trees entries.items base → IfOk result (λ made. T.fits made entries.items base) }
+    ensures fits { (base : ℕ) → base < 2 ^ 64 → AllByRecursion (λ p. p.0 < base) entries.items → T.fits trees entries.items base → IfOk result (λ made. T.fits made entries.items base) }
 {
     let mut trees = trees;
     ensure_tree(&mut trees, alloc, CATALOG)?;
@@ -112,7 +112,7 @@ fn read_trees<T: Loads + Drop>(
     requires order { AreInOrder entries.now }
     requires entries { AllByRecursion (λ p. IsEntry p.1) entries.now }
     ensures read { IfOk result (λ walked. (walk : Walk) × IsWalked (map (λ f. f.0) files.now) entries.now end.now walked.numbers (T.stored walked.trees) walk) }
-    ensures nodes { IfOk result (λ walked. AreRootsPut entries.now end.now.roots walked.numbers.node (T.nodes trees) (T.nodes walked.trees)) }
+    ensures nodes { IfOk result (λ walked. AreRootsPut entries.now end.now.roots walked.numbers.node (loaded T.nodes T.read trees) (loaded T.nodes T.read walked.trees)) }
     ensures right { IfOk result (λ walked. corruption ≡ None) }
     ensures found { IfErr result (λ e. IsFoundBy e (λ c. and_then (read_roots_of (map (λ f. f.0) files.now) entries.now end.now.at end.now.roots) (λ walk. unless corruption (Ok walk)) ≡ Err c)) }
 {
@@ -138,7 +138,7 @@ pub(crate) fn recover_entries<T: Loads + Drop>(
     requires order { AreInOrder entries.items }
     requires entries { AllByRecursion (λ p. IsEntry p.1) entries.items }
     ensures meant { IfOk result (λ m. IsMeant (map (λ f. f.0) files.now) entries.items (record { store = m.settled.opening; last_txn = m.last_txn; last_node = m.last_node; last_db = m.last_db; checkpoint = m.checkpoint }) (T.has_tree m.settled.trees) (T.stored m.settled.trees) m.settled.databases m.settled.records) }
-    ensures fits { IfOk result (λ m. HasReadAgain T.well_formed T.nodes T.stored T.last_number T.fits m.settled.trees m.redo entries.items) }
+    ensures fits { IfOk result (λ m. HasReadAgain T.well_formed T.nodes T.read T.stored T.last_number T.fits m.settled.trees m.redo entries.items) }
     ensures redone { IfOk result (λ m. m.redone ≡ count_redone entries.items) }
     ensures index { IfOk result (λ m. IsIndexCheck m.settled.opening m.settled.wrong_index) }
     ensures found { IfErr result (λ e. IsFoundBy e (λ c. meaning_in (map (λ f. f.0) files.now) entries.items ≡ Err c)) }

@@ -72,7 +72,7 @@ fn recover_files<T: Loads + Drop>(
     requires files { AreRisingNumbers files.now }
     requires empty { (d : ℕ) → T.has_tree trees d ≡ false }
     requires sound { AreSound read }
-    ensures recovered { (observable : Bool) (reads : Files) → AreRead observable reads files.now read → IfOk result (λ r. IsReadingOf observable reads files.now (IsRecoveredFrom (record { store = r.opening; last_txn = r.last_txn; last_node = r.last_node; last_db = r.last_db; checkpoint = r.checkpoint }) (T.has_tree r.trees) (T.stored r.trees) r.databases r.records r.redone r.tail (HasReadAgain T.well_formed T.nodes T.stored T.last_number T.fits r.trees r.redo))) }
+    ensures recovered { (observable : Bool) (reads : Files) → AreRead observable reads files.now read → IfOk result (λ r. IsReadingOf observable reads files.now (IsRecoveredFrom (record { store = r.opening; last_txn = r.last_txn; last_node = r.last_node; last_db = r.last_db; checkpoint = r.checkpoint }) (T.has_tree r.trees) (T.stored r.trees) r.databases r.records r.redone r.tail (HasReadAgain T.well_formed T.nodes T.read T.stored T.last_number T.fits r.trees r.redo))) }
     ensures corrupt { (observable : Bool) (reads : Files) → AreRead observable reads files.now read → IfErr result (λ e. IsCorruptBy e (λ corruption. IsReadingOf observable reads files.now (λ held. reading_of held ≡ Err corruption))) }
     ensures index { (observable : Bool) (reads : Files) → AreRead observable reads files.now read → IfErr result (λ e. IsIndexBy e (λ name. IsReadingOf observable reads files.now (HasWrongIndex name))) }
     ensures other { IfErr result IsNoDiskErr }
@@ -103,7 +103,7 @@ pub fn recover<D: Disk, T: Loads + Drop>(
 ) -> Result<Recovered<T>, RecoverErr>
     requires files { AreRisingNumbers files.now }
     requires empty { (d : ℕ) → T.has_tree trees d ≡ false }
-    ensures recovered { IfOk result (λ r. IsReadingOf D.observable (now (D.history disk.old)).reads files.now (IsRecoveredFrom (record { store = r.opening; last_txn = r.last_txn; last_node = r.last_node; last_db = r.last_db; checkpoint = r.checkpoint }) (T.has_tree r.trees) (T.stored r.trees) r.databases r.records r.redone r.tail (HasReadAgain T.well_formed T.nodes T.stored T.last_number T.fits r.trees r.redo))) }
+    ensures recovered { IfOk result (λ r. IsReadingOf D.observable (now (D.history disk.old)).reads files.now (IsRecoveredFrom (record { store = r.opening; last_txn = r.last_txn; last_node = r.last_node; last_db = r.last_db; checkpoint = r.checkpoint }) (T.has_tree r.trees) (T.stored r.trees) r.databases r.records r.redone r.tail (HasReadAgain T.well_formed T.nodes T.read T.stored T.last_number T.fits r.trees r.redo))) }
     ensures corrupt { IfErr result (λ e. IsCorruptBy e (λ corruption. IsReadingOf D.observable (now (D.history disk.old)).reads files.now (λ held. reading_of held ≡ Err corruption))) }
     ensures index { IfErr result (λ e. IsIndexBy e (λ name. IsReadingOf D.observable (now (D.history disk.old)).reads files.now (HasWrongIndex name))) }
     ensures same { D.observable ≡ true → now (D.history disk.new) ≡ now (D.history disk.old) }
@@ -136,7 +136,7 @@ pub fn recover_disk<D: Disk, T: Loads + Drop>(
     trees: T,
 ) -> Result<Recovered<T>, RecoverErr>
     requires { (d : ℕ) → T.has_tree trees d ≡ false }
-    ensures recovered { IfOk result (λ r. HasFiles D.observable (now (D.history disk.old)).reads (IsRecoveredFrom (record { store = r.opening; last_txn = r.last_txn; last_node = r.last_node; last_db = r.last_db; checkpoint = r.checkpoint }) (T.has_tree r.trees) (T.stored r.trees) r.databases r.records r.redone r.tail (HasReadAgain T.well_formed T.nodes T.stored T.last_number T.fits r.trees r.redo))) }
+    ensures recovered { IfOk result (λ r. HasFiles D.observable (now (D.history disk.old)).reads (IsRecoveredFrom (record { store = r.opening; last_txn = r.last_txn; last_node = r.last_node; last_db = r.last_db; checkpoint = r.checkpoint }) (T.has_tree r.trees) (T.stored r.trees) r.databases r.records r.redone r.tail (HasReadAgain T.well_formed T.nodes T.read T.stored T.last_number T.fits r.trees r.redo))) }
     ensures corrupt { IfErr result (λ e. IsCorruptBy e (λ corruption. HasFiles D.observable (now (D.history disk.old)).reads (λ held. reading_of held ≡ Err corruption))) }
     ensures index { IfErr result (λ e. IsIndexBy e (λ name. HasFiles D.observable (now (D.history disk.old)).reads (HasWrongIndex name))) }
     ensures same { D.observable ≡ true → now (D.history disk.new) ≡ now (D.history disk.old) }

@@ -1,5 +1,5 @@
 // Reading the entries of a log again.
-ghost use Rattle.std.specs.Prelude.{◌≡◌, ◌<◌, ℕ, List as Items, [], ◌∷◌, Some, true, OnOk};
+ghost use Rattle.std.specs.Prelude.{◌≡◌, ◌<◌, ◌^◌, ℕ, List as Items, [], ◌∷◌, Some, true, OnOk};
 ghost use Rattle.std.specs.List.{AllByRecursion};
 ghost use Rattle.log_meaning.specs.Redo.{Redo, redo_entry, redo_all, from};
 ghost use Rattle.record_tree.specs.Stored.{AreStoredStill};
@@ -71,7 +71,7 @@ fn make_change<T: Loads>(
     change: WaitingChange,
 ) -> Result<(), LoadErr>
     ensures made { OnOk result (HasMade (change ∷ []) (T.stored trees.old) (T.stored trees.new)) }
-    ensures fits { (es : Items Placed) (base : ℕ) → first < base → IsLogged es base change → T.fits trees.old es base → OnOk result (T.fits trees.new es base) }
+    ensures fits { (es : Items Placed) (base : ℕ) → base < 2 ^ 64 → first < base → IsLogged es base change → T.fits trees.old es base → OnOk result (T.fits trees.new es base) }
 {
     let WaitingChange {
         db,
@@ -105,7 +105,7 @@ fn make_changes<T: Loads>(
     changes: List<WaitingChange>,
 ) -> Result<(), LoadErr>
     ensures made { OnOk result (HasMade changes (T.stored trees.old) (T.stored trees.new)) }
-    ensures fits { (es : Items Placed) (base : ℕ) → AllByRecursion (IsLogged es base) changes → T.fits trees.old es base → OnOk result (T.fits trees.new es base) }
+    ensures fits { (es : Items Placed) (base : ℕ) → base < 2 ^ 64 → AllByRecursion (IsLogged es base) changes → T.fits trees.old es base → OnOk result (T.fits trees.new es base) }
 {
     let first = first_of(changes.as_slice());
     for change in changes.into_vec() {
@@ -124,7 +124,7 @@ fn take_entry<T: Loads>(
     entry: Entry,
 ) -> Result<(), LoadErr>
     ensures redo { (redo : Redo) → IsRedoAt (T.stored trees.old) waiting.old redo → OnOk result (IsRedoAt (T.stored trees.new) waiting.new (redo_entry at entry redo)) }
-    ensures fits { (es : Items Placed) (base : ℕ) → IsIn es base (at, entry) → FitsRedo T.fits es base trees.old waiting.old → OnOk result (FitsRedo T.fits es base trees.new waiting.new) }
+    ensures fits { (es : Items Placed) (base : ℕ) → base < 2 ^ 64 → IsIn es base (at, entry) → FitsRedo T.fits es base trees.old waiting.old → OnOk result (FitsRedo T.fits es base trees.new waiting.new) }
 {
     match entry {
         Entry::Put {
@@ -180,7 +180,7 @@ fn take_placed<T: Loads>(
     placed: PlacedEntry,
 ) -> Result<(), LoadErr>
     ensures redo { (r : Redo) → IsRedoAt (T.stored going.old.trees) going.old.waiting r → OnOk result (IsRedoAt (T.stored going.new.trees) going.new.waiting (redo_all (from redo (placed ∷ [])) r)) }
-    ensures fits { (es : Items Placed) (base : ℕ) → IsIn es base placed → FitsRedo T.fits es base going.old.trees going.old.waiting → OnOk result (FitsRedo T.fits es base going.new.trees going.new.waiting) }
+    ensures fits { (es : Items Placed) (base : ℕ) → base < 2 ^ 64 → IsIn es base placed → FitsRedo T.fits es base going.old.trees going.old.waiting → OnOk result (FitsRedo T.fits es base going.new.trees going.new.waiting) }
 {
     let PlacedEntry { at, entry } = placed;
     if at.as_u64() < redo.as_u64() {
@@ -198,7 +198,7 @@ pub(crate) fn take_all<T: Loads>(
     entries: Vec<PlacedEntry>,
 ) -> Result<(), LoadErr>
     ensures redo { (r : Redo) → IsRedoAt (T.stored going.old.trees) going.old.waiting r → OnOk result (IsRedoAt (T.stored going.new.trees) going.new.waiting (redo_all (from redo entries.items) r)) }
-    ensures fits { (es : Items Placed) (base : ℕ) → AllByRecursion (IsIn es base) entries.items → FitsRedo T.fits es base going.old.trees going.old.waiting → OnOk result (FitsRedo T.fits es base going.new.trees going.new.waiting) }
+    ensures fits { (es : Items Placed) (base : ℕ) → base < 2 ^ 64 → AllByRecursion (IsIn es base) entries.items → FitsRedo T.fits es base going.old.trees going.old.waiting → OnOk result (FitsRedo T.fits es base going.new.trees going.new.waiting) }
 {
     for placed in entries {
         take_placed(going, alloc, redo, placed)?;

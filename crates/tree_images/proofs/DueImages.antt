@@ -9,7 +9,7 @@ use Rattle.record_map.specs.Cells.{value_at}
 use Rattle.tree_nodes.specs.declared.node.Node.{Node}
 use Rattle.tree_nodes.specs.Nodes.{NodeRow}
 use Rattle.tree_nodes.specs.Levels.{row_of}
-use Rattle.db_tree.specs.Content.{held_by}
+use Rattle.db_tree.specs.Content.{kept_by}
 use Rattle.db_tree.specs.NodeImages.{node_of, number_in, number_of, finished}
 use Rattle.db_tree.specs.NodeSteps.{WasThere, IsNoted}
 use Rattle.db_tree.specs.Trees.{IsImageOf}
@@ -43,15 +43,16 @@ noted_numbers old new level low at noted k x = by_new (value_at x (row_of new k)
     by_new (Some n) there = let w = by_place n there (place_of level low k x) in ap number_in w.1 ∙ sym w.2
 
 pub due_logged : DueImagesAreLogged
-due_logged es home last d before rows cells image images at due behind entry = record {
+due_logged es home last d before rows cells image images at due behind touched entry = record {
   there = due.order.0;
-  content = λ o found. subst (λ (m : Node). IsImageOf (es ++ (at, (finished rows image).entry) ∷ []) rows (held_by cells) image.level (image.low, m) at) (same_Some n o (sym n_there ∙ found)) content;
-  next = λ new parts noted. record {
+  content = λ o found. subst (λ (m : Node). IsImageOf (es ++ (at, (finished rows image).entry) ∷ []) rows (kept_by cells) image.level (image.low, m) at) (same_Some n o (sym n_there ∙ found)) content;
+  next = λ new parts noted exact. record {
     parts = parts;
     rising = due.rising;
     imaged = subst (λ (e : Entry). AreImaged (es ++ (at, e) ∷ []) home last d (map node_of images) new) (sym whole)
         (logged_imaged es home last d (map node_of images) rows new cells image.level image.low n at may noted);
     recorded = recorded_stays es ((at, (finished rows image).entry) ∷ []) d cells due.recorded;
+    exact = exact;
     order = orders_stay (map node_of images) rows new image.level image.low at noted due.order.2;
     made = due.made.1;
     lows = noted.lows ∙ due.lows;
@@ -73,7 +74,7 @@ due_logged es home last d before rows cells image images at due behind entry = r
         finished_whole es home last d (map node_of (image ∷ images)) before rows cells image n due.made.0 due.lows (due.numbers image.level image.low ∙ ap number_in n_there) due.parts due.imaged n_there due.order.1
 
     may : MayLog es home last d (map node_of (image ∷ images)) rows cells image.level image.low n at
-    may = record { parts = due.parts; rising = due.rising; behind = behind; imaged = due.imaged; recorded = due.recorded; there = n_there; children = due.order.1; entry = subst IsEntry whole entry }
+    may = record { parts = due.parts; rising = due.rising; behind = behind; imaged = due.imaged; recorded = due.recorded; touched = touched; there = n_there; children = due.order.1; entry = subst IsEntry whole entry }
 
-    content : IsImageOf (es ++ (at, (finished rows image).entry) ∷ []) rows (held_by cells) image.level (image.low, n) at
-    content = subst (λ (e : Entry). IsImageOf (es ++ (at, e) ∷ []) rows (held_by cells) image.level (image.low, n) at) (sym whole) (images_have_content es home last d (map node_of (image ∷ images)) rows cells image.level image.low n at may)
+    content : IsImageOf (es ++ (at, (finished rows image).entry) ∷ []) rows (kept_by cells) image.level (image.low, n) at
+    content = subst (λ (e : Entry). IsImageOf (es ++ (at, e) ∷ []) rows (kept_by cells) image.level (image.low, n) at) (sym whole) (images_have_content es home last d (map node_of (image ∷ images)) rows cells image.level image.low n at may)

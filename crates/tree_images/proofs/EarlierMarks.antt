@@ -1,12 +1,12 @@
 -- Trees whose nodes have earlier marks.
-use Rattle.std.proofs.Common.{◌≡◌, ◌≤◌, ◌<◌, ◌⊎◌, ℕ, suc, List, Option, Some, ap, sym, ◌∙◌, inl, inr, arith}
+use Rattle.std.proofs.Common.{◌≤◌, ◌<◌, ◌⊎◌, ℕ, List, inl, inr, arith}
 use Rattle.je_order.specs.declared.name.Name.{Name}
 use Rattle.tree_nodes.specs.declared.node.Node.{Node}
 use Rattle.tree_nodes.specs.Nodes.{NodeRow, IsOver}
 use Rattle.tree_nodes.specs.Levels.{row_of}
-use Rattle.db_tree.specs.Images.{entry_at, child_in, shown}
 use Rattle.db_tree.specs.NodeSteps.{WasThere}
-use Rattle.db_tree.specs.Trees.{IsBehind, IsMark, IsMarked}
+use Rattle.db_tree.specs.Trees.{IsBehind, IsMark}
+use Rattle.db_tree.proofs.Marking.{Comes, come}
 use Rattle.tree_images.specs.NodeLaws.{AreMarkedEarlier, EarlierMarksKeepTrees}
 use Rattle.tree_images.proofs.Ordered.{there_stays}
 
@@ -33,33 +33,13 @@ behind_earlier base newest m n x mark behind = let from = mark.from behind.0 beh
     by_side g le (inr h) = inr (omega (arith, le, h))
 
 pub earlier_keep : EarlierMarksKeepTrees
-earlier_keep es base newest old new held earlier tree = record {
-  reads = λ level x e at over is. (let w : WasOver old level x e = was_over old new earlier level x e over in tree.reads level x (e.0, w.node) at w.over (sym w.mark.last ∙ is));
-  leaf = λ x e over. leaf x e (was_over old new earlier 0 x e over);
-  inner = λ level x e c upper lower. inner level x e c (was_over old new earlier (suc level) x e upper) (was_over old new earlier level x c lower);
-  names = λ level x e c at upper lower is. named level x e c at is (was_over old new earlier (suc level) x e upper) (was_over old new earlier level x c lower);
-}
+earlier_keep es base newest old new held earlier tree = come es base newest old new held (λ level x e over. comes level x e (was_over old new earlier level x e over)) tree
   where
-    same_shown : (level : ℕ) (x : Name) (m n : Node) → IsMark m n → shown es level n.last x ≡ shown es level m.last x
-    same_shown level x m n mark = ap (λ (o : Option ℕ). shown es level o x) mark.last
-
-    leaf : (x : Name) (e : Name × Node) → WasOver old 0 x e → (shown es 0 e.1.last x ≡ held x) ⊎ IsBehind base newest e.1 x
-    leaf x e w = by_side (tree.leaf x (e.0, w.node) w.over)
-      where
-        by_side : (shown es 0 w.node.last x ≡ held x) ⊎ IsBehind base newest w.node x → (shown es 0 e.1.last x ≡ held x) ⊎ IsBehind base newest e.1 x
-        by_side (inl h) = inl (same_shown 0 x w.node e.1 w.mark ∙ h)
-        by_side (inr h) = inr (behind_earlier base newest w.node e.1 x w.mark h)
-
-    inner : (level : ℕ) (x : Name) (e c : Name × Node) → WasOver old (suc level) x e → WasOver old level x c → (shown es (suc level) e.1.last x ≡ shown es level c.1.last x) ⊎ IsBehind base newest e.1 x
-    inner level x e c w v = by_side (tree.inner level x (e.0, w.node) (c.0, v.node) w.over v.over)
-      where
-        by_side : (shown es (suc level) w.node.last x ≡ shown es level v.node.last x) ⊎ IsBehind base newest w.node x → (shown es (suc level) e.1.last x ≡ shown es level c.1.last x) ⊎ IsBehind base newest e.1 x
-        by_side (inl h) = inl (same_shown (suc level) x w.node e.1 w.mark ∙ h ∙ sym (same_shown level x v.node c.1 v.mark))
-        by_side (inr h) = inr (behind_earlier base newest w.node e.1 x w.mark h)
-
-    named : (level : ℕ) (x : Name) (e c : Name × Node) (at : ℕ) → e.1.last ≡ Some at → WasOver old (suc level) x e → WasOver old level x c → (child_in (entry_at es at) x ≡ c.1.last) ⊎ IsMarked e.1
-    named level x e c at is w v = by_side (tree.names level x (e.0, w.node) (c.0, v.node) at w.over v.over (sym w.mark.last ∙ is))
-      where
-        by_side : (child_in (entry_at es at) x ≡ v.node.last) ⊎ IsMarked w.node → (child_in (entry_at es at) x ≡ c.1.last) ⊎ IsMarked e.1
-        by_side (inl h) = inl (h ∙ sym v.mark.last)
-        by_side (inr h) = (let g = w.mark.from h.0 h.1 in inr (g.0, g.1))
+    comes : (level : ℕ) (x : Name) (e : Name × Node) → WasOver old level x e → Comes base newest (row_of old level) x e
+    comes level x e w = record {
+      was = (e.0, w.node);
+      over = w.over;
+      last = w.mark.last;
+      behind = λ h. behind_earlier base newest w.node e.1 x w.mark h;
+      marked = λ h. (let g = w.mark.from h.0 h.1 in (g.0, g.1));
+    }

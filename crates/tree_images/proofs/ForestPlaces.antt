@@ -16,7 +16,11 @@ use Rattle.db_tree.specs.NodeImages.{node_of, IsNodeImage}
 use Rattle.db_tree.specs.Shapes.{IsCellMade, made_by}
 use Rattle.db_tree.specs.Trees.{cell_or_fresh}
 use Rattle.db_tree.specs.Waiting.{is_among}
+use Rattle.std.proofs.lemmas.List.{append-nil}
+use Rattle.db_tree.specs.declared.node_at.NodeAt.{NodeAt}
+use Rattle.db_tree.specs.Dirty.{AreExact}
 use Rattle.tree_images.specs.Fits.{AreImaged, AreRecorded, IsRecorded}
+use Rattle.tree_images.proofs.PlacedExact.{placed_exact}
 use Rattle.tree_images.specs.Forest.{latest_at, AreLogged, FitsDue, IsLoggedWrite}
 use Rattle.tree_images.specs.Notes.{HasNotes, NotesHold, is_late, may_stay}
 use Rattle.tree_images.specs.PlaceLaws.{home_with, AreInOrder, IsPlacedWith}
@@ -48,7 +52,7 @@ placed_logged es base fanout first d x room old new h all = by_new room.is_new h
 
 pub placed_fits : (es : Placed) (base : ℕ) (home : ℕ → Home) (last d fanout : ℕ) (x : Name) (room : SlotRoom) (first later : ℕ) (old new : DbTree) → HasSlot fanout first d x room old new →
     last < first → first + made_by room ≤ suc later → later < 2 ^ 64 → FitsDue es base home last d old [] → FitsDue es base (home_with home first d room.splits.items) later d new room.images.items
-placed_fits es base home last d fanout x room first later old new h lt enough small fits = by_images room.images.items placed.imaged placed.order h.images.each
+placed_fits es base home last d fanout x room first later old new h lt enough small fits = by_images room.images.items exact placed.imaged placed.order h.images.each
   where
     placed : IsPlacedWith es (home_with home first d room.splits.items) later d room new
     placed = trees_placed es home last d fanout x room first later old new h.was_parts h.parts h.placed h.images h.numbers h.splits lt enough small fits.imaged
@@ -56,12 +60,17 @@ placed_fits es base home last d fanout x room first later old new h lt enough sm
     recorded : AreRecorded es d new.cells
     recorded = made_cells es d x room.is_new old.cells new.cells h.placed.back.cells fits.recorded
 
-    by_images : (images : List NodeImage) → AreImaged es (home_with home first d room.splits.items) later d (map node_of images) new.levels → AreInOrder new.levels (map node_of images) →
+    exact : AreExact (map node_of room.images.items) new.levels new.cells
+    exact =
+        subst (λ (due : List NodeAt). AreExact due new.levels new.cells) (append-nil (map node_of room.images.items))
+        (placed_exact [] d fanout x room old new h.was_parts h.placed h.images h.splits h.rising fits.exact)
+
+    by_images : (images : List NodeImage) → AreExact (map node_of images) new.levels new.cells → AreImaged es (home_with home first d room.splits.items) later d (map node_of images) new.levels → AreInOrder new.levels (map node_of images) →
         AllByRecursion (IsNodeImage d new.levels new.cells) images → FitsDue es base (home_with home first d room.splits.items) later d new images
-    by_images [] imaged order made = record { tree = h.keeps es base (latest_at base es d) fits.tree; imaged = imaged; recorded = recorded }
-    by_images (image ∷ images) imaged order made = record {
+    by_images [] exact imaged order made = record { tree = h.keeps es base (latest_at base es d) fits.tree; imaged = imaged; recorded = recorded; exact = exact }
+    by_images (image ∷ images) exact imaged order made = record {
       before = new.levels;
-      due = record { parts = h.parts; rising = h.rising; imaged = imaged; recorded = recorded; order = order; made = made; lows = refl; numbers = λ level low. refl };
+      due = record { parts = h.parts; rising = h.rising; imaged = imaged; recorded = recorded; exact = exact; order = order; made = made; lows = refl; numbers = λ level low. refl };
       is_tree = h.keeps es base (latest_at base es d) fits.tree;
     }
 

@@ -11,7 +11,7 @@ use Rattle.tree_nodes.specs.Nodes.{NodeRow}
 use Rattle.log_trees.specs.Sound.{Home}
 use Rattle.db_tree.specs.declared.node_image.NodeImage.{NodeImage}
 use Rattle.db_tree.specs.declared.tree.DbTree.{DbTree}
-use Rattle.db_tree.specs.Content.{held_by}
+use Rattle.db_tree.specs.Content.{kept_by}
 use Rattle.db_tree.specs.Images.{Placed}
 use Rattle.db_tree.specs.NodeImages.{node_of}
 use Rattle.db_tree.specs.Trees.{IsTree}
@@ -30,7 +30,7 @@ use Rattle.tree_images.proofs.NotedNodes.{notes_weaker}
 
 pub tree_stays : (es more : Placed) (base d : ℕ) (rows : List NodeRow) (cells : List (Name × Cell)) → IsTree es base (latest_at base es d) rows cells →
     IsTree (es ++ more) base (latest_at base (es ++ more) d) rows cells
-tree_stays es more base d rows cells is = longer es more base (latest_at base es d) (latest_at base (es ++ more) d) rows (held_by cells) (latest_rises base es more d) is
+tree_stays es more base d rows cells is = longer es more base (latest_at base es d) (latest_at base (es ++ more) d) rows (kept_by cells) (latest_rises base es more d) is
 
 pub due_stays : (es more : Placed) (home other : ℕ → Home) (last later d : ℕ) (before rows : List NodeRow) (cells : List (Name × Cell)) (images : List NodeImage) → AgreesUpTo last home other → last ≤ later →
     AreDue es home last d before rows cells images → AreDue (es ++ more) other later d before rows cells images
@@ -39,6 +39,7 @@ due_stays es more home other last later d before rows cells images agrees le due
   rising = due.rising;
   imaged = imaged_stays es more home other last later d (map node_of images) rows agrees le due.imaged;
   recorded = recorded_stays es more d cells due.recorded;
+  exact = due.exact;
   order = due.order;
   made = due.made;
   lows = due.lows;

@@ -1,5 +1,5 @@
 -- One tree that fits its log, and its cells' changes, while a cell is set.
-use Rattle.std.proofs.Common.{◌≡◌, ◌≤◌, ◌⊎◌, ◌++◌, ℕ, zero, suc, List, [], ◌∷◌, Bool, true, false, cond, Option, None, Some, option_map, refl, ap, sym, subst, ◌∙◌, inl, inr, is_eq, filter}
+use Rattle.std.proofs.Common.{◌≡◌, ◌≤◌, ◌⊎◌, ◌++◌, ℕ, zero, suc, List, [], ◌∷◌, Bool, true, false, cond, Option, None, Some, option_map, refl, ap, sym, subst, ◌∙◌, inl, inr, is_eq, filter, map}
 use Rattle.std.specs.Prelude.{IfSome, Box}
 use Rattle.std.specs.Global.{Global}
 use Rattle.std.specs.List.{AllByRecursion}
@@ -29,10 +29,13 @@ use Rattle.db_tree.specs.declared.node_image.NodeImage.{NodeImage}
 use Rattle.db_tree.specs.declared.tree.DbTree.{DbTree}
 use Rattle.db_tree.specs.Content.{record_slots, slot_for}
 use Rattle.db_tree.specs.Images.{Placed}
-use Rattle.db_tree.specs.NodeImages.{node_entry, number_of, IsNodeImage}
-use Rattle.db_tree.specs.NodeSteps.{IsMarkedFrom, written_lsn}
+use Rattle.db_tree.specs.NodeImages.{node_entry, node_of, number_of, IsNodeImage}
+use Rattle.db_tree.specs.Dirty.{IsCommitAt, IsCommittedOver}
+use Rattle.db_tree.specs.NodeSteps.{written_lsn}
 use Rattle.db_tree.specs.Trees.{given_up}
 use Rattle.tree_images.specs.Sound.{IsNumber}
+use Rattle.db_tree.specs.Dirty.{AreExact}
+use Rattle.tree_images.proofs.Exact.{new_exact}
 use Rattle.tree_images.specs.Fits.{AreImaged, AreRecorded, IsRecorded}
 use Rattle.tree_images.specs.Forest.{latest_at, logged_at, AreLogged, FitsDue, IsLoggedWrite}
 use Rattle.tree_images.specs.Laws.{HasSet}
@@ -40,7 +43,7 @@ use Rattle.tree_images.specs.LogLaws.{AreDue}
 use Rattle.tree_images.specs.Notes.{HasNotes, NotesHold, has_begun, has_changed, is_late}
 use Rattle.tree_images.specs.TreeSteps.{HasWritten, HasCommitted, HasGivenUp, IsNewTree}
 use Rattle.tree_images.proofs.NodeSteps.{same_imaged, new_imaged}
-use Rattle.tree_images.proofs.NotedNodes.{notes_marked}
+use Rattle.tree_images.proofs.NotedNodes.{notes_marked, notes_settled}
 use Rattle.tree_images.proofs.Recorded.{cells_are_set, write_recorded, committed_recorded, given_up_recorded}
 
 -- ---- what images show of cells
@@ -118,6 +121,7 @@ written_fits es base home last d x write old new [] h stands fits = record {
   tree = h.keeps es base (latest_at base es d) fits.tree;
   imaged = subst (λ (rows : List NodeRow). AreImaged es home last d [] rows) (sym h.levels) fits.imaged;
   recorded = written_recorded es d x write old new h stands fits.recorded;
+  exact = h.exact [] fits.exact;
 }
 written_fits es base home last d x write old new (image ∷ images) h stands is =
     let due = is.due in
@@ -128,6 +132,7 @@ written_fits es base home last d x write old new (image ∷ images) h stands is 
         rising = rising due.rising;
         imaged = due.imaged;
         recorded = written_recorded es d x write old new h stands due.recorded;
+        exact = subst (λ (rows : List NodeRow). AreExact (map node_of (image ∷ images)) rows new.cells) h.levels (h.exact (map node_of (image ∷ images)) due.exact);
         order = due.order;
         made = subst (λ (cells : List (Name × Cell)). AllByRecursion (IsNodeImage d is.before cells) (image ∷ images)) (sym h.list)
             (images_same x h.cell (with_write (Some write) h.cell) refl d is.before old.cells (image ∷ images) h.there due.made);
@@ -155,11 +160,12 @@ written_logged es base d x write old new h le = logged_set es base d old.cells n
 
 -- it fits where the log has the change committed
 pub committed_fits : (es : Placed) (base : ℕ) (home : ℕ → Home) (last d : ℕ) (x : Name) (at : ℕ) (old new : DbTree) → HasCommitted x at old new →
-    IfSome (written_lsn (value_at x old.cells)) (λ from. from ≤ latest_at base es d x) → FitsDue es base home last d old [] → FitsDue es base home last d new []
-committed_fits es base home last d x at old new h le fits = record {
-  tree = h.keeps es base (latest_at base es d) le fits.tree;
+    IfSome (written_lsn (value_at x old.cells)) (λ from. from ≤ latest_at base es d x) → IsCommitAt es at → FitsDue es base home last d old [] → FitsDue es base home last d new []
+committed_fits es base home last d x at old new h le commit fits = record {
+  tree = h.keeps es base (latest_at base es d) le commit fits.tree;
   imaged = same_imaged es home last d [] old.levels new.levels h.nodes fits.imaged;
   recorded = cells_are_set es d old.cells new.cells x (option_map (committed at h.last) (value_at x old.cells)) h.set (by_cell (value_at x old.cells) refl) fits.recorded;
+  exact = h.exact [] fits.exact;
 }
   where
     by_cell : (o : Option Cell) → value_at x old.cells ≡ o → IfSome (option_map (committed at h.last) o) (IsRecorded es d x)
@@ -211,9 +217,11 @@ committed_notes es base d x t at old new h all own late notes start begun = by_w
     by_cell None there = tt
     by_cell (Some cell) there = by_write cell.write (all x cell there) (own cell there)
 
-    by_written : (o : Option ℕ) → IfSome o (λ from. is_late es base start from ≡ true) → IsMarkedFrom o old.levels new.levels x → NotesHold (λ level low lsn. is_late es base start lsn) new.levels
+    by_written : (o : Option ℕ) → IfSome o (λ from. is_late es base start from ≡ true) → IsCommittedOver o new.cells old.levels new.levels x → NotesHold (λ level low lsn. is_late es base start lsn) new.levels
     by_written None passed same = subst (NotesHold (λ level low lsn. is_late es base start lsn)) (sym same) (notes start begun)
-    by_written (Some from) passed marked = notes_marked (λ level low lsn. is_late es base start lsn) old.levels new.levels 0 x from marked (λ low. passed) (notes start begun)
+    by_written (Some from) passed marked =
+        notes_settled (λ level low lsn. is_late es base start lsn) new.cells marked.0 new.levels x marked.2
+        (notes_marked (λ level low lsn. is_late es base start lsn) old.levels marked.0 0 x from marked.1 (λ low. passed) (notes start begun))
 
 -- ---- a tree with a change given up
 
@@ -222,6 +230,7 @@ given_up_fits es base home last d x old new h fits = record {
   tree = h.keeps es base (latest_at base es d) fits.tree;
   imaged = subst (λ (rows : List NodeRow). AreImaged es home last d [] rows) (sym h.levels) fits.imaged;
   recorded = cells_are_set es d old.cells new.cells x (given_up (value_at x old.cells)) h.set (given_up_recorded es d x (value_at x old.cells) (by_cell (value_at x old.cells) refl)) fits.recorded;
+  exact = h.exact es base (latest_at base es d) fits.tree [] fits.exact;
 }
   where
     by_cell : (o : Option Cell) → value_at x old.cells ≡ o → IfSome o (IsRecorded es d x)
@@ -246,6 +255,7 @@ new_fits es base home last d number tree h own = record {
   tree = h.is_tree es base (latest_at base es d);
   imaged = new_imaged es home last d number tree.levels h.root own;
   recorded = subst (λ (cells : List (Name × Cell)). AreRecorded es d cells) (sym h.cells) (λ x cell there. absurd (none-some cell there));
+  exact = new_exact [] number tree.levels tree.cells h.root;
 }
 
 pub new_logged : (es : Placed) (base d number : ℕ) (tree : DbTree) → IsNewTree number tree → AreLogged es base d tree.cells

@@ -70,3 +70,9 @@ pub mod ForestEnds
 pub mod ForestPlaces
 -- Trees where a change is redone.
 pub mod RedoneTrees
+-- Which BINs are dirty, where nodes are split for a name's slot, and where trees are new.
+pub mod Exact
+-- Which BINs are dirty, where a name got its slot and images are still to be logged.
+pub mod PlacedExact
+-- What is read of names: the slots of records that were deleted are those that the last images of their BINs have.
+pub mod ReadSlots

@@ -15,7 +15,6 @@ use Rattle.je_order.specs.Edges.Edge.{At}
 use Rattle.je_order.specs.declared.name.Name.{Name}
 use Rattle.je_order.proofs.Lists.{all_weaker, all_kept, filter_all_pass}
 use Rattle.log_entry.specs.declared.child_slot.ChildSlot.{ChildSlot}
-use Rattle.log_entry.specs.declared.record_slot.RecordSlot.{RecordSlot}
 use Rattle.log_entry.specs.declared.entry.Entry.{Entry}
 use Rattle.node_core.specs.declared.slot.Version.{Version}
 use Rattle.node_core.specs.declared.slot.Version.TheVariants.{There, Deleted, Unset}
@@ -36,7 +35,7 @@ use Rattle.log_trees.proofs.Cut.{side_by_side, children_whole}
 use Rattle.log_replay.proofs.ListLaws.{all_to_map}
 use Rattle.log_trees.proofs.Staying.{all_flat}
 use Rattle.db_tree.specs.declared.node_at.NodeAt.{NodeAt}
-use Rattle.db_tree.specs.Content.{held_by, slot_for, record_slots, child_slot_for, child_slots}
+use Rattle.db_tree.specs.Content.{kept_by, slot_for, record_slots, child_slot_for, child_slots}
 use Rattle.db_tree.specs.Images.{Placed, entry_at, IsRead}
 use Rattle.db_tree.proofs.Children.{ins_show}
 use Rattle.db_tree.proofs.Contents.{bins_show, within, between_before, passed_found}
@@ -236,9 +235,9 @@ images_sound es home last d due rows cells (suc k) low n at m =
 
 pub images_have_content : LoggedImagesHaveContent
 images_have_content es home last d due rows cells zero low n at m =
-    bins_show (es ++ (at, image_of d n.number 0 low rows cells) ∷ []) rows cells d n.number at low n m.rising (at_last es home last d due rows cells 0 low n at m)
+    bins_show (es ++ (at, image_of d n.number 0 low rows cells) ∷ []) rows cells d n.number at low n m.rising m.touched (at_last es home last d due rows cells 0 low n at m)
 images_have_content es home last d due rows cells (suc k) low n at m =
-    ins_show longer rows (held_by cells) d n.number (suc (suc k)) k at low n m.parts m.there read (at_last es home last d due rows cells (suc k) low n at m)
+    ins_show longer rows (kept_by cells) d n.number (suc (suc k)) k at low n m.parts m.there read (at_last es home last d due rows cells (suc k) low n at m)
   where
     longer : Placed
     longer = es ++ (at, image_of d n.number (suc k) low rows cells) ∷ []

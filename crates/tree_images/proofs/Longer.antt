@@ -11,7 +11,7 @@ use Rattle.tree_nodes.specs.Levels.{row_of}
 use Rattle.log_trees.specs.Trees.{data_of}
 use Rattle.log_trees.specs.Sound.{Home}
 use Rattle.db_tree.specs.declared.node_at.NodeAt.{NodeAt}
-use Rattle.db_tree.specs.Content.{held_by}
+use Rattle.db_tree.specs.Content.{kept_by}
 use Rattle.db_tree.specs.Images.{Placed}
 use Rattle.db_tree.proofs.Longer.{longer}
 use Rattle.tree_images.specs.Fits.{HasSoundImage, IsUnlogged, AreImaged, IsRecorded, AreRecorded}
@@ -50,7 +50,8 @@ recorded_stays es more d cells is x cell there = cell_stays es more d x cell (is
 
 pub trees_stay : FittingTreesStay
 trees_stay es more base newest newer home other last later d due rows cells le agrees more_numbers fits = record {
-  tree = longer es more base newest newer rows (held_by cells) le fits.tree;
+  tree = longer es more base newest newer rows (kept_by cells) le fits.tree;
   imaged = imaged_stays es more home other last later d due rows agrees more_numbers fits.imaged;
   recorded = recorded_stays es more d cells fits.recorded;
+  exact = fits.exact;
 }

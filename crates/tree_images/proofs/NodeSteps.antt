@@ -208,6 +208,7 @@ flushed_imaged es home last d old new cells level low n at m noted =
       behind = m.behind;
       imaged = more_due es home last d [] (one_at level low) old (λ k x among. absurd (true≢false (sym among))) m.imaged;
       recorded = m.recorded;
+      touched = m.touched;
       there = m.there;
       children = not_above level low old m.children;
       entry = m.entry;

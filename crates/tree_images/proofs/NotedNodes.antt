@@ -6,11 +6,13 @@ use Rattle.std.proofs.lemmas.Option.{none-some, same_Some}
 use Rattle.je_order.specs.declared.name.Name.{Name}
 use Rattle.record_map.specs.Cells.{value_at}
 use Rattle.tree_nodes.specs.declared.node.Node.{Node}
-use Rattle.tree_nodes.specs.Nodes.{NodeRow, IsOver, earlier, logged, marked}
+use Rattle.tree_nodes.specs.Nodes.{NodeRow, IsOver, earlier, logged, marked, unmarked}
 use Rattle.tree_nodes.specs.Levels.{row_of, HasMarkedAt, HasPutAt}
 use Rattle.tree_nodes.proofs.LevelLaws.{is_level}
 use Rattle.db_tree.specs.declared.node_at.NodeAt.{NodeAt}
 use Rattle.db_tree.specs.declared.node_split.NodeSplit.{NodeSplit}
+use Rattle.record_map.specs.declared.cell.Cell.{Cell}
+use Rattle.db_tree.specs.Dirty.{HasSettled, is_as_imaged}
 use Rattle.db_tree.specs.NodeSteps.{IsHandedUp, IsLoggedUp, mark_above}
 use Rattle.db_tree.specs.Shapes.{AreForced, forced_if}
 use Rattle.db_tree.specs.Splitting.{AreSplit, IsSplitAt}
@@ -102,6 +104,14 @@ notes_marked_if passes old new level x from m passed notes =
 
 pub notes_marked : (passes : ℕ → Name → ℕ → Bool) (old new : List NodeRow) (level : ℕ) (x : Name) (from : ℕ) → HasMarkedAt old new level x from → ((low : Name) → passes level low from ≡ true) → NotesHold passes old → NotesHold passes new
 notes_marked passes old new level x from m passed notes = notes_marked_if passes old new level x from m (λ unnoted. passed m.e.0) notes
+
+-- the mark of the node over a name goes, where it has its last image's content
+pub notes_settled : (passes : ℕ → Name → ℕ → Bool) (cells : List (Name × Cell)) (old new : List NodeRow) (x : Name) → HasSettled cells old new x → NotesHold passes old → NotesHold passes new
+notes_settled passes cells old new x s notes = by_test (is_as_imaged (row_of old 0) cells s.e) refl
+  where
+    by_test : (t : Bool) → is_as_imaged (row_of old 0) cells s.e ≡ t → NotesHold passes new
+    by_test true is = notes_put passes old new 0 s.e.0 s.e.0 s.e.1 (unmarked s.e.1) (over_low (row_of old 0) s.e.0 s.e.1 s.over.there) (s.cleared is) refl (λ unnoted. tt) notes
+    by_test false is = subst (NotesHold passes) (sym (s.kept is)) notes
 
 -- ---- an image is logged
 

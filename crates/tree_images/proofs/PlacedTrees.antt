@@ -62,16 +62,16 @@ one_same false false h = refl
 one_same true false h = absurd (omega (arith, h))
 one_same false true h = absurd (omega (arith, h))
 
-raised_same : (n : ℕ) (a b : Bool) → n + one_if a ≡ n + one_if b → a ≡ b
+pub raised_same : (n : ℕ) (a b : Bool) → n + one_if a ≡ n + one_if b → a ≡ b
 raised_same n a b h = one_same a b (omega (arith, h))
 
-none_made : (splits : List NodeSplit) (raised : Bool) → length splits + one_if raised ≡ 0 → (splits ≡ []) × (raised ≡ false)
+pub none_made : (splits : List NodeSplit) (raised : Bool) → length splits + one_if raised ≡ 0 → (splits ≡ []) × (raised ≡ false)
 none_made [] false h = (refl, refl)
 none_made [] true h = absurd (omega (arith, h))
 none_made (s ∷ splits) raised h = absurd (omega (arith, h))
 
 -- a name whose cell was not made had one
-had_slot : (x : Name) (old new : List (Name × Cell)) (t : Bool) → is_some (value_at x old) ≡ t → (made : Bool) → made ≡ false → IsCellMade made x old new → IsSome (value_at x new) → t ≡ true
+pub had_slot : (x : Name) (old new : List (Name × Cell)) (t : Bool) → is_some (value_at x old) ≡ t → (made : Bool) → made ≡ false → IsCellMade made x old new → IsSome (value_at x new) → t ≡ true
 had_slot x old new true was made none cells some = refl
 had_slot x old new false was true none cells some = absurd (true≢false none)
 had_slot x old new false was false none cells some = absurd (true≢false (sym some ∙ ap (λ (l : List (Name × Cell)). is_some (value_at x l)) cells ∙ was))
@@ -183,7 +183,7 @@ trees_placed es home last d fanout x room first later old new was now placed ima
 
 -- ---- a slot that is not logged
 
-slot_splits_of : (fanout : ℕ) (x : Name) (tree : DbTree) → AreParts tree.levels → AreSplitsOf (slot_splits fanout x (shape_in tree)) tree.levels
+pub slot_splits_of : (fanout : ℕ) (x : Name) (tree : DbTree) → AreParts tree.levels → AreSplitsOf (slot_splits fanout x (shape_in tree)) tree.levels
 slot_splits_of fanout x tree parts = by_slot (has_slot x (shape_in tree))
   where
     by_slot : (t : Bool) → AreSplitsOf (cond t [] (splits_of fanout x (shape_in tree))) tree.levels

@@ -4,13 +4,13 @@ use Rattle.std.specs.Prelude.{IfSome, find, option_map}
 use Rattle.std.specs.Option.{option_and_then}
 use mathlib.Core.Path.{fun_ext}
 use Rattle.std.proofs.lemmas.Bool.{true≢false, cases_order, ne_eqb, eq-eqb}
-use Rattle.std.proofs.lemmas.Option.{same_Some}
+use Rattle.std.proofs.lemmas.Option.{none-some, same_Some}
 use Rattle.std.specs.List.{AllByRecursion}
 use Rattle.je_order.specs.declared.name.Name.{Name}
 use Rattle.log_entry.specs.Body.{IsEntry}
 use Rattle.log_entry.specs.declared.root.Root.{Root}
 use Rattle.record_map.specs.declared.cell.Cell.{Cell}
-use Rattle.record_map.specs.Cells.{value_at}
+use Rattle.record_map.specs.Cells.{value_at, IsRising}
 use Rattle.record_tree.specs.LoadedNodes.{LoadedNode, AllNodes, least}
 use Rattle.tree_nodes.specs.declared.node.Node.{Node}
 use Rattle.tree_nodes.specs.Nodes.{NodeRow, IsOver}
@@ -21,16 +21,22 @@ use Rattle.log_trees.specs.Trees.{shows as shows_slot, written_at, tree_shows, s
 use Rattle.log_trees.specs.Sound.{least_name, Home, at_home, IsTreeAt, IsRootAt}
 use Rattle.log_trees.proofs.Bounds.{within_from, none_below_least}
 use Rattle.log_trees.proofs.Rooted.{RiseFrom, rise_of, roots_show_rows}
-use Rattle.log_meaning.specs.ReadNodes.{is_delta, stored_of, ArePutEach, IsRootPut}
+use Rattle.log_meaning.specs.ReadNodes.{is_delta, stored_of, ArePutEach, IsRootPut, Loaded}
+use Rattle.log_meaning.proofs.Loading.{roots_nodes}
+use Rattle.record_tree.specs.LoadedSlots.{ReadSlot, has_slot}
 use Rattle.db_tree.specs.declared.tree.DbTree.{DbTree}
-use Rattle.db_tree.specs.Content.{held_by}
-use Rattle.db_tree.specs.Images.{Placed, shown, shows}
-use Rattle.db_tree.specs.Loading.{loaded_in}
+use Rattle.node_core.specs.declared.slot.Version.{Version}
+use Rattle.node_core.specs.declared.slot.Version.TheVariants.{There, Deleted, Unset}
+use Rattle.db_tree.specs.Content.{held_by, kept_by, lsn_of}
+use Rattle.db_tree.specs.Images.{Placed, entry_at, shown, shows, version_in}
+use Rattle.db_tree.specs.Loading.{loaded_in, slot_read}
 use Rattle.db_tree.specs.Stored.{stored_under}
 use Rattle.db_tree.proofs.Over.{over_once, is_over, there_is}
+use Rattle.db_tree.proofs.Says.{image_says}
 use Rattle.tree_images.specs.Fits.{AreRecorded, FitsTree}
 use Rattle.tree_images.specs.Forest.{latest_at, IsLoggedWrite}
 use Rattle.tree_images.specs.ReadLaws.{IsAsRead, IsReadTree, ReadForestsFit}
+use Rattle.tree_images.proofs.ReadSlots.{IsGone, IsReadAs, cells_read, deleted_is, gone_says, says_gone, slot_got, slot_is, was_gone}
 use Rattle.tree_images.proofs.LateMarks.{none_begun}
 use Rattle.tree_images.proofs.Images.{images_show}
 use Rattle.tree_images.proofs.Read.{inner_same, read_fit, unread_fit}
@@ -38,6 +44,18 @@ use Rattle.tree_images.proofs.ReadNodes.{ShowsNodes, IsPut, nodes_put}
 use Rattle.tree_images.proofs.ReadImages.{sound}
 use Rattle.tree_images.proofs.ReadTrees.{IsFound, there_some, as_read, as_unread, each_found, only_root, last_is, low_there, height}
 use Rattle.tree_images.proofs.ReadRecords.{shown_data, held_is, recorded_is}
+
+-- ---- versions
+
+-- two versions are the same that are of the same record, or say both that it was deleted
+versions_same : (a b : Version) → lsn_of a ≡ lsn_of b → (a ≡ Deleted → b ≡ Deleted) → (b ≡ Deleted → a ≡ Deleted) → a ≡ b
+versions_same (There l) (There m) is to back = ap There (same_Some l m is)
+versions_same (There l) Deleted is to back = absurd (none-some l (sym is))
+versions_same (There l) Unset is to back = absurd (none-some l (sym is))
+versions_same Deleted b is to back = sym (to refl)
+versions_same Unset (There m) is to back = absurd (none-some m is)
+versions_same Unset Deleted is to back = back refl
+versions_same Unset Unset is to back = refl
 
 -- ---- one tree
 
@@ -54,7 +72,8 @@ module _ (es : Placed) (home : ℕ → Home) (last d : ℕ) (rows : List NodeRow
 
 module _ (es : Placed) (keeps : Bool) (most : ℕ) (home : ℕ → Home) (last base d : ℕ) (tree : DbTree) (parts : AreParts tree.levels) (entries : AllByRecursion (λ p. IsEntry p.1) es) (below : AllByRecursion (λ p. p.0 < base) es) (le : most ≤ last)
     (top at : ℕ) (root : IsFound es keeps most home d tree.levels parts entries top least None at) (none : (j : ℕ) (q : Name) → top < j → loaded_in tree.levels j q ≡ None)
-    (records : (x : Name) → stored_under (value_at x tree.cells) ≡ stored_of (written_at es d x (shows_slot es top at x))) (quiet : (x : Name) (cell : Cell) → value_at x tree.cells ≡ Some cell → cell.write ≡ None) (newest : Name → ℕ) where
+    (records : (x : Name) → stored_under (value_at x tree.cells) ≡ stored_of (written_at es d x (shows_slot es top at x))) (quiet : (x : Name) (cell : Cell) → value_at x tree.cells ≡ Some cell → cell.write ≡ None)
+    (rising : IsRising tree.cells) (slots : Name → Option ReadSlot) (slots_are : (x : Name) → slots x ≡ option_map slot_read (value_at x tree.cells)) (read_as : (x : Name) → IsReadAs es None (slots x) (IsGone es top least None at x)) (got : (x : Name) → IsGone es top least None at x → has_slot (slots x) ≡ true) (newest : Name → ℕ) where
   recorded : AreRecorded es d tree.cells
   recorded x cell there = recorded_is es d x cell (shows_slot es top at x) (sym (ap stored_under there) ∙ records x) (quiet x cell there)
 
@@ -66,7 +85,7 @@ module _ (es : Placed) (keeps : Bool) (most : ℕ) (home : ℕ → Home) (last b
       height_is k = height es keeps most home d tree.levels parts entries top at root none
 
   kept_fits : keeps ≡ true → AllByRecursion (λ p. is_delta p.1 ≡ false) es → FitsTree es base newest home last d tree.levels tree.cells
-  kept_fits kept whole = read_fit es base newest home last d tree.levels tree.cells parts (only_root es keeps most home d tree.levels parts entries top at root none) each recorded held
+  kept_fits kept whole = read_fit es base newest home last d tree.levels tree.cells parts (only_root es keeps most home d tree.levels parts entries top at root none) each rising recorded (cells_read es d tree.cells slots (IsGone es top least None at) slots_are read_as recorded) says_it
     where
       each : (level : ℕ) (low : Name) (n : Node) → value_at low (row_of tree.levels level) ≡ Some n → IsAsRead es home last d tree.levels level low n
       each level low n there =
@@ -92,12 +111,23 @@ module _ (es : Placed) (keeps : Bool) (most : ℕ) (home : ℕ → Home) (last b
           root_there : IsSome (value_at least (row_of tree.levels top))
           root_there = low_there es keeps most home d tree.levels parts entries top least None at root.shown
 
+      deleted : (x : Name) (e : Name × Node) (a : ℕ) → IsOver (row_of tree.levels 0) x e → e.1.last ≡ Some a → version_in (entry_at es a) x ≡ Deleted → (kept_by tree.cells x).version ≡ Deleted
+      deleted x e a over is says =
+          deleted_is (value_at x tree.cells)
+          (sym (ap has_slot (slots_are x)) ∙ got x (says_gone es keeps most home d tree.levels parts entries last le kept whole top at root x e a over is (within_from least None x (none_below_least x) refl) says))
+          (sym (held x e a over is) ∙ sym (image_says (entry_at es a) x) ∙ ap lsn_of says)
+
+      says_it : (x : Name) (e : Name × Node) (a : ℕ) → IsOver (row_of tree.levels 0) x e → e.1.last ≡ Some a → version_in (entry_at es a) x ≡ (kept_by tree.cells x).version
+      says_it x e a over is =
+          versions_same (version_in (entry_at es a) x) (kept_by tree.cells x).version (image_says (entry_at es a) x ∙ held x e a over is) (deleted x e a over is)
+          (λ gone. gone_says es keeps most home d tree.levels parts entries last le kept whole top at root x e a over is (was_gone es (value_at x tree.cells) (slots x) (IsGone es top least None at x) (slots_are x) (read_as x) gone))
+
   unread_fits : keeps ≡ false → FitsTree es base newest home last d tree.levels tree.cells
   unread_fits not_kept =
       unread_fit es base newest home last d tree.levels tree.cells (only_root es keeps most home d tree.levels parts entries top at root none)
       (λ level low n there.
       (let f = each_found es keeps most home d tree.levels parts entries top at root none level low n there in
-      as_unread es keeps most home d tree.levels parts entries last base le not_kept below level low f.0 f.1 n f.2 there)) recorded
+      as_unread es keeps most home d tree.levels parts entries last base le not_kept below level low f.0 f.1 n f.2 there)) recorded (cells_read es d tree.cells slots (IsGone es top least None at) slots_are read_as recorded)
 
   pub tree_fits : (keeps ≡ true → AllByRecursion (λ p. is_delta p.1 ≡ false) es) → FitsTree es base newest home last d tree.levels tree.cells
   tree_fits whole = by_keeps (cases_bool keeps)
@@ -197,7 +227,7 @@ module _ (es : Placed) (keeps : Bool) (most : ℕ) (home : ℕ → Home) (end : 
 -- ---- the whole
 
 pub forests_fit : ReadForestsFit
-forests_fit es c nodes stored last base trees read numbers below each = record {
+forests_fit es c nodes slots stored last base trees read numbers below each = record {
   home = read.home;
   fits = λ d tree is. fits d tree (each d tree is);
   writes = λ d tree is x cell there. subst (λ w. IfSome w (λ w. IsLoggedWrite es base d x w.value)) (sym ((each d tree is).quiet x cell there)) tt;
@@ -207,10 +237,14 @@ forests_fit es c nodes stored last base trees read numbers below each = record {
     le : read.most ≤ last
     le = let reach : min read.most 0x7fffffffffffffff ≤ last = read.reach in omega (arith, reach, numbers)
 
-    roots : AreRootTrees es read.keeps read.most read.home c.at 0 c.roots read.begun nodes
-    roots = root_trees es read.keeps read.most read.home c.at 0 c.roots read.begun nodes (rise_of c.roots read.rise) read.put read.right (λ d low j q. read.none d j q)
+    after : Loaded
+    after = record { nodes = nodes; slots = slots }
 
-    fits : (d : ℕ) (tree : DbTree) → IsReadTree nodes stored d tree → FitsTree es base (latest_at base es d) read.home last d tree.levels tree.cells
+    roots : AreRootTrees es read.keeps read.most read.home c.at 0 c.roots read.begun.nodes nodes
+    roots =
+        root_trees es read.keeps read.most read.home c.at 0 c.roots read.begun.nodes nodes (rise_of c.roots read.rise) (roots_nodes es read.keeps read.most c.roots read.begun after read.put) read.right (λ d low j q. read.none d j q)
+
+    fits : (d : ℕ) (tree : DbTree) → IsReadTree nodes slots stored d tree → FitsTree es base (latest_at base es d) read.home last d tree.levels tree.cells
     fits d tree t = by_root (roots.trees d (omega arith))
       where
         same : nodes d ≡ loaded_in tree.levels
@@ -220,9 +254,15 @@ forests_fit es c nodes stored last base trees read numbers below each = record {
         by_root (inr none) =
             absurd (true≢false (sym (subst IsSome (sym (t.nodes_are 0 least) ∙ none 0 least) (there_some (row_of tree.levels 0) least (t.parts.parts 0 t.parts.some)))))
         by_root (inl r) =
-            tree_fits es read.keeps read.most read.home last base d tree t.parts read.entries below le r.above r.at
-            (record { shown = subst (λ (n : ℕ → Name → Option LoadedNode). ShowsNodes es read.keeps read.most n r.above least None r.at) same r.shown; tree = r.tree; below = refl; bound = tt })
-            (λ j q more. sym (t.nodes_are j q) ∙ r.none j q more)
-            (λ x. sym (t.records_are x) ∙ read.records d x ∙ ap stored_of (roots_show_rows es read.home c.at c.roots d x read.rise read.right
-            ∙ ap (λ (o : Option ℕ). written_at es d x (option_and_then (λ (a : ℕ). tree_shows es a x) o)) r.there ∙ ap (λ (l : ℕ). written_at es d x (shows_by_level es l r.at x)) r.level))
-            t.quiet (latest_at base es d) read.whole
+            tree_fits es read.keeps read.most read.home last base d tree t.parts read.entries below le r.above r.at root (λ j q more. sym (t.nodes_are j q) ∙ r.none j q more) records t.quiet
+            t.rising (slots d) t.slots_are (slot_is es read.keeps read.most read.home c.at read.entries c.roots read.begun after (rise_of c.roots read.rise) read.put read.right read.bare d r.at r.above r.there r.level)
+            (slot_got es read.keeps read.most read.home c.at read.entries c.roots read.begun after (rise_of c.roots read.rise) read.put read.right read.bare d r.at r.above r.there r.level)
+            (latest_at base es d) read.whole
+          where
+            root : IsFound es read.keeps read.most read.home d tree.levels t.parts read.entries r.above least None r.at
+            root = record { shown = subst (λ (n : ℕ → Name → Option LoadedNode). ShowsNodes es read.keeps read.most n r.above least None r.at) same r.shown; tree = r.tree; below = refl; bound = tt }
+
+            records : (x : Name) → stored_under (value_at x tree.cells) ≡ stored_of (written_at es d x (shows_slot es r.above r.at x))
+            records x =
+                sym (t.records_are x) ∙ read.records d x ∙ ap stored_of (roots_show_rows es read.home c.at c.roots d x read.rise read.right
+                ∙ ap (λ (o : Option ℕ). written_at es d x (option_and_then (λ (a : ℕ). tree_shows es a x) o)) r.there ∙ ap (λ (l : ℕ). written_at es d x (shows_by_level es l r.at x)) r.level)

@@ -60,7 +60,7 @@ number_read n m at false e = ap (λ (l : LoadedNode). l.number) e
 
 -- ---- names within the bounds of children
 
-find_child : (Q : Child → Type 0) (q low : Name) (high : Option Name) (s : NamedLsn) (slots : List NamedLsn) → AllByRecursion Q (side_by_side low high (s ∷ slots)) → is_within low high q ≡ true →
+pub find_child : (Q : Child → Type 0) (q low : Name) (high : Option Name) (s : NamedLsn) (slots : List NamedLsn) → AllByRecursion Q (side_by_side low high (s ∷ slots)) → is_within low high q ≡ true →
     (c : Child) × Q c × (is_within c.low c.high q ≡ true)
 find_child Q q low high s [] all inside = (record { low = low; high = high; at = s.1 }, all.0, inside)
 find_child Q q low high s (t ∷ slots) all inside = by_test (is_lt (name_cmp q t.0)) refl (λ in_next. find_child Q q t.0 high t slots all.1 in_next)
@@ -126,7 +126,7 @@ module _ (es : Placed) (keeps : Bool) (most : ℕ) (home : ℕ → Home) (d : �
       (right_children es (at_home home d) d k low high at f.tree)
 
   -- an IN has a child
-  some_child : (k : ℕ) (low : Name) (high : Option Name) (at : ℕ) (f : IsFound (suc k) low high at) → (s : NamedLsn) × (slots : List NamedLsn) × (child_slots_of low high f.tree.node ≡ s ∷ slots)
+  pub some_child : (k : ℕ) (low : Name) (high : Option Name) (at : ℕ) (f : IsFound (suc k) low high at) → (s : NamedLsn) × (slots : List NamedLsn) × (child_slots_of low high f.tree.node ≡ s ∷ slots)
   some_child k low high at f =
       let e : IsInEntry es at (suc (suc k)) f.tree.node = in_entry es at k f.tree.node entries f.tree.image f.tree.level_is in
       by_slots e.slots e.entry.4 (in_shown es at (suc (suc k)) f.tree.node e)
@@ -220,6 +220,9 @@ module _ (es : Placed) (keeps : Bool) (most : ℕ) (home : ℕ → Home) (d : �
       }
 
   module _ (last : ℕ) (le : most ≤ last) (kept : keeps ≡ true) (whole : AllByRecursion (λ p. is_delta p.1 ≡ false) es) where
+    read_is : (k : ℕ) (low : Name) (high : Option Name) (at : ℕ) (n : Node) → IsFound k low high at → value_at low (row_of rows k) ≡ Some n → loaded_by n ≡ node_read n.number at true
+    read_is k low high at n f there = (is_own last le k low high at n f there).loaded ∙ ap (node_read n.number at) kept
+
     pub last_is : (k : ℕ) (low : Name) (high : Option Name) (at : ℕ) (n : Node) → IsFound k low high at → value_at low (row_of rows k) ≡ Some n → n.last ≡ Some at
     last_is k low high at n f there = ap (λ (l : LoadedNode). l.last) ((is_own last le k low high at n f there).loaded ∙ ap (node_read n.number at) kept)
 
@@ -234,6 +237,8 @@ module _ (es : Placed) (keeps : Bool) (most : ℕ) (home : ℕ → Home) (d : �
     read_at zero low at n f there = record {
       at = at;
       image = last_is 0 low (low_behind low (row_of rows 0)) at n f there;
+      unmarked = ap (λ (l : LoadedNode). l.from) (read_is 0 low (low_behind low (row_of rows 0)) at n f there);
+      still = ap (λ (l : LoadedNode). l.waits) (read_is 0 low (low_behind low (row_of rows 0)) at n f there);
       own = (is_own last le 0 low (low_behind low (row_of rows 0)) at n f there).own;
       sound = sound es keeps most home last d entries whole le 0 low (low_behind low (row_of rows 0)) at nodes f.shown f.tree;
       below = tt;
@@ -243,6 +248,8 @@ module _ (es : Placed) (keeps : Bool) (most : ℕ) (home : ℕ → Home) (d : �
         record {
           at = at;
           image = last_is (suc k) low high at n f there;
+          unmarked = ap (λ (l : LoadedNode). l.from) (read_is (suc k) low high at n f there);
+          still = ap (λ (l : LoadedNode). l.waits) (read_is (suc k) low high at n f there);
           own = (is_own last le (suc k) low high at n f there).own;
           sound = sound es keeps most home last d entries whole le (suc k) low high at nodes f.shown f.tree;
           below = subst (λ (l : List NamedLsn). AllByRecursion (IsChildNode (row_of rows k)) (children low high l)) (slots_of_sound es keeps most home last d entries whole le k low high at nodes f.shown f.tree)

@@ -60,13 +60,14 @@ recorded es d old new x value at h data_is all =
     own (Some cell) is = all x cell is
 
 pub redone_fit : RedoneTreesFit
-redone_fit es base newest home last later d fanout number x value first at made old new is few within less data_is h fits =
+redone_fit es base newest home last later d fanout number x value first at made old new is few within less redone data_is h fits =
     let made_home = split_home es home last later d fanout number x made old h.mid is few within h.was_parts h.split fits.imaged in (
       made_home.0,
       made_home.1,
       record {
-        tree = h.keeps es base newest less fits.tree;
+        tree = h.keeps es base newest less redone fits.tree;
         imaged = same_imaged es made_home.0 later d [] h.mid new.levels h.nodes made_home.2;
         recorded = recorded es d old.cells new.cells x value at h.logged data_is fits.recorded;
+        exact = h.exact [] fits.exact;
       },
     )

@@ -32,7 +32,7 @@ use Rattle.log_meaning.proofs.RedoLaws.{last_end-push}
 use Rattle.log_meaning.proofs.Recovering.{read_as}
 use Rattle.log_entry.specs.declared.entry.Entry.TheVariants.{CkptEnd}
 use Rattle.db_tree.specs.declared.tree.DbTree.{DbTree}
-use Rattle.db_tree.specs.Content.{held_by, lsn_of, lsn_under}
+use Rattle.db_tree.specs.Content.{held_by, kept_by, lsn_of, lsn_under}
 use Rattle.db_tree.specs.Images.{Placed, entry_at, shows, shown}
 use Rattle.db_tree.specs.Stored.{stored_by}
 use Rattle.record_tree.specs.Stored.{Stored}
@@ -177,7 +177,7 @@ module _ (es : Placed) (base at : ℕ) (home : ℕ → Home) (last redo : ℕ) (
           none_there : IsSome (topmost tree.levels) → topmost tree.levels ≡ None → ⊥
           none_there some none = true≢false (sym some ∙ ap is_some none)
       by_node (Some n) there =
-          covered es base redo (newest_at base es d) tree.levels (held_by tree.cells) m.parts begun (λ level y e over f from. m.marks level y e f over from) (forest d tree is).tree (top_of tree) x (least, n)
+          covered es base redo (newest_at base es d) tree.levels (kept_by tree.cells) m.parts begun (λ level y e over f from. m.marks level y e f over from) (forest d tree is).tree (top_of tree) x (least, n)
           (only_over (row_of tree.levels (top_of tree)) x n there (λ q h. (forest d tree is).imaged.top (top_of tree) q (top_is d tree is) h))
 
   abbrev AreLaid : ℕ → Name → Option ℕ → Option (List ℕ) → Type 0

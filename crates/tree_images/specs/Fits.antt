@@ -10,6 +10,7 @@ use Rattle.tree_nodes.specs.Levels.{row_of}
 use Rattle.log_trees.specs.Trees.{data_of}
 use Rattle.log_trees.specs.Sound.{Home}
 use Rattle.db_tree.specs.declared.node_at.NodeAt.{NodeAt}
+use Rattle.db_tree.specs.Dirty.{AreExact}
 use Rattle.db_tree.specs.Images.{Placed}
 use Rattle.db_tree.specs.Trees.{IsTree}
 use Rattle.db_tree.specs.Waiting.{is_among}
@@ -51,6 +52,8 @@ pub record FitsBut (es : Placed) (base : ℕ) (newest : Name → ℕ) (home : �
   pub tree : IsTree es base newest rows cells
   pub imaged : AreImaged es home last d due rows
   pub recorded : AreRecorded es d cells
+  -- each BIN is dirty exactly where it has not its last image's content, or waits to be logged
+  pub exact : AreExact due rows cells
 
 -- a tree fits a log
 abbrev pub FitsTree : Placed → ℕ → (Name → ℕ) → (ℕ → Home) → ℕ → ℕ → List NodeRow → List (Name × Cell) → Type 0

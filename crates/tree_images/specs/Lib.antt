@@ -12,3 +12,4 @@ pub mod Forest
 pub mod TreeSteps
 pub mod RedoSteps
 pub mod EndLaws
+pub mod ExactLaws

@@ -1,5 +1,5 @@
 -- What holds of the nodes of all trees that fit a log, step by step.
-use Rattle.std.specs.Prelude.{◌≡◌, ◌<◌, ℕ, zero, suc, true, false, List, Option, [], ◌∷◌, ◌++◌, Some}
+use Rattle.std.specs.Prelude.{◌≡◌, ◌<◌, ◌≤◌, ℕ, zero, suc, true, false, List, [], ◌∷◌, ◌++◌, Some}
 use Rattle.std.specs.List.{AllByRecursion}
 use Rattle.je_order.specs.Edges.{is_between}
 use Rattle.je_order.specs.Edges.Edge.{At}
@@ -13,7 +13,7 @@ use Rattle.tree_nodes.specs.Nodes.{NodeRow, least, low_behind}
 use Rattle.tree_nodes.specs.Levels.{row_of, AreParts}
 use Rattle.log_trees.specs.Sound.{Home}
 use Rattle.db_tree.specs.declared.node_at.NodeAt.{NodeAt}
-use Rattle.db_tree.specs.Content.{held_by, bin_image, in_image}
+use Rattle.db_tree.specs.Content.{Held, bin_image, in_image, kept_by}
 use Rattle.db_tree.specs.Images.{Placed}
 use Rattle.db_tree.specs.NodeImages.{IsNodeImage, number_of, finished}
 use Rattle.db_tree.specs.declared.node_image.NodeImage.{NodeImage}
@@ -66,6 +66,8 @@ pub record MayLog (es : Placed) (home : ℕ → Home) (last d : ℕ) (due : List
   pub behind : AllByRecursion (λ p. p.0 < at) es
   pub imaged : AreImaged es home last d due rows
   pub recorded : AreRecorded es d cells
+  -- what is committed was committed before it
+  pub touched : (x : Name) → (kept_by cells x).touched ≤ at
   pub there : value_at low (row_of rows level) ≡ Some n
   pub children : AreChildrenLogged rows due level low
   pub entry : IsEntry (image_of d n.number level low rows cells)
@@ -80,7 +82,7 @@ LoggedImagesAreSound = (es : Placed) (home : ℕ → Home) (last d : ℕ) (due :
 abbrev pub LoggedImagesHaveContent : Type 0
 LoggedImagesHaveContent = (es : Placed) (home : ℕ → Home) (last d : ℕ) (due : List NodeAt) (rows : List NodeRow) (cells : List (Name × Cell)) (level : ℕ) (low : Name) (n : Node) (at : ℕ) →
     MayLog es home last d due rows cells level low n at →
-    IsImageOf (es ++ (at, image_of d n.number level low rows cells) ∷ []) rows (held_by cells) level (low, n) at
+    IsImageOf (es ++ (at, image_of d n.number level low rows cells) ∷ []) rows (kept_by cells) level (low, n) at
 
 -- the node is logged: one node fewer is still to be logged
 abbrev pub LoggedNodesAreImaged : Type 0
@@ -110,7 +112,7 @@ pub record AreMarkedEarlier (old new : List NodeRow) : Type 0 where
 
 -- the tree is one of its log then
 abbrev pub EarlierMarksKeepTrees : Type 0
-EarlierMarksKeepTrees = (es : Placed) (base : ℕ) (newest : Name → ℕ) (old new : List NodeRow) (held : Name → Option ℕ) → AreMarkedEarlier old new → IsTreeOf es base newest old held → IsTreeOf es base newest new held
+EarlierMarksKeepTrees = (es : Placed) (base : ℕ) (newest : Name → ℕ) (old new : List NodeRow) (held : Name → Held) → AreMarkedEarlier old new → IsTreeOf es base newest old held → IsTreeOf es base newest new held
 
 -- ---- a new tree
 

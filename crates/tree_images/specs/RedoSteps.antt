@@ -7,6 +7,7 @@ use Rattle.tree_nodes.specs.Lows.{lows_of}
 use Rattle.log_trees.specs.Sound.{Home}
 use Rattle.log_trees.specs.Trees.{data_of}
 use Rattle.db_tree.specs.declared.tree.DbTree.{DbTree}
+use Rattle.db_tree.specs.Dirty.{IsRedoneAt}
 use Rattle.db_tree.specs.Images.{Placed}
 use Rattle.db_tree.specs.NodeSteps.{AreSameNodes, AreSplitWaiting, slot_splits}
 use Rattle.db_tree.specs.Shapes.{shape_in}
@@ -14,6 +15,7 @@ use Rattle.db_tree.specs.Splits.{made_for}
 use Rattle.db_tree.specs.Stored.{HasLogged}
 use Rattle.db_tree.specs.Trees.{IsTree}
 use Rattle.tree_images.specs.Fits.{FitsTree}
+use Rattle.tree_images.specs.TreeSteps.{KeepsExact}
 use Rattle.tree_images.specs.Laws.{AgreesUpTo}
 
 -- nodes were split for a name's slot, with numbers from a first one on, if there is one, and wait to be logged; so many were made
@@ -31,7 +33,8 @@ pub record HasRedone (fanout : ℕ) (number : Option ℕ) (x : Name) (value : Op
   pub split : IsSplitFor fanout number x made old mid
   pub nodes : AreSameNodes mid new.levels
   pub logged : HasLogged old.cells new.cells x value at
-  pub keeps : (es : Placed) (base : ℕ) (newest : Name → ℕ) → first < base → IsTree es base newest old.levels old.cells → IsTree es base newest new.levels new.cells
+  pub exact : KeepsExact old new
+  pub keeps : (es : Placed) (base : ℕ) (newest : Name → ℕ) → first < base → IsRedoneAt es base at → IsTree es base newest old.levels old.cells → IsTree es base newest new.levels new.cells
 
 -- a tree fits a log with another home, where numbers that were allocated have their places as before
 abbrev pub FitsAfter : Placed → ℕ → (Name → ℕ) → (ℕ → Home) → ℕ → ℕ → ℕ → DbTree → Type 0
@@ -40,5 +43,5 @@ FitsAfter es base newest home last later d tree = (other : ℕ → Home) × Agre
 -- a tree that fits a log fits it where a change of the log is redone in a life of the environment that begins behind it
 abbrev pub RedoneTreesFit : Type 0
 RedoneTreesFit = (es : Placed) (base : ℕ) (newest : Name → ℕ) (home : ℕ → Home) (last later d fanout : ℕ) (number : Option ℕ) (x : Name) (value : Option (List ℕ)) (first at made : ℕ) (old new : DbTree) →
-    IfSome number (λ n. n ≡ suc last) → last + made ≤ later → later < 2 ^ 64 → first < base → IfSome value (λ v. data_of es d x at ≡ Some v) →
+    IfSome number (λ n. n ≡ suc last) → last + made ≤ later → later < 2 ^ 64 → first < base → IsRedoneAt es base at → IfSome value (λ v. data_of es d x at ≡ Some v) →
     HasRedone fanout number x value first at made old new → FitsTree es base newest home last d old.levels old.cells → FitsAfter es base newest home last later d new

@@ -2,6 +2,7 @@
 ghost use Rattle.tree_images.specs.Laws.{SoundImagesAreTrees, SoundImagesShow, SoundImagesAreRead, SoundImagesStay, FittingTreesStay, ForestsStay, RootsOfFittingTreesAreRight, RootsOfFittingTreesAreRead, CellsAreSet, MadeCellsAreRecorded, WritesAreRecorded, CommittedCellsAreRecorded, GivenUpCellsAreRecorded, LoggedCellsAreRecorded, LoadedCellsAreRecorded};
 ghost use Rattle.tree_images.specs.NodeLaws.{MoreNodesAreDue, SameNodesAreImaged, ClearedNodesAreImaged, FinishedImagesAreWhole, LoggedImagesAreSound, LoggedImagesHaveContent, LoggedNodesAreImaged, FlushedNodesAreImaged, WaitingNodesAreImaged, NewTreesAreImaged, EarlierMarksKeepTrees};
 ghost use Rattle.tree_images.specs.EndLaws.{ForestsMayEnd, LatestAreNewest};
+ghost use Rattle.tree_images.specs.ExactLaws.{GrownBinsAreExact, NewBinsAreExact, PlacedBinsAreExact, UnloggedBinsAreExact};
 ghost use Rattle.tree_images.specs.LogLaws.{DueImagesAreLogged};
 ghost use Rattle.tree_images.specs.ReadLaws.{ReadTreesFit, UnreadTreesFit, ReadForestsFit};
 ghost use Rattle.tree_images.specs.RedoSteps.{RedoneTreesFit};
@@ -113,4 +114,13 @@ pub fn roots_are_right()
 pub fn forests_may_end()
     ensures newest { LatestAreNewest }
     ensures end { ForestsMayEnd }
+{}
+
+/// Each BIN is dirty exactly where it has not its last image's content or waits to be logged, and so it stays where nodes are split for a
+/// name's slot, but for those that are still to be logged then. So it is in a new tree.
+pub fn bins_are_exact()
+    ensures grown { GrownBinsAreExact }
+    ensures placed { PlacedBinsAreExact }
+    ensures unlogged { UnloggedBinsAreExact }
+    ensures new { NewBinsAreExact }
 {}

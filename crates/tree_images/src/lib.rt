@@ -11,7 +11,7 @@
 pub mod laws;
 
 pub use laws::{
-    cells_are_recorded, forests_may_end, images_are_logged, newest_changes_rise,
+    bins_are_exact, cells_are_recorded, forests_may_end, images_are_logged, newest_changes_rise,
     nodes_are_in_order, nodes_are_logged, nodes_are_split, read_trees_fit, redone_trees_fit,
     roots_are_right, sound_images_are_read, sound_images_stay, trees_are_placed,
 };

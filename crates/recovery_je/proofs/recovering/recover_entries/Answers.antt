@@ -7,7 +7,7 @@ use Rattle.log_meaning.specs.Checkpoint.{Checkpoint, no_checkpoint, last_checkpo
 use Rattle.log_meaning.specs.Meaning.{most, node_number, db_number}
 use Rattle.log_meaning.specs.Reading.{meaning_in, redo_corruption}
 use Rattle.recovery_je.specs.Recovering.{IsWalked, IsWrong}
-use Rattle.recovery_je.specs.Putting.{AreRootsPut, count_from}
+use Rattle.recovery_je.specs.Putting.{loaded, AreRootsPut, count_from}
 use Rattle.recovery_je.proofs.ReadAgain.{are_read}
 use Rattle.recovery_je.proofs.MeaningLaws.{meant, found_wrong, handed_on, same_stored}
 use Rattle.recovery_je.proofs.recovering.recover_entries.Goals as goal
@@ -71,21 +71,22 @@ returns-clause-fits g c =
     let walk = c.in_ok-walked.ensures.read.0 in
     let numbers = c.in_ok-walked.walked.numbers in
     let before = g.T.Loads.stored c.in_ok-walked.walked.trees in
-    let nodes = g.T.Loads.nodes c.in_ok-walked.walked.trees in
-    let begun = g.T.Loads.nodes c.args.trees in
+    let state = loaded g.T.Loads.nodes g.T.Loads.read in
+    let after = state c.in_ok-walked.walked.trees in
+    let begun = state c.args.trees in
     let read = c.begin_redo.new.self in
     let walked = subst (λ (k : Checkpoint). IsWalked files es k numbers before walk) (sym c.end.view_is)
     (subst (λ (l : List Placed). IsWalked files l c.or_none-end.result numbers before walk) c.deref-2.ensures.value c.in_ok-walked.ensures.read.1) in
-    let put = subst (λ (k : Checkpoint). AreRootsPut es k.roots numbers.node begun nodes) (sym c.end.view_is)
-    (subst (λ (l : List Placed). AreRootsPut l c.or_none-end.result.roots numbers.node begun nodes) c.deref-2.ensures.value c.in_ok-walked.ensures.nodes) in
+    let put = subst (λ (k : Checkpoint). AreRootsPut es k.roots numbers.node begun after) (sym c.end.view_is)
+    (subst (λ (l : List Placed). AreRootsPut l c.or_none-end.result.roots numbers.node begun after) c.deref-2.ensures.value c.in_ok-walked.ensures.nodes) in
     let first = c.max.ensures in
     let next = c.max-last_node.ensures in
     let le : numbers.node ≤ c.max-last_node.result = omega (arith, first, next) in
     record {
       read = read;
       formed = c.begin_redo.ensures.formed;
-      roots = are_read files es e numbers begun nodes (g.T.Loads.nodes read) before (g.T.Loads.stored read) walk c.max-last_node.result (g.T.Loads.last_number read) c.requires.entries at walked put
-          (λ d k low. g.met.T.Loads.no_nodes c.args.trees d k low (c.requires.empty d)) c.begin_redo.ensures.nodes c.begin_redo.ensures.stored le c.begin_redo.ensures.numbers;
-      fit = λ base below fit. c.in_ok-settled.ensures.fits es base (c.in_ok-trees.ensures.fits base below fit);
+      roots = are_read files es e numbers begun after (g.T.Loads.nodes read) (g.T.Loads.read read) before (g.T.Loads.stored read) walk c.max-last_node.result (g.T.Loads.last_number read) c.requires.entries at walked put
+          (λ d k low. g.met.T.Loads.no_nodes c.args.trees d k low (c.requires.empty d)) (λ d x. g.met.T.Loads.none_read c.args.trees d x (c.requires.empty d)) c.begin_redo.ensures.nodes c.begin_redo.ensures.read c.begin_redo.ensures.stored le c.begin_redo.ensures.numbers;
+      fit = λ base small below fit. c.in_ok-settled.ensures.fits es base (c.in_ok-trees.ensures.fits base small below fit);
       redo_is = sym (ap (λ (k : Checkpoint). k.redo) at);
     }

@@ -12,7 +12,7 @@ returns-clause-redone g c rows holds =
     (same_stored rows (stored c.args.trees) (stored c.ensure_tree.new.trees) c.in_ok-ensure_tree.ensures.stored holds) c.new.ensures))
 
 pub returns-clause-fits : goal.returns-clause-fits
-returns-clause-fits g c base below fit =
+returns-clause-fits g c base small below fit =
     let es = c.args.entries.items in
-    (c.in_ok-take_all.ensures.fits es base (all_in base es c.requires.order below)
+    (c.in_ok-take_all.ensures.fits es base small (all_in base es c.requires.order below)
     (fits_begin g.T.Loads.fits es base c.ensure_tree.new.trees c.new.result c.new.ensures (c.in_ok-ensure_tree.ensures.fits es base fit))).fit

@@ -31,11 +31,11 @@ returns-in_ok-meant-in-All-clause-recovered g c observable reads read =
     (λ r is. subst
     (λ (x : Recovered _). IsReadingOf observable reads c.args.files.now
     (IsRecoveredFrom (record { store = x.opening; last_txn = x.last_txn; last_node = x.last_node; last_db = x.last_db; checkpoint = x.checkpoint }) (g.T.Loads.has_tree x.trees) (g.T.Loads.stored x.trees) x.databases x.records
-    x.redone x.tail (HasReadAgain g.T.Loads.well_formed g.T.Loads.nodes g.T.Loads.stored g.T.Loads.last_number g.T.Loads.fits x.trees x.redo))) (sym is.1)
+    x.redone x.tail (HasReadAgain g.T.Loads.well_formed g.T.Loads.nodes g.T.Loads.read g.T.Loads.stored g.T.Loads.last_number g.T.Loads.fits x.trees x.redo))) (sym is.1)
     (recovered observable reads c.args.files.now c.in-All.entries.items c.in-All.tail
     (record { store = made.settled.opening; last_txn = made.last_txn; last_node = made.last_node; last_db = made.last_db; checkpoint = made.checkpoint })
     (g.T.Loads.has_tree made.settled.trees) (g.T.Loads.stored made.settled.trees) made.settled.databases made.settled.records made.redone
-    (HasReadAgain g.T.Loads.well_formed g.T.Loads.nodes g.T.Loads.stored g.T.Loads.last_number g.T.Loads.fits made.settled.trees made.redo) c.requires.files
+    (HasReadAgain g.T.Loads.well_formed g.T.Loads.nodes g.T.Loads.read g.T.Loads.stored g.T.Loads.last_number g.T.Loads.fits made.settled.trees made.redo) c.requires.files
     (subst (AreRead observable reads c.args.files.now) c.in-All.is read) c.in_ok-meant-in-All.ensures.redone c.in_ok-meant-in-All.ensures.meant c.in_ok-meant-in-All.ensures.fits
     (subst (λ (o : Option (List ℕ)). IsIndexCheck made.settled.opening o) is.0 c.in_ok-meant-in-All.ensures.index)))
     c.check_index.ensures.recovered

@@ -1,4 +1,4 @@
-use Rattle.std.proofs.Common.{◌≡◌, ◌<◌, ℕ, List}
+use Rattle.std.proofs.Common.{◌≡◌, ◌<◌, ◌^◌, ℕ, List}
 use Rattle.std.specs.List.{AllByRecursion}
 use Rattle.log_trees.specs.Placed.{Placed}
 use Rattle.log_trees.specs.Changes.{LoggedChange}
@@ -13,5 +13,5 @@ use Rattle.recovery_je.proofs.redoing.make_changes.Given as goal
 abbrev pub invariant-loop-change : goal.invariant-loop-change
 invariant-loop-change g l = record {
   made : (d : ℕ) (x : Name) → stored_after d x (into_iter_items l.change-iterator) (value_at x (g.T.Loads.stored l.trees d)) ≡ stored_after d x l.fn.changes (value_at x (g.T.Loads.stored l.initial.trees d));
-  fits : (es : List Placed) (base : ℕ) → AllByRecursion (IsLogged es base) l.fn.changes → g.T.Loads.fits l.initial.trees es base → AreLeft (g.T.Loads.fits l.trees es base) (IsLogged es base) (λ (c : LoggedChange). l.first < base) (into_iter_items l.change-iterator);
+  fits : (es : List Placed) (base : ℕ) → base < 2 ^ 64 → AllByRecursion (IsLogged es base) l.fn.changes → g.T.Loads.fits l.initial.trees es base → AreLeft (g.T.Loads.fits l.trees es base) (IsLogged es base) (λ (c : LoggedChange). l.first < base) (into_iter_items l.change-iterator);
 }

@@ -2,8 +2,9 @@ use Rattle.std.proofs.Common.{◌≡◌, ◌∙◌, ap, sym, subst, map, List, [
 use Rattle.log_entry.specs.declared.root.Root.{Root}
 use Rattle.log_trees.specs.Walk.{Walk, each, read_root, read_roots}
 use Rattle.log_meaning.specs.Checkpoint.{Checkpoint}
+use Rattle.recovery_je.specs.Putting.{loaded}
 use Rattle.recovery_je.proofs.MeaningLaws.{handed_on}
-use Rattle.log_meaning.specs.ReadNodes.{ArePutEach, IsRootPut}
+use Rattle.log_meaning.specs.ReadNodes.{AreLoadedEach, IsRootLoaded}
 use Rattle.recovery_je.proofs.PutLaws.{all_whole}
 use Rattle.recovery_je.proofs.RootWalks.{walk_begins, walk_ends}
 use Rattle.recovery_je.proofs.roots.read_roots.Goals as goal
@@ -39,5 +40,5 @@ returns-clause-nodes g c =
     record {
       keeps = c.are_whole.result;
       whole = λ t. all_whole es (sym c.are_whole.ensures ∙ t);
-      put = λ most le. subst (λ (l : List Root). ArePutEach (IsRootPut es c.are_whole.result most) l (g.T.Loads.nodes c.args.trees) (g.T.Loads.nodes after.trees)) roots (c.in_ok-read_each.ensures.nodes.puts most le);
+      put = λ most le. subst (λ (l : List Root). AreLoadedEach (IsRootLoaded es c.are_whole.result most) l (loaded g.T.Loads.nodes g.T.Loads.read c.args.trees) (loaded g.T.Loads.nodes g.T.Loads.read after.trees)) roots (c.in_ok-read_each.ensures.nodes.puts most le);
     }

@@ -17,5 +17,5 @@ returns-clause-nodes g c =
     record {
       same = refl;
       rises = omega (arith, greatest);
-      puts = λ most le. ((let high : c.max-walking.result ≤ most = le in omega (arith, greatest, high)), c.in_ok-load_node.ensures.nodes);
+      puts = λ most le. ((let high : c.max-walking.result ≤ most = le in omega (arith, greatest, high)), c.in_ok-load_node.ensures.nodes, c.in_ok-load_node.ensures.read);
     }

@@ -1,5 +1,6 @@
 use Rattle.std.proofs.Common.{◌∙◌, ◌≤◌, ap, max, subst, List, ℕ, Some, refl, arith}
 use Rattle.record_tree.specs.Stored.{HasStored, stored_at}
+use Rattle.recovery_je.proofs.PutLaws.{record_got}
 use Rattle.recovery_je.proofs.WalkLaws.{with_one}
 use Rattle.recovery_je.proofs.walking.put_record.Goals as goal
 
@@ -15,5 +16,5 @@ pub returns-clause-nodes : goal.returns-clause-nodes
 returns-clause-nodes g c k x some = record {
   same = refl;
   rises = let e : c.args.walking.now.node ≤ c.args.walking.now.node = omega arith in e;
-  puts = λ most le. c.in_ok-load.ensures.nodes k x some;
+  puts = λ most le. record { nodes = c.in_ok-load.ensures.nodes k x some; slots = record_got (g.T.Loads.read c.args.walking.now.trees) (g.T.Loads.read c.load.new.self) c.args.d c.args.name.now c.args.lsn c.in_ok-load.ensures.read };
 }
