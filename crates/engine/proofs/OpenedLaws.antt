@@ -12,7 +12,7 @@ use Rattle.je_order.proofs.Lists.{all_weaker}
 use Rattle.store_model.specs.declared.store.Store.{Store}
 use Rattle.store_model.specs.declared.totals.Totals.{Totals}
 use Rattle.je_answers.specs.Alone.{Alone, alone}
-use Rattle.log_file.specs.Log.{IsLog, Log, entries_of, log_in}
+use Rattle.log_file.specs.Log.{AreFileEntries, IsLog, Log, entries_of, log_in}
 use Rattle.log_buffer.specs.declared.buffer.LogBuffer.{LogBuffer}
 use Rattle.log_buffer.specs.declared.log_pos.LogPos.{LogPos}
 use Rattle.log_buffer.specs.Buffer.{end_of, file_max_of, first_of, has_failed}
@@ -238,10 +238,10 @@ more_left trees last is more = subst (λ (n : ℕ). n < last_number) is more
 
 -- the trees fit the log that was read
 pub fit_read : (r : Recovered Trees) → last_number_of r.trees < last_number → FitWhatWasRead r
-fit_read r more observable reads w base below =
+fit_read r more observable reads w base small below =
     let again = w.is.fit in
     let es = placed (log_in w.held) in
-    again.fit base below (read_fits again.read es (last_checkpoint es) base again.formed again.roots below) more below
+    again.fit base small below (read_fits again.read es (last_checkpoint es) base again.formed again.roots below) more below
 
 -- the first file's number is at most that of an LSN at the log's end or behind it
 begins_up_to : (log : Log) (end : LogPos) (last since : ℕ) → IsLog log → EndsAt log end.file end.offset last → pos_lsn end ≤ since → BeginsUpTo log (since / 2 ^ 32)
@@ -251,6 +251,19 @@ begins_up_to log end last since is ends behind =
     by_front : (before : Log) → AreBelow end.file before → BeginsUpTo (before ++ (end.file, ends.entries) ∷ []) (since / 2 ^ 32)
     by_front [] below = omega (arith, behind)
     by_front (file ∷ before) below = let low = below.0 in omega (arith, behind, low)
+
+-- the LSN where a log ends has 64 bits
+last_holds : {A : Type 0} (P : A → Type 0) (before : List A) (x : A) → AllByRecursion P (before ++ x ∷ []) → P x
+last_holds P [] x all = all.0
+last_holds P (y ∷ before) x all = last_holds P before x all.1
+
+end_small : (log : Log) (end : LogPos) (last : ℕ) → IsLog log → EndsAt log end.file end.offset last → pos_lsn end - 1 < 2 ^ 64
+end_small log end last is ends =
+    let file = last_holds (λ (f : ℕ × List Entry). (f.0 < 2 ^ 32) × AreFileEntries f.1) ends.before (end.file, ends.entries) (subst (AllByRecursion (λ (f : ℕ × List Entry). (f.0 < 2 ^ 32) × AreFileEntries f.1)) ends.log_is is.each) in
+    let low : end.file < 2 ^ 32 = file.0 in
+    let size = file.1.ends in
+    let offset = ends.offset_is in
+    omega (arith, low, size, offset)
 
 -- ---- the environment
 
@@ -316,7 +329,7 @@ module _ {D : Type 0} where
       subst (λ (es : List Placed). ForestFits es base (last_node_of engine.trees) (trees_of engine.trees)) (placed_found w.held)
       (subst (λ (n : ℕ). ForestFits (placed (log_in w.held)) base n (trees_of engine.trees)) (sym is.begun.last)
       (forest_same (placed (log_in w.held)) base (last_number_of r.trees) (trees_at r.trees.forest) (trees_of engine.trees) none_due is.begun.forest
-      (is.bound_is.fits observable reads w base (subst (λ (es : List Placed). AllByRecursion (λ (p : ℕ × Entry). p.0 < base) es) (sym (placed_found w.held)) below))))
+      (is.bound_is.fits observable reads w base (end_small (found_log 0 w.held) (log_start_of r.tail) ends.0 (found_named w.held r.tail files).is_log ends.1) (subst (λ (es : List Placed). AllByRecursion (λ (p : ℕ × Entry). p.0 < base) es) (sym (placed_found w.held)) below))))
 
   -- and a redo of it may begin from there on
   opened_from : (most : ℕ) (observable : Bool) (reads : Files) (state : State) (r : Recovered Trees) (w : WasRead observable reads r) (bound : ℕ) (engine : Engine D) →

@@ -1,6 +1,6 @@
 -- Opening an environment.
 use Rattle.std.specs.List.{AllByRecursion}
-use Rattle.std.specs.Prelude.{ℕ, ◌≡◌, ◌≤◌, ◌<◌, ◌⊎◌, ◌==◌, ◌+◌, nat_lt, ◌∷◌, [], ◌++◌, take, map, max, Bool, true, false, Option, IsSome, None, Some, Ok, option_map, List, if◌then◌else◌}
+use Rattle.std.specs.Prelude.{◌^◌, ℕ, ◌≡◌, ◌≤◌, ◌<◌, ◌⊎◌, ◌==◌, ◌+◌, nat_lt, ◌∷◌, [], ◌++◌, take, map, max, Bool, true, false, Option, IsSome, None, Some, Ok, option_map, List, if◌then◌else◌}
 use Rattle.recovery_je.specs.declared.recover_err.RecoverErr.{RecoverErr}
 use Rattle.recovery_je.specs.declared.recover_err.RecoverErr.TheVariants.{Disk as NoDisk, Memory as NoMemory, Corrupt, WrongIndex as WrongIndexRead}
 use Rattle.je_order.specs.Counts.{HasRisen}
@@ -31,7 +31,7 @@ use Rattle.recovery_je.specs.declared.recovered.Recovered.{Recovered}
 use Rattle.in_tree.specs.declared.trees.Trees.{Trees}
 use Rattle.tree_images.specs.Forest.{ForestFits}
 use Rattle.in_tree.specs.Growing.{trees_at}
-use Rattle.in_tree.specs.LoadedFits.{fits_within, formed_within, nodes_within}
+use Rattle.in_tree.specs.LoadedFits.{fits_within, formed_within, nodes_within, read_within}
 use Rattle.in_tree.specs.Observed.{cells_of, has_tree_of, last_node_of, trees_of, waits_of}
 use Rattle.in_tree.specs.Stored.{committed_cell}
 use Rattle.in_tree.specs.Whole.{has_tree_in, last_number_of, stored_within, waits_within}
@@ -86,12 +86,12 @@ meaning_read r = record { store = r.opening; last_txn = r.last_txn; last_node = 
 -- the log of a disk with these files was read
 abbrev pub WasRead : Bool → Files → Recovered Trees → Type 0
 WasRead observable reads r = HasFiles observable reads (IsRecoveredFrom (meaning_read r) (has_tree_in r.trees) (stored_within r.trees) r.databases r.records r.redone r.tail
-    (HasReadAgain formed_within nodes_within stored_within last_number_of fits_within r.trees r.redo))
+    (HasReadAgain formed_within nodes_within read_within stored_within last_number_of fits_within r.trees r.redo))
 
 -- the trees that were made fit the log, where no LSN of it is of the life that begins
 abbrev pub FitFound : Recovered Trees → List (ℕ × List ℕ) → Type 0
 FitFound r held =
-    (base : ℕ) → AllByRecursion (λ p. p.0 < base) (placed (log_in held)) → ForestFits (placed (log_in held)) base (last_number_of r.trees) (trees_at r.trees.forest)
+    (base : ℕ) → base < 2 ^ 64 → AllByRecursion (λ p. p.0 < base) (placed (log_in held)) → ForestFits (placed (log_in held)) base (last_number_of r.trees) (trees_at r.trees.forest)
 
 -- so it is of whatever log was read
 abbrev pub FitWhatWasRead : Recovered Trees → Type 0

@@ -53,6 +53,7 @@ use Rattle.in_tree.specs.Growing.{trees_at, none_due, GrewForest, TreesGrew}
 use Rattle.in_tree.specs.Limits.{GrewFitting, TriedFitting}
 use Rattle.in_tree.specs.Logging.{LogsRoom, TriesImage}
 use Rattle.in_tree.specs.Placing.{due_one}
+use Rattle.db_tree.proofs.NodesExact.{exact_more}
 use Rattle.in_tree.proofs.Written.{even_sizes}
 use Rattle.in_tree.proofs.Appending.{is_appended}
 use Rattle.in_tree.proofs.DueLogging.{some_entry}
@@ -206,6 +207,7 @@ module _ {D : Type 0} (observable : Bool) (history : D → History) (sync_out re
       rising = alone.rising;
       imaged = more_due es home last d [] (node_of image ∷ []) tree.levels (λ level low among. absurd (true≢false (sym among))) fits.imaged;
       recorded = fits.recorded;
+      exact = exact_more [] (node_of image ∷ []) tree.levels tree.cells (λ low among. absurd (true≢false (sym among))) fits.exact;
       order = (alone.there, children_logged, tt);
       made = (subst (λ (b : ℕ). IsNodeImage b tree.levels tree.cells image) db alone.made, tt);
       lows = refl;

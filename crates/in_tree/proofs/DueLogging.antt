@@ -57,6 +57,7 @@ use Rattle.tree_images.proofs.LateMarks.{HasNoStart, and_true, begun_back, begun
 use Rattle.tree_images.proofs.Logged.{none_named}
 use Rattle.tree_images.proofs.NotedNodes.{notes_logged}
 use Rattle.tree_images.proofs.Splits.{lows_height}
+use Rattle.db_tree.specs.Dirty.{AreExact}
 use Rattle.in_tree.specs.Filled.{HasNoted}
 use Rattle.in_tree.specs.Forest.{Forest, Replaces, IsStepIn}
 use Rattle.in_tree.specs.Growing.{trees_at, IsFitDue, GrewTree, GrewForest, GrewSlot}
@@ -70,24 +71,25 @@ use Rattle.in_tree.proofs.Forests.{others_away, replaced}
 
 -- where no image is due any more a tree fits
 pub fits_of_due : (es : List Placed) (base : ℕ) (home : ℕ → Home) (last d : ℕ) (tree : DbTree) (images : List NodeImage) → IsDue es base home last d tree images → FitsDue es base home last d tree images
-fits_of_due es base home last d tree [] is = record { tree = is.is_tree; imaged = is.due.imaged; recorded = is.due.recorded }
+fits_of_due es base home last d tree [] is = record { tree = is.is_tree; imaged = is.due.imaged; recorded = is.due.recorded; exact = is.due.exact }
 fits_of_due es base home last d tree (image ∷ images) is = is
 
 -- an image that is due first is logged and noted
 pub image_noted : (es : List Placed) (base : ℕ) (home : ℕ → Home) (last d : ℕ) (before after : DbTree) (image : NodeImage) (images : List NodeImage) (at : ℕ) → HasNoted image at before after →
-    AllByRecursion (λ p. p.0 < at) es → IsEntry (finished before.levels image).entry → IsDue es base home last d before (image ∷ images) →
+    AllByRecursion (λ p. p.0 < at) es → base ≤ at → IsEntry (finished before.levels image).entry → IsDue es base home last d before (image ∷ images) →
     FitsDue (es ++ (at, (finished before.levels image).entry) ∷ []) base home last d after images
-image_noted es base home last d before after image images at h behind entry is =
+image_noted es base home last d before after image images at h behind begun entry is =
     fits_of_due (es ++ (at, (finished before.levels image).entry) ∷ []) base home last d after images (record {
       before = is.before;
       due = subst (λ (cells : List (Name × Cell)). AreDue (es ++ (at, (finished before.levels image).entry) ∷ []) home last d is.before after.levels cells images) (sym h.cells)
-          (next.next after.levels h.parts (h.noted next.there));
+          (next.next after.levels h.parts (h.noted next.there)
+          (subst (AreExact (map node_of images) after.levels) h.cells (h.exact (es ++ (at, (finished before.levels image).entry) ∷ []) (map node_of images) next.content is.due.exact)));
       is_tree = h.keeps (es ++ (at, (finished before.levels image).entry) ∷ []) base (latest_at base (es ++ (at, (finished before.levels image).entry) ∷ []) d) next.content
           (tree_stays es ((at, (finished before.levels image).entry) ∷ []) base d before.levels before.cells is.is_tree);
     })
   where
     next : IsNextLogged es home last d is.before before.levels before.cells image images at
-    next = due_logged es home last d is.before before.levels before.cells image images at is.due behind entry
+    next = due_logged es home last d is.before before.levels before.cells image images at is.due behind (λ x. is.is_tree.know.touched x at begun behind) entry
 
 names_same : (a b : Name) → is_same_name a b ≡ true → a ≡ b
 names_same a b same = by_name (same_or_other a b)
@@ -221,7 +223,7 @@ module _ {D : Type 0} (observable : Bool) (history : D → History) (sync_out re
     fits = λ home last d rest log base has begun is. (let a = is_appended observable history sync_out read_out read_of faults old new (finished before.levels image).entry log base at grew at_is has begun in
         let there = due_there_now (placed log) base home last d before image rest is.0 in
         subst (λ (es : List Placed). IsFitDue home last d after rest es base) (sym a.is) (
-          image_noted (placed log) base home last d before after image rest at h a.behind entry is.0,
+          image_noted (placed log) base home last d before after image rest at h a.behind a.begun entry is.0,
           image_notes (placed log) base at (finished before.levels image).entry before.levels after.levels image rest a.behind a.begun plain (lows_length before.levels after.levels (h.noted there).lows) (h.up there) is.1,
         ));
     still = λ none. absurd (some_entry (finished before.levels image).entry none);
@@ -238,7 +240,7 @@ module _ {D : Type 0} (observable : Bool) (history : D → History) (sync_out re
         (finished before.levels image).entry,
         loggable.1,
         size,
-        image_logged old new before after image at grew at_is loggable.0 (image_plain (finished before.levels image).entry loggable.1) (record { cells = h.cells; parts = h.parts; noted = h.noted; up = h.up; keeps = h.keeps }),
+        image_logged old new before after image at grew at_is loggable.0 (image_plain (finished before.levels image).entry loggable.1) (record { cells = h.cells; parts = h.parts; noted = h.noted; up = h.up; exact = h.exact; keeps = h.keeps }),
       ))
 
   -- ---- the images of a slot

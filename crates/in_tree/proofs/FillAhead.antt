@@ -45,7 +45,7 @@ use Rattle.tree_images.specs.Forest.{AreLogged, IsLoggedWrite}
 use Rattle.tree_images.specs.Notes.{HasNotes}
 use Rattle.tree_images.specs.PlaceLaws.{home_with}
 use Rattle.tree_images.specs.Laws.{HasSet}
-use Rattle.tree_images.specs.TreeSteps.{HasSlot, HasWritten, KeepsTree}
+use Rattle.tree_images.specs.TreeSteps.{HasSlot, HasWritten, KeepsExact, KeepsTree}
 use Rattle.tree_images.proofs.ForestPlaces.{placed_fits, placed_logged, placed_notes}
 use Rattle.tree_images.proofs.ForestSteps.{fits_stay, notes_stay, writes_stay}
 use Rattle.tree_images.proofs.ForestWrites.{written_fits, written_logged}
@@ -128,7 +128,7 @@ noted_fits : (es : List Placed) (base : ℕ) (home : ℕ → Home) (last d : ℕ
     e ≡ (finished old.levels image).entry → IsLoggable e → AllByRecursion (λ p. p.0 < at) es → base ≤ at → IsFitDue home last d old (image ∷ rest) es base → IsFitDue home last d new rest (es ++ (at, e) ∷ []) base
 noted_fits es base home last d old new image rest at e h is loggable behind begun fits =
     subst (λ (x : Entry). IsFitDue home last d new rest (es ++ (at, x) ∷ []) base) (sym is) (
-      image_noted es base home last d old new image rest at h behind (subst IsLoggable is loggable).0 fits.0,
+      image_noted es base home last d old new image rest at h behind begun (subst IsLoggable is loggable).0 fits.0,
       image_notes es base at (finished old.levels image).entry old.levels new.levels image rest behind begun (image_plain (finished old.levels image).entry (subst IsLoggable is loggable).1)
           (lows_length old.levels new.levels (h.noted there).lows) (h.up there) fits.1,
     )
@@ -163,7 +163,7 @@ image_taken image done old new before after at size is loggable bytes size_is_by
       entry = refl;
       loggable = l;
       size = b;
-      noted = record { cells = n.cells; parts = n.parts; noted = n.noted; up = n.up; keeps = n.keeps };
+      noted = record { cells = n.cells; parts = n.parts; noted = n.noted; up = n.up; exact = n.exact; keeps = n.keeps };
       taken = t;
       lows = lows;
       waits = w;
@@ -216,12 +216,12 @@ change_ahead m end d number last front txn c at write old new before after is st
 -- a name's cell has a change
 pub written_in : (x : Name) (write : Box Write Global) (old new : DbTree) → IsSome (value_at x old.cells) → new.levels ≡ old.levels →
     ((cell : Cell) → value_at x old.cells ≡ Some cell → new.cells ≡ set_value (is_at (name_cmp x)) old.cells (with_write (Some write) cell)) → HasSet old.cells new.cells x (option_map (with_write (Some write)) (value_at x old.cells)) →
-    KeepsTree old new → HasWritten x write old new
-written_in x write old new some levels list set keeps = by_cell (value_at x old.cells) refl some
+    KeepsTree old new → KeepsExact old new → HasWritten x write old new
+written_in x write old new some levels list set keeps exact = by_cell (value_at x old.cells) refl some
   where
     by_cell : (o : Option Cell) → value_at x old.cells ≡ o → IsSome o → HasWritten x write old new
     by_cell None is h = absurd (true≢false (sym h))
-    by_cell (Some cell) is h = record { cell = cell; there = is; levels = levels; list = list cell is; set = set; keeps = keeps }
+    by_cell (Some cell) is h = record { cell = cell; there = is; levels = levels; list = list cell is; set = set; keeps = keeps; exact = exact }
 
 -- a change that took its place
 pub change_taken : (txn : TxnId) (c : TreeChange) (old new : DbTree) (before after : NextPlace) (write : Box Write Global) (at size : ℕ) → write.value ≡ record { txn = txn; at = at; value = c.value } → HasWritten c.name write old new →

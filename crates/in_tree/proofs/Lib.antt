@@ -48,3 +48,5 @@ pub mod FillLogged
 pub mod FillGrown
 -- The marks that are left where no noted node is dirty.
 pub mod MarksLeft
+-- Nodes that are split for a name's slot leave BINs dirty exactly where they have not their last images' content.
+pub mod SplitExact

@@ -12,7 +12,7 @@ use Rattle.je_order.specs.Order.{name_cmp}
 use Rattle.je_order.specs.declared.name.Name.{Name}
 use Rattle.log_entry.specs.declared.entry.Entry.{Entry}
 use Rattle.log_entry.specs.declared.entry.Entry.TheVariants.{Put, Migrated}
-use Rattle.record_map.specs.Cells.{value_at}
+use Rattle.record_map.specs.Cells.{value_at, IsRising}
 use Rattle.record_map.proofs.NameLaws.{same_or_other}
 use Rattle.record_tree.specs.LoadedNodes.{LoadedNode, HasPutNode, AreNodesStill, IsLoggedAt, data_put}
 use Rattle.record_tree.specs.Stored.{stored_at}
@@ -21,8 +21,10 @@ use Rattle.tree_nodes.specs.Nodes.{NodeRow, least}
 use Rattle.tree_nodes.specs.Levels.{row_of, AreParts}
 use Rattle.log_trees.specs.Placed.{Placed}
 use Rattle.log_trees.specs.Trees.{data_in, data_of}
+use Rattle.db_tree.specs.Dirty.{IsRedoneAt}
+use Rattle.db_tree.proofs.Says.{bin_before}
 use Rattle.db_tree.specs.declared.tree.DbTree.{DbTree}
-use Rattle.db_tree.specs.Loading.{loaded_by, loaded_in, IsLoaded}
+use Rattle.db_tree.specs.Loading.{loaded_by, loaded_in, slot_read, IsLoaded}
 use Rattle.db_tree.specs.NodeSteps.{IsOneNode}
 use Rattle.db_tree.specs.Stored.{stored_under, IsLoggedAlready}
 use Rattle.tree_images.specs.Fits.{FitsTree}
@@ -41,7 +43,7 @@ use Rattle.in_tree.specs.Loaded.{AreAllParts, node_in, nodes_of, FitsUpTo}
 use Rattle.in_tree.specs.declared.trees.Trees.{Trees}
 use Rattle.in_tree.specs.LoadedFits.{LoadedTreesFit}
 use Rattle.in_tree.specs.LoadedNodes.{HasLoadedIn, IsEnsured}
-use Rattle.in_tree.specs.Stored.{IsQuiet, slots_held, stored_of}
+use Rattle.in_tree.specs.Stored.{IsQuiet, read_of, slots_held, stored_of}
 use Rattle.in_tree.proofs.Forests.{number_cases, number_same, replaced, others_away}
 use Rattle.in_tree.proofs.StoredLaws.{logged_already, stored_at_name}
 
@@ -212,9 +214,10 @@ logged_data es d x at None is = tt
 logged_data es d x at (Some v) is = ap (option_and_then (data_in d x)) is.1 ∙ data_is d x is.0 ∙ is.2
 
 pub redo_fits : (es : List Placed) (base last later db fanout : ℕ) (number : Option ℕ) (x : Name) (value : Option (List ℕ)) (first at made : ℕ) (old new : Forest) → IfSome number (λ n. n ≡ suc last) → last + made ≤ later → later < 2 ^ 64 →
-    first < base → IsLoggedAt es db x at value → IsStepIn db (HasRedone fanout number x value first at made) old new → IsQuiet new → AllByRecursion (λ p. p.0 < base) es → ForestFits es base last (get nat_cmp old) → ForestFits es base later (get nat_cmp new)
-redo_fits es base last later db fanout number x value first at made old new is few within less logged step quiet below f =
-    let after = redone_fit es base (latest_at base es db) f.home last later db fanout number x value first at made step.tree step.next is few within less (logged_data es db x at value logged) step.step (f.fits db step.tree step.was) in
+    first < base → at < base → base < 2 ^ 64 → IsLoggedAt es db x at value → IsStepIn db (HasRedone fanout number x value first at made) old new → IsQuiet new → AllByRecursion (λ p. p.0 < base) es → ForestFits es base last (get nat_cmp old) → ForestFits es base later (get nat_cmp new)
+redo_fits es base last later db fanout number x value first at made old new is few within less before high logged step quiet below f =
+    let redone : IsRedoneAt es base at = record { before = omega (arith, before); small = λ lsn bin. (let lower : lsn < base = bin_before base es lsn below bin in omega (arith, lower, high)) } in
+    let after = redone_fit es base (latest_at base es db) f.home last later db fanout number x value first at made step.tree step.next is few within less redone (logged_data es db x at value logged) step.step (f.fits db step.tree step.was) in
     (forest_here es base last later db (get nat_cmp old) (get nat_cmp new) (λ d. []) (λ d. []) after.0 f after.1 (omega (arith, few)) (others_away old new db (Some step.next) step.has) (λ b away. refl)
     (λ t there. subst (λ (u : DbTree). FitsTree es base (latest_at base es db) after.0 later db u.levels u.cells) (same_Some step.next t (sym (replaced old new db (Some step.next) step.has) ∙ there)) after.2)
     (λ t there y cell at_y. subst (λ w. IfSome w (λ w. IsLoggedWrite es base db y w.value)) (sym ((quiet db).quiet y cell (ap (value_at y) (ap cells_of there) ∙ at_y))) tt)
@@ -222,14 +225,16 @@ redo_fits es base last later db fanout number x value first at made old new is f
 
 pub read_fits : LoadedTreesFit
 read_fits trees es c base formed read below numbers earlier =
-    forests_fit es c (nodes_of trees.forest) (stored_of trees.forest) trees.last_node base (get nat_cmp trees.forest) read numbers below
+    forests_fit es c (nodes_of trees.forest) (read_of trees.forest) (stored_of trees.forest) trees.last_node base (get nat_cmp trees.forest) read numbers below
     (λ d tree is. record {
       parts = formed.parts d tree is;
       nodes_are = λ level low. ap (λ (o : Option DbTree). node_in o level low) is;
       records_are = λ x.
           stored_at_name (cells_at trees.forest d) x (formed.quiet d).rising
           ∙ ap (λ (o : Option DbTree). stored_under (value_at x (cells_of o))) is;
+      rising = subst (λ (o : Option DbTree). IsRising (cells_of o)) is (formed.quiet d).rising;
       quiet = λ x cell there. (formed.quiet d).quiet x cell (ap (value_at x) (ap cells_of is) ∙ there);
+      slots_are = λ x. ap (λ (o : Option DbTree). option_map slot_read (value_at x (cells_of o))) is;
     })
 
 -- what is committed already stands in the cells

@@ -1,14 +1,15 @@
 -- A checkpoint notes nodes of the trees.
-use Rattle.std.proofs.Common.{◌≡◌, ◌≤◌, ◌==◌, ◌&&◌, ℕ, Bool, true, false, List, [], ◌∷◌, ◌++◌, Option, None, Some, IsSome, Result, Ok, Err, OnOk, option_map, is_some, is_eq, refl, ap, sym, subst, ◌∙◌, arith}
+use Rattle.std.proofs.Common.{◌≡◌, ◌≤◌, ◌==◌, ◌&&◌, ℕ, Bool, true, false, not, List, [], ◌∷◌, ◌++◌, Option, None, Some, IsSome, Result, Ok, Err, OnOk, option_map, is_some, is_eq, refl, ap, sym, subst, ◌∙◌, arith}
 use Rattle.std.specs.Ordering.{nat_cmp}
 use Rattle.std.specs.BTreeMap.{get}
-use Rattle.std.proofs.lemmas.Option.{same_Some}
+use Rattle.std.proofs.lemmas.Option.{none-some, same_Some}
 use Rattle.std.proofs.Math.Nat.{le_refl}
 use Rattle.je_disk.specs.Moments.{History}
 use Rattle.je_order.specs.declared.name.Name.{Name}
 use Rattle.log_entry.specs.declared.entry.Entry.{Entry}
 use Rattle.log_buffer.specs.declared.buffer.LogBuffer.{LogBuffer}
 use Rattle.log_trees.specs.Placed.{Placed, placed}
+use Rattle.record_map.specs.declared.cell.Cell.{Cell}
 use Rattle.record_map.specs.Cells.{value_at}
 use Rattle.record_tree.specs.Occupied.{AreSame}
 use Rattle.record_tree.specs.declared.node_place.NodePlace.{NodePlace}
@@ -16,14 +17,18 @@ use Rattle.record_tree.specs.declared.tree_err.TreeErr.{TreeErr}
 use Rattle.tree_nodes.specs.declared.node.Node.{Node}
 use Rattle.tree_nodes.specs.Nodes.{NodeRow, is_dirty, noted_as}
 use Rattle.tree_nodes.specs.Levels.{row_of}
+use Rattle.tree_nodes.specs.Lows.{lows_of}
 use Rattle.tree_nodes.specs.Noted.{AreNoted, is_to_note}
 use Rattle.tree_nodes.proofs.NoteLaws.{noted_value}
+use Rattle.db_tree.specs.declared.node_at.NodeAt.{NodeAt}
 use Rattle.db_tree.specs.declared.node_image.NodeImage.{NodeImage}
 use Rattle.db_tree.specs.declared.tree.DbTree.{DbTree}
-use Rattle.db_tree.specs.Content.{held_by}
+use Rattle.db_tree.specs.Content.{kept_by}
+use Rattle.db_tree.specs.Dirty.{AreExact, is_as_imaged}
 use Rattle.db_tree.specs.Notes.{AreNotesKept, note_of}
 use Rattle.db_tree.specs.Seen.{occupied}
 use Rattle.db_tree.specs.Splits.{count_waiting}
+use Rattle.db_tree.proofs.NodesExact.{imaged_same}
 use Rattle.db_tree.proofs.NotingLaws.{noted_alike, noted_nodes, noted_tree}
 use Rattle.tree_images.specs.Fits.{FitsTree}
 use Rattle.tree_images.specs.Forest.{AreLogged, ForestFits, latest_at}
@@ -90,6 +95,16 @@ noted_one old new are level low number =
     by_node None = refl
     by_node (Some n) = refl
 
+-- notes do not matter for what is dirty
+notes_exact : (due : List NodeAt) (old new : List NodeRow) (cells : List (Name × Cell)) → lows_of new ≡ lows_of old → AreNoted old new → AreExact due old cells → AreExact due new cells
+notes_exact due old new cells lows are exact low n there out = by_node (value_at low (row_of old 0)) refl (sym (ap (value_at low) (are.each 0) ∙ noted_value (is_to_note old 0) (row_of old 0) low) ∙ there)
+  where
+    by_node : (o : Option Node) → value_at low (row_of old 0) ≡ o → option_map (λ m. noted_as (is_to_note old 0 (low, m)) m) o ≡ Some n → is_dirty n ≡ not (is_as_imaged (row_of new 0) cells (low, n))
+    by_node None was is = absurd (none-some n is)
+    by_node (Some m) was is =
+        subst (λ (k : Node). is_dirty k ≡ not (is_as_imaged (row_of new 0) cells (low, k))) (same_Some (noted_as (is_to_note old 0 (low, m)) m) n is)
+        (exact low m was out ∙ sym (ap not (imaged_same old new cells low m lows)))
+
 module _ (old new : Forest) (are : AreNotedTrees old new) where
   -- what is the same of a tree and of one whose nodes are noted is the same of all trees
   by_tree : {A : Type 0} (f : Option DbTree → A) → ((t u : DbTree) → IsNotedTree t u → f (Some u) ≡ f (Some t)) → (o n : Option DbTree) → IsNotedOne o n → f n ≡ f o
@@ -141,9 +156,10 @@ module _ (old new : Forest) (are : AreNotedTrees old new) where
           let fits = f.fits d n.0 n.1 in
           subst (λ cells. FitsTree es base (latest_at base es d) f.home last d tree.levels cells) (sym n.2.cells)
           (record {
-            tree = noted_tree n.0.levels tree.levels n.2.noted es base (latest_at base es d) (held_by n.0.cells) fits.tree;
+            tree = noted_tree n.0.levels tree.levels n.2.noted es base (latest_at base es d) (kept_by n.0.cells) fits.tree;
             imaged = same_imaged es f.home last d [] n.0.levels tree.levels (noted_nodes n.0.levels tree.levels n.2.noted) fits.imaged;
             recorded = fits.recorded;
+            exact = notes_exact [] n.0.levels tree.levels n.0.cells (noted_nodes n.0.levels tree.levels n.2.noted).lows n.2.noted fits.exact;
           })
 
       writes_at : (d : ℕ) (tree : DbTree) → (t : DbTree) × (get nat_cmp old d ≡ Some t) × IsNotedTree t tree → AreLogged es base d tree.cells

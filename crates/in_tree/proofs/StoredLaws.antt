@@ -18,17 +18,17 @@ use Rattle.record_map.specs.declared.write.Write.{Write}
 use Rattle.record_map.specs.Cells.{value_at, IsRising, from_edge}
 use Rattle.record_map.proofs.NameLaws.{same_or_other, name_same, other_stays, same_gets}
 use Rattle.record_tree.specs.Occupied.{Occupied, is_occupied, committed_value}
-use Rattle.record_tree.specs.LoadedSlots.{AllSlots, AreSlotsStill, HasMoreSlots}
+use Rattle.record_tree.specs.LoadedSlots.{AllRead, AllSlots, AreSlotsStill, HasGone, HasMoreSlots, HasPutSlot, IsReadStill, has_slot, slot_gone, slot_put}
 use Rattle.record_tree.specs.Stored.{Stored, stored_at, HasStored, AreStoredStill}
 use Rattle.node_core.specs.Changes.{is_committed}
-use Rattle.db_tree.specs.Loading.{deleted_cell, has_version, GetsDeletions}
+use Rattle.db_tree.specs.Loading.{deleted_cell, has_version, slot_read, GetsDeletions}
 use Rattle.db_tree.specs.declared.tree.DbTree.{DbTree}
 use Rattle.db_tree.specs.Trees.{HasCell, cell_or_fresh}
 use Rattle.in_tree.specs.Forest.{Forest, cells_of, cells_at, is_there, cells_seen}
 use Rattle.db_tree.specs.Seen.{occupied}
-use Rattle.db_tree.specs.Stored.{with_logged, version_logged, IsLoggedAlready}
+use Rattle.db_tree.specs.Stored.{with_logged, loaded_cell, version_logged, IsLoggedAlready}
 use Rattle.db_tree.specs.Stored.{stored_by, stored_under, with_name, stored_in, AreQuiet, HasLogged}
-use Rattle.in_tree.specs.Stored.{slots_held, stored_of, committed_cell, IsQuiet, IsSlotFor}
+use Rattle.in_tree.specs.Stored.{slots_held, stored_of, committed_cell, read_of, IsQuiet, IsSlotFor}
 use Rattle.tree_nodes.proofs.RisingLists.{none_behind, same_lists}
 use Rattle.in_tree.specs.Forest.{Replaces}
 use Rattle.in_tree.proofs.Forests.{number_cases, number_same, replaced, others}
@@ -431,6 +431,75 @@ slots_without old new db has d x = by_number (number_cases db d)
 -- a tree is made first
 pub slots_then : (a b c : AllSlots) (db : ℕ) (got : Name → Bool) → AreSlotsStill a b → HasMoreSlots b c db got → HasMoreSlots a c db got
 slots_then a b c db got first next d x = next d x ∙ ap (λ (t : Bool). t || ((db == d) && got x)) (first d x)
+
+-- ---- what is read of names
+
+read_slot : (o : Option Cell) → has_slot (option_map slot_read o) ≡ has_version o
+read_slot None = refl
+read_slot (Some cell) = refl
+
+-- names of a database get the slots of records that were deleted
+pub read_gone : (old new : Forest) (db : ℕ) (before after : DbTree) (got : Name → Bool) (at : ℕ) → Some before ≡ get nat_cmp old db → Replaces old new db (Some after) → GetsDeletions got at before.cells after.cells →
+    HasGone (read_of old) (read_of new) db got at
+read_gone old new db before after got at there has gets d x = by_number (apart_cases db d)
+  where
+    by_test : (t : Bool) (o : Option Cell) → option_map slot_read (cond t (Some (deleted_cell at)) o) ≡ cond t (Some (slot_gone at)) (option_map slot_read o)
+    by_test true o = refl
+    by_test false o = refl
+
+    here : read_of new db x ≡ cond (got x && not (has_slot (read_of old db x))) (Some (slot_gone at)) (read_of old db x)
+    here =
+        ap (λ (t : Option DbTree). option_map slot_read (value_at x (cells_of t))) (replaced old new db (Some after) has)
+        ∙ ap (option_map slot_read) (gets x)
+        ∙ by_test (got x && not (has_version (value_at x before.cells))) (value_at x before.cells)
+        ∙ sym (ap (λ (t : Bool). cond (got x && not t) (Some (slot_gone at)) (option_map slot_read (value_at x before.cells))) (read_slot (value_at x before.cells)))
+        ∙ ap (λ (t : Option DbTree). cond (got x && not (has_slot (option_map slot_read (value_at x (cells_of t))))) (Some (slot_gone at)) (option_map slot_read (value_at x (cells_of t)))) there
+
+    by_number : (db ≡ d) ⊎ ((db == d ≡ false) × (is_eq (nat_cmp db d) ≡ false)) → read_of new d x ≡ cond ((db == d) && (got x && not (has_slot (read_of old d x)))) (Some (slot_gone at)) (read_of old d x)
+    by_number (inl same) =
+        subst (λ (e : ℕ). read_of new e x ≡ cond ((db == e) && (got x && not (has_slot (read_of old e x)))) (Some (slot_gone at)) (read_of old e x)) same
+        (here ∙ sym (ap (λ (t : Bool). cond (t && (got x && not (has_slot (read_of old db x)))) (Some (slot_gone at)) (read_of old db x)) (eq-eqb db db refl)))
+    by_number (inr apart) =
+        ap (λ (t : Option DbTree). option_map slot_read (value_at x (cells_of t))) (others old new db (Some after) has d apart.1)
+        ∙ sym (ap (λ (t : Bool). cond (t && (got x && not (has_slot (read_of old d x)))) (Some (slot_gone at)) (read_of old d x)) apart.0)
+
+-- a name of a database gets the slot of a record
+pub read_put : (old new : Forest) (db : ℕ) (before after : DbTree) (name : Name) (at : ℕ) (value : List ℕ) → Some before ≡ get nat_cmp old db → Replaces old new db (Some after) → HasCell before.cells after.cells name (loaded_cell at value) →
+    HasPutSlot (read_of old) (read_of new) db name at
+read_put old new db before after name at value there has cell d x = by_number (apart_cases db d)
+  where
+    by_test : (t : Bool) (o : Option Cell) → option_map slot_read (cond t (Some (loaded_cell at value)) o) ≡ cond t (Some (slot_put at)) (option_map slot_read o)
+    by_test true o = refl
+    by_test false o = refl
+
+    here : read_of new db x ≡ cond (is_eq (name_cmp name x)) (Some (slot_put at)) (read_of old db x)
+    here =
+        ap (λ (t : Option DbTree). option_map slot_read (value_at x (cells_of t))) (replaced old new db (Some after) has)
+        ∙ ap (option_map slot_read) (cell x)
+        ∙ by_test (is_eq (name_cmp name x)) (value_at x before.cells)
+        ∙ ap (λ (t : Option DbTree). cond (is_eq (name_cmp name x)) (Some (slot_put at)) (option_map slot_read (value_at x (cells_of t)))) there
+
+    by_number : (db ≡ d) ⊎ ((db == d ≡ false) × (is_eq (nat_cmp db d) ≡ false)) → read_of new d x ≡ cond ((db == d) && is_eq (name_cmp name x)) (Some (slot_put at)) (read_of old d x)
+    by_number (inl same) =
+        subst (λ (e : ℕ). read_of new e x ≡ cond ((db == e) && is_eq (name_cmp name x)) (Some (slot_put at)) (read_of old e x)) same
+        (here ∙ sym (ap (λ (t : Bool). cond (t && is_eq (name_cmp name x)) (Some (slot_put at)) (read_of old db x)) (eq-eqb db db refl)))
+    by_number (inr apart) =
+        ap (λ (t : Option DbTree). option_map slot_read (value_at x (cells_of t))) (others old new db (Some after) has d apart.1)
+        ∙ sym (ap (λ (t : Bool). cond (t && is_eq (name_cmp name x)) (Some (slot_put at)) (read_of old d x)) apart.0)
+
+-- nothing else is read where the cells of one database are as before
+pub read_still : (old new : Forest) (db : ℕ) (o : Option DbTree) → Replaces old new db o → cells_of o ≡ cells_at old db → IsReadStill (read_of old) (read_of new)
+read_still old new db o has same d x = by_number (number_cases db d)
+  where
+    by_number : (db ≡ d) ⊎ ((d == db ≡ false) × (is_eq (nat_cmp db d) ≡ false)) → read_of new d x ≡ read_of old d x
+    by_number (inl is) =
+        subst (λ (e : ℕ). read_of new e x ≡ read_of old e x) is
+        (ap (λ (t : Option DbTree). option_map slot_read (value_at x (cells_of t))) (replaced old new db o has) ∙ ap (λ (cells : List (Name × Cell)). option_map slot_read (value_at x cells)) same)
+    by_number (inr apart) = ap (λ (t : Option DbTree). option_map slot_read (value_at x (cells_of t))) (others old new db o has d apart.1)
+
+-- a tree is made first
+pub read_then : (a b c : AllRead) (db : ℕ) (got : Name → Bool) (at : ℕ) → IsReadStill a b → HasGone b c db got at → HasGone a c db got at
+read_then a b c db got at first next d x = next d x ∙ ap (λ r. cond ((db == d) && (got x && not (has_slot r))) (Some (slot_gone at)) r) (first d x)
 
 -- ---- a change that is redone
 

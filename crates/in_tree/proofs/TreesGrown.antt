@@ -1,11 +1,11 @@
 -- What calls on the trees of an environment do to trees that fit their log.
-use Rattle.std.proofs.Common.{◌≡◌, ◌≤◌, ◌+◌, ◌*◌, ◌==◌, ◌&&◌, ◌++◌, ℕ, Bool, true, false, cond, List, [], ◌∷◌, Option, None, Some, option_map, length, refl, ap, ap₂, sym, subst, ◌∙◌, inl, inr, arith, is_eq}
+use Rattle.std.proofs.Common.{◌≡◌, ◌<◌, ◌≤◌, ◌+◌, ◌*◌, ◌==◌, ◌&&◌, ◌++◌, ℕ, Bool, true, false, cond, List, [], ◌∷◌, Option, None, Some, option_map, length, refl, ap, ap₂, sym, subst, ◌∙◌, inl, inr, arith, is_eq}
 use Rattle.std.specs.Prelude.{IfSome, Box}
 use Rattle.std.specs.Global.{Global}
 use Rattle.std.specs.List.{AllByRecursion}
 use Rattle.std.specs.Ordering.{nat_cmp}
 use Rattle.std.specs.BTreeMap.{get}
-use Rattle.std.proofs.lemmas.Bool.{eq-eqb, cond-true}
+use Rattle.std.proofs.lemmas.Bool.{eq-eqb, eqb-true, cond-true}
 use Rattle.std.proofs.lemmas.List.{append-nil}
 use Rattle.std.proofs.lemmas.Option.{none-some}
 use Rattle.std.proofs.Math.Nat.{le_refl}
@@ -35,6 +35,8 @@ use Rattle.log_meaning.specs.Redo.{Redo, redone, redo_entry}
 use Rattle.log_meaning.proofs.RedoLaws.{redone-in}
 use Rattle.db_tree.specs.declared.slot_room.SlotRoom.{SlotRoom}
 use Rattle.db_tree.specs.declared.tree.DbTree.{DbTree}
+use Rattle.db_tree.specs.Dirty.{IsCommitAt}
+use Rattle.db_tree.specs.Images.{IsBin, entry_at}
 use Rattle.db_tree.specs.Seen.{occupied, seen}
 use Rattle.db_tree.proofs.Seen.{seen_at}
 use Rattle.tree_images.specs.Forest.{latest_at, latest_of, logged_at, AreLogged, FitsDue, ForestDue, ForestFits}
@@ -113,13 +115,33 @@ free_stays t n old new (e ∷ names) has free = (
     by_test true o h = by_option o
     by_test false o h = h
 
+-- a Commit at the end of a log stands behind all images of BINs, and before all that is logged next
+bins_before : (es : List Placed) (at lsn : ℕ) (t : TxnId) → AllByRecursion (λ p. p.0 < at) es → IsBin (entry_at (es ++ (at, Commit t) ∷ []) lsn) → lsn < at
+bins_before [] at lsn t all bin = by_test (at == lsn) bin
+  where
+    by_test : (b : Bool) → IsBin (cond b (Some (Commit t)) None) → lsn < at
+    by_test true h = absurd h
+    by_test false h = absurd h
+bins_before (p ∷ es) at lsn t all bin = by_test (p.0 == lsn) refl bin (bins_before es at lsn t all.1)
+  where
+    by_test : (b : Bool) → (p.0 == lsn) ≡ b → IsBin (cond b (Some p.1) (entry_at (es ++ (at, Commit t) ∷ []) lsn)) → (IsBin (entry_at (es ++ (at, Commit t) ∷ []) lsn) → lsn < at) → lsn < at
+    by_test true is h rest = subst (λ (n : ℕ). n < at) (eqb-true p.0 lsn is) all.0
+    by_test false is h rest = rest h
+
+last_before : (es : List Placed) (at next : ℕ) (t : TxnId) → AllByRecursion (λ p. p.0 < next) (es ++ (at, Commit t) ∷ []) → at ≤ next
+last_before [] at next t all = let less : at < next = all.0 in omega (arith, less)
+last_before (p ∷ es) at next t all = last_before es at next t all.1
+
+commit_last : (es : List Placed) (at : ℕ) (t : TxnId) → AllByRecursion (λ p. p.0 < at) es → IsCommitAt (es ++ (at, Commit t) ∷ []) at
+commit_last es at t all = record { behind = λ lsn bin. bins_before es at lsn t all bin; before = λ next behind. last_before es at next t behind }
+
 -- names are committed where the log has their changes committed
 pub commits_fit : (es : List Placed) (base last at : ℕ) (t : TxnId) (names : List TreeName) (old new : Forest) → MakesSteps (CommitsName at) names old new → AreFree t old names →
-    ((d : ℕ) (x : Name) → logged_at base es d x t.0 ≤ latest_at base es d x) → ((start : ℕ) → has_begun es base start ≡ true → (lsn : ℕ) → has_changed es base t.0 lsn ≡ true → is_late es base start lsn ≡ true) →
+    IsCommitAt es at → ((d : ℕ) (x : Name) → logged_at base es d x t.0 ≤ latest_at base es d x) → ((start : ℕ) → has_begun es base start ≡ true → (lsn : ℕ) → has_changed es base t.0 lsn ≡ true → is_late es base start lsn ≡ true) →
     ForestDue es base last (trees_at old) none_due → ForestDue es base last (trees_at new) none_due
-commits_fit es base last at t [] old new steps free le late f = forest_same es base last (trees_at old) (trees_at new) none_due steps f
-commits_fit es base last at t (n ∷ names) old new steps free le late f =
-    commits_fit es base last at t names steps.0 new steps.2 (free_stays t n old steps.0 names steps.1.seen free.1) le late (by_step steps.1.step)
+commits_fit es base last at t [] old new steps free commit le late f = forest_same es base last (trees_at old) (trees_at new) none_due steps f
+commits_fit es base last at t (n ∷ names) old new steps free commit le late f =
+    commits_fit es base last at t names steps.0 new steps.2 (free_stays t n old steps.0 names steps.1.seen free.1) commit le late (by_step steps.1.step)
   where
     by_step : MayStepIn n.db (HasCommitted n.name at) old steps.0 → ForestDue es base last (trees_at steps.0) none_due
     by_step (inl same) = forest_same es base last (trees_at old) (trees_at steps.0) none_due same f
@@ -128,7 +150,7 @@ commits_fit es base last at t (n ∷ names) old new steps free le late f =
         (λ d away. others_away old steps.0 n.db (Some s.next) s.has d away) (λ d away. refl)
         (λ u there. subst (λ (v : DbTree). FitsDue es base f.home last n.db v []) (is_next old steps.0 n.db s.next u s.has there)
         (committed_fits es base f.home last n.db n.name at s.tree s.next s.step
-        (commit_is_latest es es base n.db n.name t.0 s.tree.cells (f.writes n.db s.tree s.was) own (le n.db n.name)) (f.fits n.db s.tree s.was)))
+        (commit_is_latest es es base n.db n.name t.0 s.tree.cells (f.writes n.db s.tree s.was) own (le n.db n.name)) commit (f.fits n.db s.tree s.was)))
         (λ u there. subst (λ (v : DbTree). AreLogged es base n.db v.cells) (is_next old steps.0 n.db s.next u s.has there)
         (committed_logged es base n.db n.name at s.tree s.next s.step (f.writes n.db s.tree s.was)))
         (λ u there. subst (λ (v : DbTree). HasNotes es base [] v.levels) (is_next old steps.0 n.db s.next u s.has there)
@@ -217,7 +239,7 @@ module _ {D : Type 0} (observable : Bool) (history : D → History) (sync_out re
     fitting = grew;
     fits = λ log base has begun f. (let a = is_appended observable history sync_out read_out read_of faults old new (Commit t) log base at grew at_is has begun in
         subst (λ (es : List Placed). ForestFits es base last (trees_at after)) (sym a.is)
-        (commits_fit (placed log ++ (at, Commit t) ∷ []) base last at t names before after steps free (λ d x. commit_latest (placed log) base at t d x a.begun)
+        (commits_fit (placed log ++ (at, Commit t) ∷ []) base last at t names before after steps free (commit_last (placed log) at t a.behind) (λ d x. commit_latest (placed log) base at t d x a.begun)
         (λ start started lsn changed. late_committed (placed log) base start at lsn t (begun_before (placed log) base start at a.behind (begun_back (placed log) ((at, Commit t) ∷ []) base start (refl, tt) started)) changed)
         (forest_stays (placed log) ((at, Commit t) ∷ []) base last last (trees_at before) (trees_at before) none_due (le_refl last) (λ d. refl) (refl, tt) f)));
     still = λ none. absurd (some_entry (Commit t) none);

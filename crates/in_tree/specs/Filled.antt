@@ -31,10 +31,12 @@ use Rattle.tree_nodes.specs.declared.node.Node.{Node}
 use Rattle.tree_nodes.specs.Nodes.{least}
 use Rattle.tree_nodes.specs.Levels.{row_of, AreParts}
 use Rattle.tree_nodes.specs.Lows.{lows_of}
+use Rattle.db_tree.specs.declared.node_at.NodeAt.{NodeAt}
 use Rattle.db_tree.specs.declared.node_image.NodeImage.{NodeImage}
 use Rattle.db_tree.specs.declared.slot_room.SlotRoom.{SlotRoom}
 use Rattle.db_tree.specs.declared.tree.DbTree.{DbTree}
-use Rattle.db_tree.specs.Content.{held_by}
+use Rattle.db_tree.specs.Content.{kept_by}
+use Rattle.db_tree.specs.Dirty.{AreExact}
 use Rattle.db_tree.specs.Images.{Placed}
 use Rattle.db_tree.specs.NodeImages.{finished, sizes_in, IsLoggable}
 use Rattle.db_tree.specs.NodeSteps.{IsLoggedUp, IsNoted}
@@ -83,7 +85,9 @@ pub record HasNoted (image : NodeImage) (at : ℕ) (before after : DbTree) : Typ
   pub parts : AreParts after.levels
   pub noted : IsSome (value_at image.low (row_of before.levels image.level)) → IsNoted before.levels after.levels image.level image.low at
   pub up : IsSome (value_at image.low (row_of before.levels image.level)) → IsLoggedUp before.levels after.levels image.level image.low at
-  pub keeps : (es : Placed) (base : ℕ) (newest : Name → ℕ) → ((n : Node) → value_at image.low (row_of before.levels image.level) ≡ Some n → IsImageOf es before.levels (held_by before.cells) image.level (image.low, n) at) →
+  pub exact : (es : Placed) (due : List NodeAt) → ((n : Node) → value_at image.low (row_of before.levels image.level) ≡ Some n → IsImageOf es before.levels (kept_by before.cells) image.level (image.low, n) at) →
+      AreExact (record { level = image.level; low = image.low } ∷ due) before.levels before.cells → AreExact due after.levels after.cells
+  pub keeps : (es : Placed) (base : ℕ) (newest : Name → ℕ) → ((n : Node) → value_at image.low (row_of before.levels image.level) ≡ Some n → IsImageOf es before.levels (kept_by before.cells) image.level (image.low, n) at) →
       IsTree es base newest before.levels before.cells → IsTree es base newest after.levels after.cells
 
 -- an image took the next place, and its node has it

@@ -15,7 +15,7 @@ ghost use Rattle.db_tree.specs.Stored.{AreQuiet, HasLogged, IsLoggedAlready};
 ghost use Rattle.db_tree.specs.Splits.{passes_top};
 ghost use Rattle.db_tree.specs.declared.tree.DbTree.{DbTree as Kept};
 ghost use Rattle.tree_images.specs.RedoSteps.{IsSplitFor, HasRedone};
-ghost use Rattle.tree_images.specs.TreeSteps.{HasWritten, HasCommitted, HasGivenUp, HasSlot, IsNewTree};
+ghost use Rattle.tree_images.specs.TreeSteps.{HasWritten, HasCommitted, HasGivenUp, HasSlot, IsNewTree, KeepsExact};
 ghost use Rattle.in_tree.specs.Forest.{Forest, Replaces, cells_at, cells_seen, is_there, HasChange, HasSameTrees, IsSameForest, IsStepIn, MayStepIn, KeepsCells, HasOne};
 ghost use Rattle.tree_nodes.specs.Levels.{AreParts};
 ghost use Rattle.db_tree.specs.Images.{Placed as Entries};
@@ -24,9 +24,9 @@ ghost use Rattle.in_tree.specs.Loaded.{AreAllParts, nodes_of};
 ghost use Rattle.record_tree.specs.LoadedNodes.{AreNodesStill};
 ghost use Rattle.in_tree.specs.Placing.{IsPlacedIn, IsFittedIn};
 ghost use Rattle.in_tree.specs.Shapes.{shapes_of};
-ghost use Rattle.in_tree.specs.Stored.{slots_held, stored_of, IsQuiet, IsSlotFor};
+ghost use Rattle.in_tree.specs.Stored.{read_of, slots_held, stored_of, IsQuiet, IsSlotFor};
 ghost use Rattle.in_tree.specs.Waits.{waits_in};
-ghost use Rattle.record_tree.specs.LoadedSlots.{HasMoreSlots, AreSlotsStill};
+ghost use Rattle.record_tree.specs.LoadedSlots.{HasMoreSlots, AreSlotsStill, IsReadStill};
 ghost use Rattle.record_tree.specs.Stored.{stored_at, HasStored, AreStoredStill};
 
 use db_tree::{DbTree, SlotRoom};
@@ -167,6 +167,7 @@ pub(crate) fn make(
     ensures waits { waits_in trees.new ≤ waits_in trees.old }
     ensures stored { AreStoredStill (stored_of trees.old) (stored_of trees.new) }
     ensures slots { AreSlotsStill (slots_held trees.old) (slots_held trees.new) }
+    ensures read { IsReadStill (read_of trees.old) (read_of trees.new) }
     ensures quiet { IsQuiet trees.old → IsQuiet trees.new }
 {
     let tree = DbTree::new(alloc, number)?;
@@ -245,6 +246,7 @@ fn split_for(
     ensures split { IfOk result (λ made. IsSplitFor fanout number name.now made tree.old tree.new.levels) }
     ensures keeps { (es : Entries) (base : ℕ) (newest : Name → ℕ) → mark < base → IsTree es base newest tree.old.levels tree.old.cells → IsTree es base newest tree.new.levels tree.new.cells }
     ensures rising { IsRising tree.old.cells → IsRising tree.new.cells }
+    ensures exact { OnOk result (KeepsExact tree.old tree.new) }
     ensures few { IfOk result (λ made. made ≤ 64) }
     ensures waits { IfOk result (λ made. count_waiting (shape_in tree.new) ≤ count_waiting (shape_in tree.old) + 2 * made) }
     ensures err { OnErr result (tree.new ≡ tree.old) }

@@ -114,9 +114,9 @@ impl Loads for LoadedTrees {
     ghost use Rattle.std.specs.Ordering.{nat_cmp};
     ghost use Rattle.std.specs.BTreeMap.{get};
     ghost use Rattle.in_tree.specs.Forest.{is_there};
-    ghost use Rattle.in_tree.specs.Stored.{slots_held, stored_of, none_stored};
+    ghost use Rattle.in_tree.specs.Stored.{slots_held, stored_of, none_read, none_stored};
     ghost use Rattle.in_tree.specs.Whole.{last_number_of};
-    ghost use Rattle.in_tree.specs.LoadedFits.{formed_within, nodes_within, fits_within};
+    ghost use Rattle.in_tree.specs.LoadedFits.{formed_within, nodes_within, read_within, fits_within};
     ghost use Rattle.in_tree.specs.LoadedNodes.{no_nodes};
 
     ghost stored = { λ x. stored_of x.forest };
@@ -129,11 +129,15 @@ impl Loads for LoadedTrees {
 
     ghost slots = { λ x. slots_held x.forest };
 
+    ghost read = { read_within };
+
     ghost last_number = { last_number_of };
 
     ghost fits = { fits_within };
 
     ghost none_stored = { λ x d none. none_stored (get nat_cmp x.forest d) none };
+
+    ghost none_read = { λ x d name none. none_read (get nat_cmp x.forest d) name none };
 
     ghost no_nodes = { λ x d k low none. no_nodes (get nat_cmp x.forest d) k low none };
 

@@ -5,7 +5,7 @@ ghost use Rattle.je_order.specs.Order.{name_cmp};
 ghost use Rattle.je_order.specs.declared.name.Name.{Name as Named};
 ghost use Rattle.record_map.specs.Cells.{IsRising};
 ghost use Rattle.record_tree.specs.LoadedNodes.{node_read, HasPutNode, AreNodesStill};
-ghost use Rattle.record_tree.specs.LoadedSlots.{shows_deletion_inside, HasMoreSlots, AreSlotsStill};
+ghost use Rattle.record_tree.specs.LoadedSlots.{shows_deletion_inside, HasGone, HasMoreSlots, HasPutSlot, AreSlotsStill, IsReadStill};
 ghost use Rattle.record_tree.specs.Stored.{stored_at, HasStored, AreStoredStill};
 ghost use Rattle.tree_nodes.specs.Levels.{AreParts};
 ghost use Rattle.db_tree.specs.Loading.{GetsDeletions, IsLoaded};
@@ -14,7 +14,7 @@ ghost use Rattle.db_tree.specs.Splits.{one_if};
 ghost use Rattle.in_tree.specs.Forest.{is_there, IsStepIn};
 ghost use Rattle.in_tree.specs.Loaded.{AreAllParts, nodes_of};
 ghost use Rattle.in_tree.specs.LoadedNodes.{IsEnsured, HasLoadedIn};
-ghost use Rattle.in_tree.specs.Stored.{slots_held, stored_of, IsQuiet};
+ghost use Rattle.in_tree.specs.Stored.{read_of, slots_held, stored_of, IsQuiet};
 ghost use Rattle.in_tree.specs.Waits.{waits_in};
 
 use crate::forest;
@@ -45,6 +45,7 @@ pub(crate) fn load(
     requires { is_there trees.old db ≡ true }
     ensures stored { OnOk result (HasStored (stored_of trees.old) (stored_of trees.new) db name (stored_at at (Some value.now))) }
     ensures slots { OnOk result (HasMoreSlots (slots_held trees.old) (slots_held trees.new) db (λ x. is_eq (name_cmp name x))) }
+    ensures read { OnOk result (HasPutSlot (read_of trees.old) (read_of trees.new) db name at) }
     ensures quiet { IsQuiet trees.old → IsQuiet trees.new }
     ensures waits { waits_in trees.new ≡ waits_in trees.old }
     ensures nodes { AreNodesStill (nodes_of trees.old) (nodes_of trees.new) }
@@ -68,6 +69,7 @@ fn ensure_tree(
     ensures parts { AreAllParts trees.old → AreAllParts trees.new }
     ensures stored { AreStoredStill (stored_of trees.old) (stored_of trees.new) }
     ensures slots { AreSlotsStill (slots_held trees.old) (slots_held trees.new) }
+    ensures read { IsReadStill (read_of trees.old) (read_of trees.new) }
     ensures quiet { IsQuiet trees.old → IsQuiet trees.new }
     ensures waits { waits_in trees.new ≤ waits_in trees.old }
 {
@@ -119,6 +121,7 @@ fn put_image(
     ensures parts { AreAllParts trees.old → AreAllParts trees.new }
     ensures stored { AreStoredStill (stored_of trees.old) (stored_of trees.new) }
     ensures slots { OnOk result (HasMoreSlots (slots_held trees.old) (slots_held trees.new) db (shows_deletion_inside low.now (option_copied high.entry) image.now.slots)) }
+    ensures read { OnOk result (HasGone (read_of trees.old) (read_of trees.new) db (shows_deletion_inside low.now (option_copied high.entry) image.now.slots) at) }
     ensures quiet { IsQuiet trees.old → IsQuiet trees.new }
     ensures few { IfOk result (λ waits. waits.more ≤ 513) }
     ensures waits { IfOk result (λ waits. waits_in trees.new + one_if waits.replaced ≤ waits_in trees.old + waits.more) }
@@ -146,6 +149,7 @@ pub(crate) fn load_node(
     ensures parts { AreAllParts trees.old → AreAllParts trees.new }
     ensures stored { AreStoredStill (stored_of trees.old) (stored_of trees.new) }
     ensures slots { OnOk result (HasMoreSlots (slots_held trees.old) (slots_held trees.new) image.now.db (shows_deletion_inside low.now (option_copied high.entry) image.now.slots)) }
+    ensures read { OnOk result (HasGone (read_of trees.old) (read_of trees.new) image.now.db (shows_deletion_inside low.now (option_copied high.entry) image.now.slots) at) }
     ensures quiet { IsQuiet trees.old → IsQuiet trees.new }
     ensures few { IfOk result (λ waits. waits.more ≤ 513) }
     ensures waits { IfOk result (λ waits. waits_in trees.new + one_if waits.replaced ≤ waits_in trees.old + waits.more) }

@@ -1,5 +1,5 @@
 // The trees of an environment.
-ghost use Rattle.std.specs.Prelude.{◌≡◌, ◌≤◌, ◌<◌, ◌+◌, ◌*◌, ◌==◌, ℕ, suc, List as Items, [], true, false, if◌then◌else◌, IfOk, IfSome, OnOk, OnErr, option_map};
+ghost use Rattle.std.specs.Prelude.{◌≡◌, ◌≤◌, ◌<◌, ◌+◌, ◌*◌, ◌^◌, ◌==◌, ℕ, suc, List as Items, [], true, false, if◌then◌else◌, IfOk, IfSome, OnOk, OnErr, option_map};
 ghost use Rattle.std.specs.Ordering.{is_eq};
 ghost use Rattle.je_order.specs.Order.{name_cmp};
 ghost use Rattle.je_order.specs.declared.name.Name.{Name};
@@ -160,7 +160,7 @@ impl Trees {
         ensures already { IsLoggedAlready (cells_at self.old.forest db) name.now at value → OnOk result (AreNodesStill (nodes_of self.old.forest) (nodes_of self.new.forest)) }
         ensures quiet { IsQuiet self.old.forest → IsQuiet self.new.forest }
         ensures same { OnErr result (AreSame (cells_seen self.old.forest) (cells_seen self.new.forest)) }
-        ensures fits { (es : Items Placed) (base : ℕ) → first < base → IsLoggedAt es db name.now at value → IsQuiet self.old.forest → FitsUpTo self.old.last_node self.old.forest es base → OnOk result (FitsUpTo self.new.last_node self.new.forest es base) }
+        ensures fits { (es : Items Placed) (base : ℕ) → first < base → at < base → base < 2 ^ 64 → IsLoggedAt es db name.now at value → IsQuiet self.old.forest → FitsUpTo self.old.last_node self.old.forest es base → OnOk result (FitsUpTo self.new.last_node self.new.forest es base) }
         ensures parts { AreAllParts self.old.forest → AreAllParts self.new.forest }
         ensures trees { HasSameTrees self.old.forest self.new.forest }
         ensures few { IfOk result (λ made. made ≤ 64) }

@@ -3,7 +3,7 @@ use Rattle.je_order.specs.Order.{name_cmp}
 use Rattle.record_tree.specs.Stored.{stored_at}
 use Rattle.db_tree.specs.Stored.{loaded_cell}
 use Rattle.db_tree.proofs.Ending.{ok_then}
-use Rattle.in_tree.proofs.StoredLaws.{slots_change, slots_put, stored_put, stored_change}
+use Rattle.in_tree.proofs.StoredLaws.{read_put, slots_change, slots_put, stored_put, stored_change}
 use Rattle.in_tree.proofs.Waits.{tree_waits_same, same_levels}
 use Rattle.in_tree.proofs.loading.load.Goals as goal
 
@@ -26,4 +26,11 @@ returns-clause-slots c =
     (λ has. slots_put c.args.trees.now (c.get_mut.follows.lender c.load.new.self) c.args.db c.in-Some.tree.now c.load.new.self (λ x. is_eq (name_cmp c.args.name x)) c.in-Some.ensures.value
     ((c.get_mut.follows.holds c.load.new.self).3 (sym (ap is_some c.in-Some.ensures.value))).0
     (slots_change c.in-Some.tree.now.cells c.load.new.self.cells c.args.name (loaded_cell c.args.at c.args.value.now) refl has))
+    c.load.ensures.cell
+
+pub returns-clause-read : goal.returns-clause-read
+returns-clause-read c =
+    ok_then c.load.result
+    (λ has. read_put c.args.trees.now (c.get_mut.follows.lender c.load.new.self) c.args.db c.in-Some.tree.now c.load.new.self c.args.name c.args.at c.args.value.now c.in-Some.ensures.value
+    ((c.get_mut.follows.holds c.load.new.self).3 (sym (ap is_some c.in-Some.ensures.value))).0 has)
     c.load.ensures.cell

@@ -5,7 +5,7 @@ use Rattle.in_tree.proofs.Checked.{if_ok_then}
 use Rattle.in_tree.proofs.Waits.{tree_waits_more, tree_waits_net}
 use Rattle.record_tree.specs.LoadedSlots.{shows_deletion_inside}
 use Rattle.db_tree.proofs.Ending.{ok_then}
-use Rattle.in_tree.proofs.StoredLaws.{deletions_quiet, deletions_slots, deletions_stored, quiet_put, slots_put, stored_still}
+use Rattle.in_tree.proofs.StoredLaws.{deletions_quiet, deletions_slots, deletions_stored, quiet_put, read_gone, slots_put, stored_still}
 use Rattle.in_tree.proofs.loading.put_image.Goals as goal
 
 pub returns-clause-waits : goal.returns-clause-waits
@@ -37,4 +37,11 @@ returns-clause-slots c =
     (λ got. slots_put c.args.trees.now (c.get_mut.follows.lender c.put_in.new.tree) c.args.db c.in-Some.tree.now c.put_in.new.tree (shows_deletion_inside c.args.low.now (option_copied c.args.high) c.args.image.now.slots) c.in-Some.ensures.value
     ((c.get_mut.follows.holds c.put_in.new.tree).3 (sym (ap is_some c.in-Some.ensures.value))).0
     (deletions_slots (shows_deletion_inside c.args.low.now (option_copied c.args.high) c.args.image.now.slots) c.args.at c.in-Some.tree.now.cells c.put_in.new.tree.cells got))
+    c.put_in.ensures.slots
+
+pub returns-clause-read : goal.returns-clause-read
+returns-clause-read c =
+    ok_then c.put_in.result
+    (λ got. read_gone c.args.trees.now (c.get_mut.follows.lender c.put_in.new.tree) c.args.db c.in-Some.tree.now c.put_in.new.tree (shows_deletion_inside c.args.low.now (option_copied c.args.high) c.args.image.now.slots) c.args.at c.in-Some.ensures.value
+    ((c.get_mut.follows.holds c.put_in.new.tree).3 (sym (ap is_some c.in-Some.ensures.value))).0 got)
     c.put_in.ensures.slots
