@@ -21,10 +21,10 @@ below_nodes : (es : List Placed) (keeps : Bool) (most d k : ℕ) (low : Name) (h
 below_nodes es keeps most d zero low high at old new h =
     (h.0, subst (λ (n : AllNodes). IsNodePut es keeps most d 0 low at h.0 old.nodes n) (still_nodes h.1.nodes new.nodes h.3.nodes) h.2.put)
 below_nodes es keeps most d (suc k) low high at old new h = (
-    h.0,
-    h.1.nodes,
-    h.2.put,
-    each_nodes (λ (c : Child). IsLoadedBelow es keeps most d k c.low c.high c.at) (λ (c : Child). ArePutBelow es keeps most d k c.low c.high c.at) (λ c. below_nodes es keeps most d k c.low c.high c.at) (children low high (slots_shown h.0)) h.1 new h.3,
+  h.0,
+  h.1.nodes,
+  h.2.put,
+  each_nodes (λ (c : Child). IsLoadedBelow es keeps most d k c.low c.high c.at) (λ (c : Child). ArePutBelow es keeps most d k c.low c.high c.at) (λ c. below_nodes es keeps most d k c.low c.high c.at) (children low high (slots_shown h.0)) h.1 new h.3,
 )
 
 -- the nodes of the trees of roots were put
