@@ -2,11 +2,13 @@
 pub mod WalkLaws
 -- A walk that meets no fault never enters the subcommand `help`.
 pub mod StopLaws
--- Each row that a walk over the arguments of `run` makes has a value, and that of a number one in its bounds.
+-- Each row that a walk over a command's arguments makes has a value, and that of a number one in its bounds.
 pub mod RowLaws
--- Valid arguments give the options of `run` their values.
-pub mod RunLaws
--- A value that the parser of a number takes spells one in its bounds.
+-- Of any rules: arguments at which a parse meets no fault give the options their values.
+pub mod LevelLaws
+-- A value that the parser of a number takes is read as a number in its bounds.
 pub mod NumberLaws
+-- Valid arguments name a folder, and give a command with its options.
+pub mod CommandLaws
 -- What valid arguments give, and that other arguments give nothing.
 pub mod ValueLaws

@@ -1,4 +1,5 @@
--- Each row that a walk over the arguments of `run` makes has a value, and that of a number one in its bounds.
+-- Each row that a walk over a command's arguments makes has a value, and that of a number one in its bounds; of any table of
+-- options that are numbers.
 use Rattle.std.proofs.Common.{◌≡◌, ◌∙◌, ◌++◌, ◌||◌, ℕ, Bool, true, false, ap, refl, sym, subst, codes, List, [], ◌∷◌, Option, Some, None, is_some, cond, pos}
 use Rattle.std.specs.Prelude.{find, option_map, option_and_then, slice_get, unwrap_or}
 use Rattle.std.specs.List.{AllByRecursion}
@@ -17,58 +18,32 @@ use Rattle.clap.specs.declared.parser.matches.ValueSource.{ValueSource}
 abbrev pub IsNumber : ℕ → ℕ → Text → Type 0
 IsNumber low high text = accepts false (parser.Signed (pos low) (pos high)) text ≡ true
 
--- where the option is of this name, its value is read as a number in these bounds
-abbrev pub IsNumberIf : Text → ℕ → ℕ → Text → Reading → Text → Type 0
-IsNumberIf name low high id how value = bytes_eq id name ≡ true → (how ≡ WithoutMinus) × IsNumber low high value
+-- an option that is a number: its name and its bounds
+pub record Number : Type 0 where
+  pub name : Text
+  pub low : ℕ
+  pub high : ℕ
 
--- values of an option: there is a first one, and that of a number is in its bounds
-abbrev pub AreValues : Text → Reading → List Text → Type 0
-AreValues id how [] = ⊥
-AreValues id how (v ∷ vs) = IsNumberIf (codes "file-max") 4096 1073741824 id how v × IsNumberIf (codes "fanout") 4 128 id how v
+-- where the option is of this name, its value is read as a number in its bounds
+abbrev pub IsNumberIf : Text → Reading → Text → Number → Type 0
+IsNumberIf id how value number = bytes_eq id number.name ≡ true → (how ≡ WithoutMinus) × IsNumber number.low number.high value
 
-abbrev pub IsFilled : Row → Type 0
-IsFilled r = AreValues r.id r.reading r.values
+-- a value of an option: that of each number of the table is in its bounds
+abbrev pub IsValue : List Number → Text → Reading → Text → Type 0
+IsValue table id how value = AllByRecursion (IsNumberIf id how value) table
 
-abbrev pub AreFilled : List Row → Type 0
-AreFilled = AllByRecursion IsFilled
+-- values of an option: there is a first one
+abbrev pub AreValues : List Number → Text → Reading → List Text → Type 0
+AreValues table id how [] = ⊥
+AreValues table id how (v ∷ vs) = IsValue table id how v
 
-joined : (xs ys : List Row) → AreFilled xs → AreFilled ys → AreFilled (xs ++ ys)
-joined [] ys front back = back
-joined (x ∷ xs) ys front back = (front.0, joined xs ys front.1 back)
+abbrev pub IsFilled : List Number → Row → Type 0
+IsFilled table r = AreValues table r.id r.reading r.values
 
-at_row_filled : (id : Text) (change : Row → List Row) (missing rows : List Row) → ((r : Row) → IsFilled r → AreFilled (change r)) → AreFilled missing → AreFilled rows
-    → AreFilled (at_row id change missing rows)
-at_row_filled id change missing [] changed new held = new
-at_row_filled id change missing (r ∷ rs) changed new held = go (bytes_eq r.id id) (at_row_filled id change missing rs changed new held.1)
-  where
-    go : (b : Bool) → AreFilled (at_row id change missing rs) → AreFilled (cond b (change r ++ rs) (r ∷ at_row id change missing rs))
-    go true rest = joined (change r) rs (changed r held.0) held.1
-    go false rest = (held.0, rest)
+abbrev pub AreFilled : List Number → List Row → Type 0
+AreFilled table = AllByRecursion (IsFilled table)
 
-more : (id : Text) (how : Reading) (xs ys : List Text) → AreValues id how xs → AreValues id how (xs ++ ys)
-more id how [] ys are = absurd are
-more id how (x ∷ xs) ys are = are
-
-with_values_filled : (id : Text) (how : Reading) (s : ValueSource) (values : List Text) (rows : List Row) → AreValues id how values → AreFilled rows → AreFilled (with_values id how s values rows)
-with_values_filled id how s values rows are held =
-    at_row_filled id (more_values s values) _ rows (λ r filled. (more r.id r.reading r.values values filled, tt)) (are, tt) held
-
-pub set_filled : (id : Text) (how : Reading) (values : List Text) (rows : List Row) → AreValues id how values → AreFilled rows → AreFilled (used_as Set id how values rows)
-set_filled id how values rows are held =
-    with_values_filled id how _ values (without id rows) are (at_row_filled id (λ _. []) [] rows (λ r filled. tt) tt held)
-
--- ---- defaults
-
-pub default_filled : (a : Rule) (rows : List Row) → AreValues a.id (reading_by a) a.defaults → AreFilled rows → AreFilled (with_default rows a)
-default_filled a rows are held = go (has_row a.id rows)
-  where
-    given : (values : List Text) → AreValues a.id (reading_by a) values → AreFilled (default_rows a.id (reading_by a) values rows)
-    given [] are = absurd are
-    given (v ∷ vs) are = with_values_filled a.id (reading_by a) _ (v ∷ vs) rows are held
-
-    go : (b : Bool) → AreFilled (cond b rows (default_rows a.id (reading_by a) a.defaults rows))
-    go true = held
-    go false = given a.defaults are
+-- ---- rows of defaults
 
 values_there : (id : Text) (how : Reading) (s : ValueSource) (values : List Text) (rows : List Row) → bytes_eq id id ≡ true → has_row id (with_values id how s values rows) ≡ true
 values_there id how s values [] same = ap (λ b. b || false) same
@@ -111,18 +86,6 @@ no_default a rows none = go (has_row a.id rows)
     go true = refl
     go false = ap (λ values. default_rows a.id (reading_by a) values rows) none
 
--- ---- what is read of filled rows
-
-pub found_filled : (id : Text) (rows : List Row) (r : Row) → AreFilled rows → find (λ x. bytes_eq x.id id) rows ≡ Some r → (bytes_eq r.id id ≡ true) × IsFilled r
-found_filled id [] r held found = cc
-found_filled id (x ∷ xs) r held found = go (found_filled id xs r held.1) (bytes_eq x.id id) refl found
-  where
-    go : (find (λ y. bytes_eq y.id id) xs ≡ Some r → (bytes_eq r.id id ≡ true) × IsFilled r) → (b : Bool) → bytes_eq x.id id ≡ b → cond b (Some x) (find (λ y. bytes_eq y.id id) xs) ≡ Some r → (bytes_eq r.id id ≡ true) × IsFilled r
-    go rest true is same =
-        let are : x ≡ r = ap (λ o. unwrap_or o r) same in
-        (subst (λ y. bytes_eq y.id id ≡ true) are is, subst IsFilled are held.0)
-    go rest false is same = rest same
-
 pub row_there : (id : Text) (rows : List Row) → has_row id rows ≡ true → is_some (find (λ r. bytes_eq r.id id) rows) ≡ true
 row_there id [] has = has
 row_there id (r ∷ rs) has = go (row_there id rs) (bytes_eq r.id id) has
@@ -131,30 +94,77 @@ row_there id (r ∷ rs) has = go (row_there id rs) (bytes_eq r.id id) has
     go rest true has = refl
     go rest false has = rest has
 
--- a row that is there gives its first value
-pub first_there : (id : Text) (rows : List Row) → AreFilled rows → is_some (find (λ r. bytes_eq r.id id) rows) ≡ true → (v : Text) × (first_of id rows ≡ Some v)
-first_there id rows held there = go (find (λ r. bytes_eq r.id id) rows) refl there
-  where
-    read : (r : Row) (values : List Text) → AreValues r.id r.reading values → (v : Text) × (slice_get values 0 ≡ Some v)
-    read r [] are = absurd are
-    read r (v ∷ vs) are = (v, refl)
+module _ (table : List Number) where
+  joined : (xs ys : List Row) → AreFilled table xs → AreFilled table ys → AreFilled table (xs ++ ys)
+  joined [] ys front back = back
+  joined (x ∷ xs) ys front back = (front.0, joined xs ys front.1 back)
 
-    go : (o : Option Row) → find (λ r. bytes_eq r.id id) rows ≡ o → is_some o ≡ true → (v : Text) × (option_and_then (λ r. slice_get r.values 0) o ≡ Some v)
-    go None is some = cc
-    go (Some r) is some = read r r.values (found_filled id rows r held is).1
+  at_row_filled : (id : Text) (change : Row → List Row) (missing rows : List Row) → ((r : Row) → IsFilled table r → AreFilled table (change r)) → AreFilled table missing → AreFilled table rows
+      → AreFilled table (at_row id change missing rows)
+  at_row_filled id change missing [] changed new held = new
+  at_row_filled id change missing (r ∷ rs) changed new held = go (bytes_eq r.id id) (at_row_filled id change missing rs changed new held.1)
+    where
+      go : (b : Bool) → AreFilled table (at_row id change missing rs) → AreFilled table (cond b (change r ++ rs) (r ∷ at_row id change missing rs))
+      go true rest = joined (change r) rs (changed r held.0) held.1
+      go false rest = (held.0, rest)
 
--- the row of an option that is a number gives a value in its bounds
-pub number_there : (name : Text) (low high : ℕ) (rows : List Row) → ((id : Text) (how : Reading) (v : Text) (vs : List Text) → AreValues id how (v ∷ vs) → IsNumberIf name low high id how v) → AreFilled rows →
-    has_row name rows ≡ true → (v : Text) × (one_of name rows ≡ Some (without_minus v)) × IsNumber low high v
-number_there name low high rows part held has = go (find (λ r. bytes_eq r.id name) rows) refl (row_there name rows has)
-  where
-    read : (r : Row) (values : List Text) (how : Reading) → bytes_eq r.id name ≡ true → AreValues r.id how values
-        → (v : Text) × (option_map (read_as how) (slice_get values 0) ≡ Some (without_minus v)) × IsNumber low high v
-    read r [] how is are = absurd are
-    read r (v ∷ vs) how is are = let own = part r.id how v vs are is in (v, ap (λ h. Some (read_as h v)) own.0, own.1)
+  more : (id : Text) (how : Reading) (xs ys : List Text) → AreValues table id how xs → AreValues table id how (xs ++ ys)
+  more id how [] ys are = absurd are
+  more id how (x ∷ xs) ys are = are
 
-    go : (o : Option Row) → find (λ r. bytes_eq r.id name) rows ≡ o → is_some o ≡ true → (v : Text) × (option_and_then row_text o ≡ Some (without_minus v)) × IsNumber low high v
-    go None is some = cc
-    go (Some r) is some =
-        let at = found_filled name rows r held is in
-        read r r.values r.reading at.0 at.1
+  with_values_filled : (id : Text) (how : Reading) (s : ValueSource) (values : List Text) (rows : List Row) → AreValues table id how values → AreFilled table rows → AreFilled table (with_values id how s values rows)
+  with_values_filled id how s values rows are held =
+      at_row_filled id (more_values s values) _ rows (λ r filled. (more r.id r.reading r.values values filled, tt)) (are, tt) held
+
+  pub set_filled : (id : Text) (how : Reading) (values : List Text) (rows : List Row) → AreValues table id how values → AreFilled table rows → AreFilled table (used_as Set id how values rows)
+  set_filled id how values rows are held =
+      with_values_filled id how _ values (without id rows) are (at_row_filled id (λ _. []) [] rows (λ r filled. tt) tt held)
+
+  pub default_filled : (a : Rule) (rows : List Row) → AreValues table a.id (reading_by a) a.defaults → AreFilled table rows → AreFilled table (with_default rows a)
+  default_filled a rows are held = go (has_row a.id rows)
+    where
+      given : (values : List Text) → AreValues table a.id (reading_by a) values → AreFilled table (default_rows a.id (reading_by a) values rows)
+      given [] are = absurd are
+      given (v ∷ vs) are = with_values_filled a.id (reading_by a) _ (v ∷ vs) rows are held
+
+      go : (b : Bool) → AreFilled table (cond b rows (default_rows a.id (reading_by a) a.defaults rows))
+      go true = held
+      go false = given a.defaults are
+
+  pub found_filled : (id : Text) (rows : List Row) (r : Row) → AreFilled table rows → find (λ x. bytes_eq x.id id) rows ≡ Some r → (bytes_eq r.id id ≡ true) × IsFilled table r
+  found_filled id [] r held found = cc
+  found_filled id (x ∷ xs) r held found = go (found_filled id xs r held.1) (bytes_eq x.id id) refl found
+    where
+      go : (find (λ y. bytes_eq y.id id) xs ≡ Some r → (bytes_eq r.id id ≡ true) × IsFilled table r) → (b : Bool) → bytes_eq x.id id ≡ b → cond b (Some x) (find (λ y. bytes_eq y.id id) xs) ≡ Some r → (bytes_eq r.id id ≡ true) × IsFilled table r
+      go rest true is same =
+          let are : x ≡ r = ap (λ o. unwrap_or o r) same in
+          (subst (λ y. bytes_eq y.id id ≡ true) are is, subst (IsFilled table) are held.0)
+      go rest false is same = rest same
+
+  -- a row that is there gives its first value
+  pub first_there : (id : Text) (rows : List Row) → AreFilled table rows → is_some (find (λ r. bytes_eq r.id id) rows) ≡ true → (v : Text) × (first_of id rows ≡ Some v)
+  first_there id rows held there = go (find (λ r. bytes_eq r.id id) rows) refl there
+    where
+      read : (r : Row) (values : List Text) → AreValues table r.id r.reading values → (v : Text) × (slice_get values 0 ≡ Some v)
+      read r [] are = absurd are
+      read r (v ∷ vs) are = (v, refl)
+
+      go : (o : Option Row) → find (λ r. bytes_eq r.id id) rows ≡ o → is_some o ≡ true → (v : Text) × (option_and_then (λ r. slice_get r.values 0) o ≡ Some v)
+      go None is some = cc
+      go (Some r) is some = read r r.values (found_filled id rows r held is).1
+
+  -- an option of the table that has a row gives a number in its bounds
+  pub number_there : (number : Number) (rows : List Row) → ((id : Text) (how : Reading) (v : Text) → IsValue table id how v → IsNumberIf id how v number) → AreFilled table rows →
+      is_some (find (λ r. bytes_eq r.id number.name) rows) ≡ true → (v : Text) × (one_of number.name rows ≡ Some (without_minus v)) × IsNumber number.low number.high v
+  number_there number rows part held there = go (find (λ r. bytes_eq r.id number.name) rows) refl there
+    where
+      read : (r : Row) (values : List Text) (how : Reading) → bytes_eq r.id number.name ≡ true → AreValues table r.id how values
+          → (v : Text) × (option_map (read_as how) (slice_get values 0) ≡ Some (without_minus v)) × IsNumber number.low number.high v
+      read r [] how is are = absurd are
+      read r (v ∷ vs) how is are = let own = part r.id how v are is in (v, ap (λ h. Some (read_as h v)) own.0, own.1)
+
+      go : (o : Option Row) → find (λ r. bytes_eq r.id number.name) rows ≡ o → is_some o ≡ true → (v : Text) × (option_and_then row_text o ≡ Some (without_minus v)) × IsNumber number.low number.high v
+      go None is some = cc
+      go (Some r) is some =
+          let at = found_filled number.name rows r held is in
+          read r r.values r.reading at.0 at.1

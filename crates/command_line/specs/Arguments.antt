@@ -1,38 +1,66 @@
 -- The command line of `jedb`, as the command parser takes it.
-use Rattle.std.specs.Prelude.{ℕ, List, [], ◌∷◌, Bool, true, codes, pos, Option, Some, None, option_and_then, option_map, if◌then◌else◌}
+use Rattle.std.specs.Prelude.{ℕ, ◌≤◌, List, [], ◌∷◌, Bool, true, false, codes, pos, Option, Some, None, option_and_then, option_map, IfSome, if◌then◌else◌}
+use Rattle.std.specs.Str.{bytes_eq}
 use Rattle.std.specs.Str.Parse.{digits_value, without_leading_plus}
+use Rattle.clap.specs.ValueTests.{is_unsigned_in}
 use Rattle.clap.specs.Walk.{Row, Rule, Text, first_of, is_empty, one_of}
 use Rattle.clap.specs.Simple.{App, new_app, new_rule, on_top, subcommand_of, with_rule, with_subcommand}
 use Rattle.clap.specs.Faults.{fault_of}
 use Rattle.clap.specs.declared.builder.value_parser.ValueParser.TheVariants as parser
+use Rattle.command_line.specs.declared.command.RunSettings.{RunSettings}
+use Rattle.command_line.specs.declared.command.Command.{Command}
+use Rattle.command_line.specs.declared.command.Command.TheVariants.{Run, Soak, PrintLog}
+
+-- ---- the rules
 
 -- the option that names the environment's folder: it is required, and takes one value
 abbrev pub home_option : Rule
 home_option = record (new_rule (codes "home")) { long = Some (codes "home"); required = true }
 
--- an option of this name that is one number in these bounds, and has a default
-abbrev pub number_option : Text → ℕ → ℕ → Text → Rule
-number_option name least most default = record (new_rule name) {
+-- an option of this name that is one number in these bounds; it has these defaults, at most one, or is required
+abbrev pub number_option : Text → ℕ → ℕ → List Text → Bool → Rule
+number_option name least most defaults required = record (new_rule name) {
   long = Some name;
   parser = Some (parser.Signed (pos least) (pos most));
-  defaults = default ∷ [];
+  defaults = defaults;
+  required = required;
 }
 
 -- the option that says how many bytes a log file holds at most: ten million where it is not given
 abbrev pub file_max_option : Rule
-file_max_option = number_option (codes "file-max") 4096 1073741824 (codes "10000000")
+file_max_option = number_option (codes "file-max") 4096 1073741824 (codes "10000000" ∷ []) false
 
 -- the option that says how many slots a node has at most: 128 where it is not given
 abbrev pub fanout_option : Rule
-fanout_option = number_option (codes "fanout") 4 128 (codes "128")
+fanout_option = number_option (codes "fanout") 4 128 (codes "128" ∷ []) false
 
--- `run`, which takes these three options alone
+-- the option from whose number a soak's script is drawn: it is required
+abbrev pub seed_option : Rule
+seed_option = number_option (codes "seed") 0 4294967295 [] true
+
+-- a command with the two options that say how an environment is opened
+abbrev pub with_settings : App → App
+with_settings command = with_rule (with_rule command file_max_option) fanout_option
+
+-- `run`, which takes the folder and the settings
 abbrev pub run_command : App
-run_command = with_rule (with_rule (with_rule (new_app (codes "run")) home_option) file_max_option) fanout_option
+run_command = with_settings (with_rule (new_app (codes "run")) home_option)
+
+-- `soak`, which takes a seed too
+abbrev pub soak_command : App
+soak_command = with_settings (with_rule (with_rule (new_app (codes "soak")) home_option) seed_option)
+
+-- `printlog`, which takes the folder alone
+abbrev pub printlog_command : App
+printlog_command = with_rule (new_app (codes "printlog")) home_option
 
 -- `jedb`, which takes one of its commands; no program's name is before the arguments
 abbrev pub jedb : App
-jedb = with_subcommand (on_top (λ s. record s { no_binary_name = true; subcommand_required = true }) (new_app (codes "jedb"))) run_command.top
+jedb = with_subcommand (with_subcommand (with_subcommand
+    (on_top (λ s. record s { no_binary_name = true; subcommand_required = true }) (new_app (codes "jedb")))
+    run_command.top) soak_command.top) printlog_command.top
+
+-- ---- what is read
 
 -- whether the arguments are valid: a parse meets no fault at them
 unfoldable pub is_taken : List Text → Bool
@@ -46,26 +74,59 @@ home_of = option_and_then (λ command. first_of (codes "home") command.1)
 abbrev pub decimal_value : Text → ℕ
 decimal_value text = digits_value 10 (without_leading_plus text)
 
--- the text that is read for an option that is a number, given or by default, in what a parse finds for a command
-abbrev pub number_text_of : Text → Option (Text × List Row) → Option Text
-number_text_of name = option_and_then (λ command. one_of name command.1)
+-- the number that a text is read as, if it spells one below 2^32
+abbrev pub number_read : Text → Option ℕ
+number_read text = if is_unsigned_in 0 4294967295 text then Some (decimal_value text) else None
 
--- the number that it spells
-abbrev pub number_found : Text → Option (Text × List Row) → Option ℕ
-number_found name found = option_map decimal_value (number_text_of name found)
+-- the number of an option, given or by default, in what a parse finds of a command's arguments
+abbrev pub number_of : Text → List Row → Option ℕ
+number_of name rows = option_and_then number_read (one_of name rows)
+
+abbrev pub settings_with : ℕ → ℕ → RunSettings
+settings_with file_max fanout = record { file_max = file_max; fanout = fanout }
+
+-- the two settings
+abbrev pub settings_of : List Row → Option RunSettings
+settings_of rows = option_and_then (λ file_max. option_map (settings_with file_max) (number_of (codes "fanout") rows)) (number_of (codes "file-max") rows)
+
+-- `soak` with its seed and the two settings
+abbrev pub soak_of : List Row → Option Command
+soak_of rows = option_and_then (λ seed. option_map (Soak seed) (settings_of rows)) (number_of (codes "seed") rows)
+
+-- the command of this name with its options
+abbrev pub command_of : Text × List Row → Option Command
+command_of given =
+    if bytes_eq given.0 (codes "run") then option_map Run (settings_of given.1)
+    else if bytes_eq given.0 (codes "soak") then soak_of given.1
+    else Some PrintLog
+
+-- what is found when the folder and the command are there
+abbrev pub line_of : Option (Text × List Row) → Option (Text × Command)
+line_of found = option_and_then (λ home. option_map (λ command. (home, command)) (option_and_then command_of found)) (home_of found)
 
 -- the folder that valid arguments name
 unfoldable pub home_in : List Text → Option Text
 home_in args = if is_taken args then home_of (subcommand_of jedb args) else None
 
--- the number that valid arguments give an option
-unfoldable pub number_in : Text → List Text → Option ℕ
-number_in name args = if is_taken args then number_found name (subcommand_of jedb args) else None
+-- the command that valid arguments give
+unfoldable pub command_in : List Text → Option Command
+command_in args = if is_taken args then option_and_then command_of (subcommand_of jedb args) else None
 
--- how many bytes a log file holds at most by valid arguments
-abbrev pub file_max_in : List Text → Option ℕ
-file_max_in = number_in (codes "file-max")
+-- ---- settings
 
--- how many slots a node has at most by valid arguments
-abbrev pub fanout_in : List Text → Option ℕ
-fanout_in = number_in (codes "fanout")
+-- how many bytes a log file holds at most, and how many slots a node has, are in their bounds
+pub record AreSettings (settings : RunSettings) : Type 0 where
+  pub least : 4096 ≤ settings.file_max
+  pub most : settings.file_max ≤ 1073741824
+  pub fewest : 4 ≤ settings.fanout
+  pub slots : settings.fanout ≤ 128
+
+-- the settings with which a command opens an environment, if it opens one
+abbrev pub settings_in : Command → Option RunSettings
+settings_in (Run settings) = Some settings
+settings_in (Soak seed settings) = Some settings
+settings_in PrintLog = None
+
+-- the settings of a command are in their bounds, if it has some
+abbrev pub IsBounded : Command → Type 0
+IsBounded command = IfSome (settings_in command) AreSettings

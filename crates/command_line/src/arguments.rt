@@ -1,12 +1,14 @@
-// From arguments to options.
-ghost use Rattle.std.specs.Prelude.{◌≡◌, ◌≤◌, ◌<◌, ◌^◌, ℕ, List, Some, IfOk, IfSome, IsSomeAnd, codes, false, is_some, map, option_map, string_bytes};
-ghost use Rattle.std.specs.Str.Parse.{IsNumeral, without_leading_plus};
-ghost use Rattle.clap.specs.Words.{app_of, rule_of, subcommand_of, subcommand_rows_of};
-ghost use Rattle.command_line.specs.Arguments.{fanout_in, fanout_option, file_max_in, file_max_option, number_text_of, home_in, home_of, home_option, is_taken, jedb, decimal_value};
+// From arguments to a command.
+ghost use Rattle.std.specs.Prelude.{◌≡◌, IfOk, IfSome, false, is_some, map, option_and_then, option_map, string_bytes};
+ghost use Rattle.clap.specs.declared.builder.command.Command.TheViews.{out-Command};
+ghost use Rattle.clap.specs.Matches.{found_of};
+ghost use Rattle.clap.specs.Simple.{app_of, subcommand_of, subcommand_rows_of};
+ghost use Rattle.clap.specs.Walk.{rows_of, rule_of};
+ghost use Rattle.command_line.specs.Arguments.{IsBounded, command_in, command_of as command_named, fanout_option, file_max_option, home_in, home_of, home_option, is_taken, jedb, line_of, number_of, printlog_command, run_command, seed_option, settings_of, soak_command, soak_of};
 
-use crate::run_options::RunOptions;
+use crate::command::{Command, CommandLine, RunSettings};
 use clap::error::ErrorKind;
-use clap::{Arg, ArgMatches, Command, value_parser};
+use clap::{Arg, ArgMatches, value_parser};
 use std::alloc::{AllocError, Global};
 
 // `--home DIR`.
@@ -39,18 +41,58 @@ fn fanout<'a>(alloc: Global) -> Arg<'a>
         .default_value("128")
 }
 
-// The command line that the program has.
-fn command<'a>(alloc: Global) -> Result<Command<'a>, AllocError>
-    ensures { IfOk result (λ command. app_of command ≡ jedb) }
+// `--seed N`.
+fn seed<'a>(alloc: Global) -> Arg<'a>
+    ensures rule { rule_of result ≡ seed_option }
+    ensures local { result.global ≡ false }
 {
-    let run = Command::new(alloc, "run")
+    Arg::new(alloc, "seed")
+        .long("seed")
+        .value_parser(value_parser!(u32))
+        .required(true)
+}
+
+// `run`.
+fn run_command<'a>(alloc: Global) -> Result<clap::Command<'a>, AllocError>
+    ensures app { IfOk result (λ command. app_of command ≡ run_command) }
+    ensures local { IfOk result (λ command. (out-Command command).has_globals ≡ false) }
+{
+    clap::Command::new(alloc, "run")
         .arg(home(alloc))?
         .arg(file_max(alloc))?
-        .arg(fanout(alloc))?;
-    let jedb = Command::new(alloc, "jedb")
+        .arg(fanout(alloc))
+}
+
+// `soak`.
+fn soak_command<'a>(alloc: Global) -> Result<clap::Command<'a>, AllocError>
+    ensures app { IfOk result (λ command. app_of command ≡ soak_command) }
+    ensures local { IfOk result (λ command. (out-Command command).has_globals ≡ false) }
+{
+    clap::Command::new(alloc, "soak")
+        .arg(home(alloc))?
+        .arg(seed(alloc))?
+        .arg(file_max(alloc))?
+        .arg(fanout(alloc))
+}
+
+// `printlog`.
+fn printlog_command<'a>(alloc: Global) -> Result<clap::Command<'a>, AllocError>
+    ensures app { IfOk result (λ command. app_of command ≡ printlog_command) }
+    ensures local { IfOk result (λ command. (out-Command command).has_globals ≡ false) }
+{
+    clap::Command::new(alloc, "printlog").arg(home(alloc))
+}
+
+// The command line that the program has.
+fn jedb_command<'a>(alloc: Global) -> Result<clap::Command<'a>, AllocError>
+    ensures { IfOk result (λ command. app_of command ≡ jedb) }
+{
+    let jedb = clap::Command::new(alloc, "jedb")
         .no_binary_name(true)
         .subcommand_required(true);
-    jedb.subcommand(run)
+    jedb.subcommand(run_command(alloc)?)?
+        .subcommand(soak_command(alloc)?)?
+        .subcommand(printlog_command(alloc)?)
 }
 
 // What a parse of the arguments finds, and None where it refuses them.
@@ -58,7 +100,7 @@ fn found_in<'a>(alloc: Global, args: &'a [String]) -> Result<Option<ArgMatches<'
     ensures taken { IfOk result (λ found. is_some found ≡ is_taken (map string_bytes args.now)) }
     ensures found { IfOk result (λ found. IfSome found (λ m. subcommand_rows_of m ≡ subcommand_of jedb (map string_bytes args.now))) }
 {
-    match command(alloc)?.try_get_matches_from(args) {
+    match jedb_command(alloc)?.try_get_matches_from(args) {
         Ok(found) => Ok(Some(found)),
         Err(error) => {
             let kind = error.kind();
@@ -75,58 +117,90 @@ fn found_in<'a>(alloc: Global, args: &'a [String]) -> Result<Option<ArgMatches<'
 fn home_given<'a>(found: &ArgMatches<'a>) -> Option<&'a str>
     ensures { option_map (λ home. home.now) result ≡ home_of (subcommand_rows_of found.now) }
 {
-    let (_, run) = found.subcommand()?;
-    run.get_str("home")
+    let (_, given) = found.subcommand()?;
+    given.get_str("home")
 }
 
-// The number of an option, in what a parse found.
-fn number_given<'a>(found: &ArgMatches<'a>, name: &str) -> Option<u32>
-    ensures { (text : List ℕ) → number_text_of name.now (subcommand_rows_of found.now) ≡ Some text → IsNumeral 10 (without_leading_plus text)
-        → decimal_value text < 2 ^ 32 → result ≡ Some (decimal_value text) }
+// The number of an option, in what a parse found of a command's arguments.
+fn number_given<'a>(given: &ArgMatches<'a>, name: &str) -> Option<u32>
+    ensures { result ≡ number_of name.now (rows_of (found_of given.now)) }
 {
-    let (_, run) = found.subcommand()?;
-    run.get_one::<u32>(name)
+    given.get_one::<u32>(name)
 }
 
-// The options, in what a parse found.
-fn options_given<'a>(
+// The settings, in what a parse found of a command's arguments.
+fn settings_given<'a>(given: &ArgMatches<'a>) -> Option<RunSettings>
+    ensures { result ≡ settings_of (rows_of (found_of given.now)) }
+{
+    let file_max = number_given(given, "file-max")?;
+    let fanout = number_given(given, "fanout")?;
+    Some(RunSettings { file_max, fanout })
+}
+
+// `soak` with its options.
+fn soak_given<'a>(given: &ArgMatches<'a>) -> Option<Command>
+    ensures { result ≡ soak_of (rows_of (found_of given.now)) }
+{
+    let seed = number_given(given, "seed")?;
+    let settings = settings_given(given)?;
+    Some(Command::Soak { seed, settings })
+}
+
+// The command of this name with its options.
+fn command_named<'a>(name: &str, given: &ArgMatches<'a>) -> Option<Command>
+    ensures { result ≡ command_named (name.now, rows_of (found_of given.now)) }
+{
+    if name == "run" {
+        return Some(Command::Run(settings_given(given)?));
+    }
+    if name == "soak" {
+        return soak_given(given);
+    }
+    Some(Command::PrintLog)
+}
+
+// The command, in what a parse found.
+fn command_given<'a>(found: &ArgMatches<'a>) -> Option<Command>
+    ensures { result ≡ option_and_then command_named (subcommand_rows_of found.now) }
+{
+    let (name, given) = found.subcommand()?;
+    command_named(name, given)
+}
+
+// The folder and the command, in what a parse found.
+fn line_given<'a>(
     alloc: Global,
     found: &ArgMatches<'a>,
-) -> Result<Option<RunOptions>, AllocError>
-    ensures { (home text slots : List ℕ) → home_of (subcommand_rows_of found.now) ≡ Some home
-        → number_text_of (codes "file-max") (subcommand_rows_of found.now) ≡ Some text → IsNumeral 10 (without_leading_plus text) → decimal_value text < 2 ^ 32
-        → number_text_of (codes "fanout") (subcommand_rows_of found.now) ≡ Some slots → IsNumeral 10 (without_leading_plus slots) → decimal_value slots < 2 ^ 32
-        → IfOk result (λ options. IsSomeAnd options (λ o. (string_bytes o.home ≡ home) × (o.file_max ≡ decimal_value text) × (o.fanout ≡ decimal_value slots))) }
+) -> Result<Option<CommandLine>, AllocError>
+    ensures { IfOk result (λ line. option_map (λ l. (string_bytes l.home, l.command)) line ≡ line_of (subcommand_rows_of found.now)) }
 {
-    let file_max = number_given(found, "file-max");
-    let fanout = number_given(found, "fanout");
-    match (home_given(found), file_max, fanout) {
-        (Some(home), Some(file_max), Some(fanout)) => Ok(Some(RunOptions {
-            home: String::from_str(alloc, home)?,
-            file_max,
-            fanout,
-        })),
-        _ => Ok(None),
-    }
+    let Some(home) = home_given(found) else {
+        return Ok(None);
+    };
+    let Some(command) = command_given(found) else {
+        return Ok(None);
+    };
+    Ok(Some(CommandLine {
+        home: String::from_str(alloc, home)?,
+        command,
+    }))
 }
 
-/// The options that the arguments after the program's name give, and None where these are invalid. Right are
-/// `run --home DIR`, with or without `--file-max N` and `--fanout N`, the options in any order, with
-/// `--name=VALUE` for `--name VALUE`, and `--` may end the arguments. A value that begins with `-` and is
-/// not `-` itself needs the `=`. A number is decimal, with `+` or zeros before it or not: `--file-max` is from
-/// 4,096 to 1,073,741,824, and 10,000,000 where it is not given; `--fanout` from 4 to 128, and 128 where it is
-/// not given. Other arguments, an option given twice and a request for help are wrong. The only error is out
-/// of memory.
-pub fn parse(alloc: Global, args: &[String]) -> Result<Option<RunOptions>, AllocError>
-    ensures right { IfOk result (λ options. is_some options ≡ is_taken (map string_bytes args.now)) }
-    ensures home { IfOk result (λ options. option_map (λ o. string_bytes o.home) options ≡ home_in (map string_bytes args.now)) }
-    ensures file_max { IfOk result (λ options. option_map (λ o. o.file_max) options ≡ file_max_in (map string_bytes args.now)) }
-    ensures range { IfOk result (λ options. IfSome options (λ o. (4096 ≤ o.file_max) × (o.file_max ≤ 1073741824))) }
-    ensures fanout { IfOk result (λ options. option_map (λ o. o.fanout) options ≡ fanout_in (map string_bytes args.now)) }
-    ensures slots { IfOk result (λ options. IfSome options (λ o. (4 ≤ o.fanout) × (o.fanout ≤ 128))) }
+/// The folder and the command that the arguments after the program's name give, and None where these are invalid.
+/// Right are `run --home DIR`, with or without `--file-max N` and `--fanout N`; the same with `soak` and `--seed N`;
+/// and `printlog --home DIR`. The options come in any order, with `--name=VALUE` for `--name VALUE`, and `--` may end
+/// the arguments. A value that begins with `-` and is not `-` itself needs the `=`. A number is decimal, with `+` or
+/// zeros before it or not: `--file-max` is from 4,096 to 1,073,741,824, and 10,000,000 where it is not given; `--fanout`
+/// from 4 to 128, and 128 where it is not given; `--seed` from 0 to 4,294,967,295. Other arguments, an option given
+/// twice and a request for help are wrong. The only error is out of memory.
+pub fn parse(alloc: Global, args: &[String]) -> Result<Option<CommandLine>, AllocError>
+    ensures right { IfOk result (λ line. is_some line ≡ is_taken (map string_bytes args.now)) }
+    ensures home { IfOk result (λ line. option_map (λ l. string_bytes l.home) line ≡ home_in (map string_bytes args.now)) }
+    ensures command { IfOk result (λ line. option_map (λ l. l.command) line ≡ command_in (map string_bytes args.now)) }
+    ensures bounded { IfOk result (λ line. IfSome line (λ l. IsBounded l.command)) }
 {
     match found_in(alloc, args)? {
-        Some(found) => options_given(alloc, &found),
+        Some(found) => line_given(alloc, &found),
         None => Ok(None),
     }
 }

@@ -1,5 +1,5 @@
 // The arguments of the command line.
-use command_line::parse;
+use command_line::{Command, parse};
 use std::alloc::{AllocError, Global};
 
 // The arguments of a line, which single blanks part.
@@ -41,7 +41,7 @@ static RIGHT: [(&str, &str, u32, u32); 20] = [
 ];
 
 // Lines whose arguments are invalid.
-static WRONG: [&str; 44] = [
+static WRONG: [&str; 62] = [
     "run",
     "run --home",
     "--home d",
@@ -86,6 +86,39 @@ static WRONG: [&str; 44] = [
     "run --home d --fanout 4294967300",
     "run --home d --fanout 8 --fanout 8",
     "run --fanout 8",
+    "run --home d --seed 1",
+    "soak --home d",
+    "soak --seed 1",
+    "soak --home d --seed",
+    "soak --home d --seed=",
+    "soak --home d --seed -1",
+    "soak --home d --seed=-1",
+    "soak --home d --seed 4294967296",
+    "soak --home d --seed 1 --seed 1",
+    "soak --home d --seed 1 --fanout 3",
+    "soak --home d --seed 1 extra",
+    "soak --help",
+    "printlog",
+    "printlog d",
+    "printlog --home d --home d",
+    "printlog --home d --file-max 4096",
+    "printlog --home d --seed 1",
+    "run printlog --home d",
+];
+
+// Lines of a soak that are valid, with the seed, the file length and the number of slots that they give.
+static SOAKS: [(&str, u32, u32, u32); 6] = [
+    ("soak --home d --seed 1", 1, 10_000_000, 128),
+    ("soak --seed=0 --home d", 0, 10_000_000, 128),
+    ("soak --home=d --seed=4294967295", 4_294_967_295, 10_000_000, 128),
+    ("soak --home d --seed +007", 7, 10_000_000, 128),
+    ("soak --home d --seed=-0", 0, 10_000_000, 128),
+    (
+        "soak --fanout 4 --seed 2 --file-max 4096 --home d",
+        2,
+        4_096,
+        4,
+    ),
 ];
 
 fn gives(
@@ -96,14 +129,41 @@ fn gives(
     fanout: u32,
 ) -> Result<bool, AllocError> {
     let args = split(alloc, line)?;
-    match parse(alloc, args.as_slice())? {
-        Some(options) => Ok(
-            options.home.as_str() == home
-                && options.file_max == file_max
-                && options.fanout == fanout,
-        ),
-        None => Ok(false),
-    }
+    let Some(found) = parse(alloc, args.as_slice())? else {
+        return Ok(false);
+    };
+    Ok(found.home.as_str() == home
+        && match found.command {
+            Command::Run(settings) => settings.file_max == file_max && settings.fanout == fanout,
+            _ => false,
+        })
+}
+
+fn soaks(
+    alloc: Global,
+    line: &str,
+    wanted: u32,
+    file_max: u32,
+    fanout: u32,
+) -> Result<bool, AllocError> {
+    let args = split(alloc, line)?;
+    let Some(found) = parse(alloc, args.as_slice())? else {
+        return Ok(false);
+    };
+    Ok(match found.command {
+        Command::Soak { seed, settings } => {
+            seed == wanted && settings.file_max == file_max && settings.fanout == fanout
+        }
+        _ => false,
+    })
+}
+
+fn prints(alloc: Global, line: &str, home: &str) -> Result<bool, AllocError> {
+    let args = split(alloc, line)?;
+    let Some(found) = parse(alloc, args.as_slice())? else {
+        return Ok(false);
+    };
+    Ok(found.home.as_str() == home && matches!(found.command, Command::PrintLog))
 }
 
 fn are_wrong(alloc: Global, args: &[String]) -> Result<bool, AllocError> {
@@ -125,6 +185,22 @@ fn right_words_give_the_options(rt: HostRuntime) {
             "{line}"
         );
     }
+}
+
+#[test]
+fn right_words_give_a_soak(rt: HostRuntime) {
+    for &(line, seed, file_max, fanout) in &SOAKS {
+        assert!(rt;
+            soaks(rt.alloc(), line, seed, file_max, fanout) == Ok(true),
+            "{line}"
+        );
+    }
+}
+
+#[test]
+fn right_words_print_the_log(rt: HostRuntime) {
+    assert!(rt; prints(rt.alloc(), "printlog --home d", "d") == Ok(true));
+    assert!(rt; prints(rt.alloc(), "printlog --home=run --", "run") == Ok(true));
 }
 
 #[test]

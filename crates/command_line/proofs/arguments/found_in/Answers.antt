@@ -33,13 +33,13 @@ found : (app : App) (args : List (List ℕ)) (m : ArgMatches) → app ≡ jedb �
 found app args m is has = (subst (λ (a : App). HasMatchesOf a args m) is has refl).1
 
 pub returns-in-Ok-clause-taken : goal.returns-in-Ok-clause-taken
-returns-in-Ok-clause-taken c = taken _ _ c.in_ok-command.ensures c.in-Ok.ensures.kinds
+returns-in-Ok-clause-taken c = taken _ _ c.in_ok-jedb_command.ensures c.in-Ok.ensures.kinds
 
 pub returns-in-Ok-clause-found : goal.returns-in-Ok-clause-found
-returns-in-Ok-clause-found c = found _ _ c.in-Ok.found c.in_ok-command.ensures c.in-Ok.ensures.matches
+returns-in-Ok-clause-found c = found _ _ c.in-Ok.found c.in_ok-jedb_command.ensures c.in-Ok.ensures.matches
 
-pub returns-in_err-command : goal.returns-in_err-command
-returns-in_err-command c = record {
+pub returns-in_err-jedb_command : goal.returns-in_err-jedb_command
+returns-in_err-jedb_command c = record {
   taken = IfOk-from_err c.from_residual.result _ c.from_residual.ensures.0;
   found = IfOk-from_err c.from_residual.result _ c.from_residual.ensures.0;
 }
@@ -49,6 +49,6 @@ returns-in-OutOfMemory c = record { taken = tt; found = tt }
 
 pub returns-in_default : goal.returns-in_default
 returns-in_default c = record {
-  taken = refused _ _ c.in-Err.error c.in_ok-command.ensures (λ memory. c.in_default.not-OutOfMemory (c.kind-kind.ensures ∙ memory)) c.in-Err.ensures.kinds;
+  taken = refused _ _ c.in-Err.error c.in_ok-jedb_command.ensures (λ memory. c.in_default.not-OutOfMemory (c.kind-kind.ensures ∙ memory)) c.in-Err.ensures.kinds;
   found = tt;
 }

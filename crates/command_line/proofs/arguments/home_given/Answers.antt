@@ -13,5 +13,5 @@ through (Some command) = refl
 
 pub returns : goal.returns
 returns c =
-    c.get_str.ensures ∙ first_value-rows (found_of c.in_ok-run.run'.now) (codes "home") ∙ ap (option_and_then (first_of (codes "home"))) c.in_ok-run.ensures.rows
+    c.get_str.ensures ∙ first_value-rows (found_of c.in_ok-given.given.now) (codes "home") ∙ ap (option_and_then (first_of (codes "home"))) c.in_ok-given.ensures.rows
     ∙ through (subcommand_rows_of c.args.found.now)

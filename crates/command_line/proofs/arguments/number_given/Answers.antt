@@ -1,26 +1,25 @@
-use Rattle.std.proofs.Common.{◌≡◌, ◌∙◌, ◌<◌, ◌^◌, ap, refl, ℕ, List, Option, Some, None}
-use Rattle.std.specs.Prelude.{Err, Ok, Result, option_and_then, option_map}
-use Rattle.std.specs.Str.Parse.{ExplainsUnsignedError, HasUnsignedDigitsIfOk, IsNumeral, ParsesUnsigned, without_leading_plus}
+use Rattle.std.proofs.Common.{◌≡◌, ◌∙◌, ap, sym, refl, ℕ, List, Option, Some, None}
+use Rattle.std.specs.Prelude.{Err, Ok, Result, option_and_then}
+use Rattle.std.specs.Str.Parse.{ExplainsUnsignedError, HasUnsignedDigitsIfOk, ParsesUnsigned}
 use Rattle.clap.specs.Matches.{ReadsOne, found_of}
-use Rattle.clap.specs.Walk.{Row, Text, one_of}
-use Rattle.clap.specs.Simple.{subcommand_rows_of}
+use Rattle.clap.specs.Walk.{Text}
 use Rattle.clap.proofs.WalkLemmas.{one_text-rows}
-use Rattle.command_line.specs.Arguments.{number_text_of, decimal_value}
+use Rattle.command_line.specs.Arguments.{decimal_value, number_read}
+use Rattle.command_line.proofs.NumberLaws.{others_read, spelled_read}
 use Rattle.command_line.proofs.arguments.number_given.Goals as goal
 
-through : (name : Text) (found : Option (Text × List Row)) → option_and_then (one_of name) (option_map (λ command. command.1) found) ≡ number_text_of name found
-through name None = refl
-through name (Some command) = refl
+-- a text that is read as a u32 is read as its number
+read_so : {E : Type 0} (gives : List ℕ → Result ℕ E → Type 0) (text : Text) (read : Option ℕ) → ((r : Result ℕ E) → gives text r → ParsesUnsigned 32 10 text r) → ReadsOne gives text read →
+    read ≡ number_read text
+read_so gives text (Some n) parses reads = ap (λ x. Some x) (parses (Ok n) reads).1 ∙ sym (spelled_read text (parses (Ok n) reads).0)
+read_so gives text None parses reads = sym (others_read text (parses (Err reads.0) reads.1))
 
--- a numeral that fits is read as its number
-numeral_read : {E : Type 0} (gives : List ℕ → Result ℕ E → Type 0) (text : Text) (read : Option ℕ) → ((r : Result ℕ E) → gives text r → ParsesUnsigned 32 10 text r)
-    → ReadsOne gives text read → IsNumeral 10 (without_leading_plus text) → decimal_value text < 2 ^ 32 → read ≡ Some (decimal_value text)
-numeral_read gives text (Some n) parses reads numeral fits = ap (λ x. Some x) (parses (Ok n) reads).1
-numeral_read gives text None parses reads numeral fits = absurd (parses (Err reads.0) reads.1 (numeral, fits))
+read_by : {E : Type 0} (gives : List ℕ → Result ℕ E → Type 0) (found : Option Text) (read : Option ℕ) → ((text : Text) (r : Result ℕ E) → gives text r → ParsesUnsigned 32 10 text r) →
+    (found ≡ None → read ≡ None) → ((text : Text) → found ≡ Some text → ReadsOne gives text read) → read ≡ option_and_then number_read found
+read_by gives None read parses none value = none refl
+read_by gives (Some text) read parses none value = read_so gives text read (parses text) (value text refl)
 
 pub returns : goal.returns
-returns c text is numeral fits =
-    let rows = ap (option_and_then (one_of c.args.name.now)) c.in_ok-run.ensures.rows ∙ through c.args.name.now (subcommand_rows_of c.args.found.now) in
-    let one = one_text-rows (found_of c.in_ok-run.run'.now) c.args.name.now ∙ rows ∙ is in
-    numeral_read (λ bs r. ParsesUnsigned 32 10 bs r × ExplainsUnsignedError 10 bs r × HasUnsignedDigitsIfOk bs r) text c.get_one.result (λ r gives. gives.0)
-    (c.get_one.ensures.value text one) numeral fits
+returns c =
+    read_by (λ bs r. ParsesUnsigned 32 10 bs r × ExplainsUnsignedError 10 bs r × HasUnsignedDigitsIfOk bs r) _ c.get_one.result (λ text r gives. gives.0) c.get_one.ensures.none c.get_one.ensures.value
+    ∙ ap (option_and_then number_read) (one_text-rows (found_of c.args.given.now) c.args.name.now)

@@ -1,0 +1,28 @@
+// What the program is told to do.
+
+/// How an environment is opened.
+#[derive(Clone, Copy)]
+pub struct RunSettings {
+    /// How many bytes a log file holds at most: 4,096 to 1,073,741,824.
+    pub file_max: u32,
+    /// How many slots a node of a tree has at most: 4 to 128.
+    pub fanout: u32,
+}
+
+/// A command with its options, but for the environment's folder.
+#[derive(Clone, Copy)]
+pub enum Command {
+    /// Runs a script, and prints its report.
+    Run(RunSettings),
+    /// Runs the script of a seed, and prints how it ended.
+    Soak { seed: u32, settings: RunSettings },
+    /// Prints the entries of the log.
+    PrintLog,
+}
+
+/// What the arguments say: the folder of the environment, as it was written, which may be empty; and the command.
+#[derive(Drop)]
+pub struct CommandLine {
+    pub home: String,
+    pub command: Command,
+}
