@@ -20,4 +20,4 @@ mod waiting;
 mod words;
 
 pub use parsing::{MOST_LINES, ParseErr, parse};
-pub use reporting::report;
+pub use reporting::{put_last_line, report};

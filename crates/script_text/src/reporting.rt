@@ -4,7 +4,7 @@ ghost use Rattle.std.specs.List.{flat_map};
 ghost use Rattle.je_order.specs.Counts.{HasRisen};
 ghost use Rattle.je_io.specs.Sink.{Gains, GainsPart};
 ghost use Rattle.text_out.specs.OutBuffer.{Adds, point};
-ghost use Rattle.script_text.specs.Report.{end_line, NoneWaits, event_text, events_text, none_begun, report_text, settled_line, waiting_after, waiting_if};
+ghost use Rattle.script_text.specs.Report.{commits_in, end_line, NoneWaits, event_text, events_text, none_begun, report_text, settled_line, waiting_after, waiting_if};
 
 use crate::counting::commits_of;
 use crate::event_lines::{put_own_line, put_victims};
@@ -28,13 +28,28 @@ pub fn report<K: Sink>(events: &[Event], totals: &Totals, out: &mut K) -> Result
 {
     let mut buffer = OutBuffer::new();
     put_events(&mut buffer, out, events);
-    put_end(&mut buffer, out, commits_of(events), totals);
+    put_last_line(&mut buffer, out, events, totals);
     buffer.flush(out);
     if buffer.has_failed() {
         Err(Failed)
     } else {
         Ok(())
     }
+}
+
+/// Sends the last line of a journal's report alone: the number of commits, and what the final store holds. It takes no
+/// memory.
+pub fn put_last_line<K: Sink>(
+    buffer: &mut OutBuffer,
+    out: &mut K,
+    events: &[Event],
+    totals: &Totals,
+)
+    ensures { Adds (point (K.written out.old) (K.faults out.old) buffer.old)
+        (point (K.written out.new) (K.faults out.new) buffer.new)
+        (end_line (commits_in [] events.now) totals.now) }
+{
+    put_end(buffer, out, commits_of(events), totals);
 }
 
 fn put_end<K: Sink>(buffer: &mut OutBuffer, out: &mut K, commits: usize, totals: &Totals)
