@@ -7,9 +7,10 @@ mod drawing;
 mod drawn_call;
 #[cfg(test)]
 mod examples;
+pub mod laws;
 mod round;
 mod rounds;
 mod soak_state;
 pub mod soaking;
 
-pub use soaking::{ROUNDS, soak};
+pub use soaking::{ROUNDS, SOAK_LINES, soak};

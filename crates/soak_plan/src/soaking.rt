@@ -14,6 +14,9 @@ use store_model::{Call, Kind, RunPlan, ScriptLine};
 /// How many calls are drawn.
 pub const ROUNDS: u32 = 4_000;
 
+/// How many lines the script of a seed has.
+pub const SOAK_LINES: u32 = 4_402;
+
 // A line that makes a database.
 fn create_line(db: Word, line: u32, kind: Kind) -> ScriptLine
     ensures { result ≡ Session 1 line (Create db kind) }
