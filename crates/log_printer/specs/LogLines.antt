@@ -1,14 +1,20 @@
 -- The lines that are printed of a log.
-use Rattle.std.specs.Prelude.{ℕ, ◌+◌, ◌*◌, ◌^◌, ◌==◌, ◌∷◌, ◌++◌, [], codes, decimal, false, List, Option, Some, None, if◌then◌else◌}
+use Rattle.std.specs.Prelude.{ℕ, ◌+◌, ◌*◌, ◌^◌, ◌==◌, ◌∷◌, ◌++◌, [], codes, decimal, length, nat_lt, false, List, Option, Some, None, if◌then◌else◌}
+use Rattle.std.specs.List.{flat_map}
 use Rattle.std.specs.Fmt.{digits}
 use Rattle.je_order.specs.declared.txn_id.TxnId.{TxnId}
 use Rattle.log_entry.specs.declared.entry.Entry.{Entry}
 use Rattle.log_entry.specs.declared.entry.Entry.TheVariants.{FileHeader, Put, Delete, Migrated, Commit, In, Bin, BinDelta, CkptStart, CkptEnd, FileSummary}
 use Rattle.log_entry.specs.Encoding.{size_of}
+use Rattle.log_file.specs.declared.file_scan.FileScan.{FileScan}
+use Rattle.log_file.specs.declared.file_scan.FileScan.TheVariants.{Prefix}
 use Rattle.log_file.specs.declared.valid_prefix.ValidPrefix.{ValidPrefix}
+use Rattle.log_file.specs.Placed.{lsn_at}
+use Rattle.log_file.specs.Scan.{scan_of}
 use Rattle.text_out.specs.Lsn.{lsn_text}
 use Rattle.log_printer.specs.declared.entry_kind.EntryKind.{EntryKind}
 use Rattle.log_printer.specs.declared.entry_kind.EntryKind.TheVariants.{FileHeader as FileHeaderKind, Put as PutKind, Delete as DeleteKind, Migrated as MigratedKind, Commit as CommitKind, In as InKind, Bin as BinKind, BinDelta as BinDeltaKind, CkptStart as CkptStartKind, CkptEnd as CkptEndKind, FileSummary as FileSummaryKind}
+use Rattle.log_printer.specs.declared.file_lines.FileLines.{FileLines}
 use Rattle.log_printer.specs.declared.log_line.LogLine.{LogLine}
 
 -- the kind of an entry
@@ -66,6 +72,10 @@ lines_of_entries f at prev (entry ∷ entries) = line_of_entry f at prev entry �
 abbrev pub lines_of_prefix : ℕ → ValidPrefix → List LogLine
 lines_of_prefix f prefix = if prefix.end == 0 then [] else header_line f ∷ lines_of_entries f 26 0 prefix.entries
 
+-- where the torn tail of file f begins, which has so many bytes and whose valid prefix ends here
+abbrev pub torn_at : ℕ → ℕ → ℕ → Option ℕ
+torn_at f end len = if nat_lt end len then Some (lsn_at f end) else None
+
 -- ---- texts
 
 -- the word that names a kind
@@ -101,3 +111,25 @@ log_line_text line =
 -- the line of a torn tail that begins there
 abbrev pub torn_text : ℕ → List ℕ
 torn_text at = codes "torn " ++ lsn_text at ++ codes "\n"
+
+-- that line, if there is a torn tail
+abbrev pub torn_line : Option ℕ → List ℕ
+torn_line (Some at) = torn_text at
+torn_line None = []
+
+-- what is printed of a file
+abbrev pub lines_text : FileLines → List ℕ
+lines_text file = flat_map log_line_text file.lines.items ++ torn_line file.torn
+
+-- the text of a file of so many bytes with this valid prefix
+abbrev pub prefix_text : ℕ → ℕ → ValidPrefix → List ℕ
+prefix_text f len prefix = flat_map log_line_text (lines_of_prefix f prefix) ++ torn_line (torn_at f prefix.end len)
+
+-- the text of file f, which has so many bytes; none where it has no valid prefix
+abbrev pub scanned_text : ℕ → ℕ → FileScan → List ℕ
+scanned_text f len (Prefix prefix) = prefix_text f len prefix
+scanned_text f len found = []
+
+-- the text of a log, file by file
+abbrev pub log_text : List (ℕ × List ℕ) → List ℕ
+log_text held = flat_map (λ file. scanned_text file.0 (length file.1) (scan_of file.0 file.1)) held

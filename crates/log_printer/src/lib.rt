@@ -1,14 +1,20 @@
-//! The log as text: a line for each entry, with its place, kind and size, and whose it is. `lines_of_prefix` makes the
-//! lines of one file from its valid prefix, without its keys and data, and `put_lines` sends them. It stands on log_file
-//! and on text_out.
+//! The log as text: a line for each entry, with its place, kind and size, and whose it is, and a last one where a file's
+//! tail is torn. `read_log` reads the files of a disk, one after another, and keeps of each entry what is printed, without its
+//! key and data, or tells the first file that is damaged; it changes nothing. `put_log` sends the lines. It stands on log_file and
+//! log_replay, and on text_out.
 #![tactic(auto)]
 
 mod entry_kind;
+mod file_lines;
+mod log_err;
 mod log_line;
-pub mod making;
+mod making;
 pub mod printing;
+pub mod reading;
 
 pub use entry_kind::EntryKind;
+pub use file_lines::FileLines;
+pub use log_err::LogErr;
 pub use log_line::LogLine;
-pub use making::lines_of_prefix;
-pub use printing::{put_lines, put_torn};
+pub use printing::put_log;
+pub use reading::read_log;

@@ -2,9 +2,10 @@
 ghost use Rattle.std.specs.Prelude.{◌≡◌, ◌++◌, IfOk, OnOk};
 ghost use Rattle.log_entry.specs.Body.{IsEntry};
 ghost use Rattle.log_file.specs.Log.{AreFileEntries};
-ghost use Rattle.log_printer.specs.LogLines.{db_of_entry, header_line, line_of_entry, lines_of_entries, lines_of_prefix, txn_of_entry};
+ghost use Rattle.log_printer.specs.LogLines.{db_of_entry, header_line, line_of_entry, lines_of_entries, lines_of_prefix, lines_text, prefix_text, torn_at, txn_of_entry};
 
 use crate::entry_kind::{EntryKind, kind_of_entry};
+use crate::file_lines::FileLines;
 use crate::log_line::LogLine;
 use je_lsn::{FileNo, Lsn};
 use je_order::TxnId;
@@ -79,9 +80,8 @@ fn add_lines(lines: &mut Vec<LogLine>, file: FileNo, entries: &[Entry]) -> Resul
     Ok(())
 }
 
-/// The lines of a file's valid prefix, the header's first; none where there is no whole header. The only error is out
-/// of memory.
-pub fn lines_of_prefix(
+// The lines of a file's valid prefix, the header's first; none where there is no whole header.
+fn lines_of_prefix(
     alloc: Global,
     file: FileNo,
     prefix: &ValidPrefix,
@@ -96,4 +96,33 @@ pub fn lines_of_prefix(
     lines.push(header_line(file))?;
     add_lines(&mut lines, file, prefix.entries.as_slice())?;
     Ok(lines)
+}
+
+// Where the torn tail of a file of so many bytes begins, whose valid prefix ends here.
+fn torn_at(file: FileNo, end: u32, len: u64) -> Option<Lsn>
+    ensures { result ≡ torn_at file.0 end len }
+{
+    if u64::from(end) < len {
+        Some(Lsn::new(file, end))
+    } else {
+        None
+    }
+}
+
+// What is printed of a file of so many bytes with this valid prefix: the lines of its entries, the header's first, or
+// none where there is no whole header; and where its torn tail begins.
+pub(crate) fn lines_of_file(
+    alloc: Global,
+    file: FileNo,
+    prefix: &ValidPrefix,
+    len: u64,
+) -> Result<FileLines, AllocError>
+    requires { AreFileEntries prefix.now.entries }
+    ensures { IfOk result (λ lines. lines_text lines ≡ prefix_text file.0 len prefix.now) }
+{
+    let lines = lines_of_prefix(alloc, file, prefix)?;
+    Ok(FileLines {
+        lines,
+        torn: torn_at(file, prefix.end, len),
+    })
 }

@@ -2,9 +2,10 @@
 ghost use Rattle.std.specs.Prelude.{◌≡◌, ◌++◌, codes, decimal};
 ghost use Rattle.std.specs.List.{flat_map};
 ghost use Rattle.text_out.specs.OutBuffer.{Adds, point};
-ghost use Rattle.log_printer.specs.LogLines.{line_db, log_line_text, torn_text, line_txn};
+ghost use Rattle.log_printer.specs.LogLines.{line_db, line_txn, lines_text, log_line_text, torn_line, torn_text};
 
 use crate::entry_kind::kind_word;
+use crate::file_lines::FileLines;
 use crate::log_line::LogLine;
 use je_io::Sink;
 use je_lsn::Lsn;
@@ -51,8 +52,8 @@ fn put_line<K: Sink>(buffer: &mut OutBuffer, out: &mut K, line: &LogLine)
     buffer.put(out, b"\n");
 }
 
-/// Sends lines, in order.
-pub fn put_lines<K: Sink>(buffer: &mut OutBuffer, out: &mut K, lines: &[LogLine])
+// Sends lines, in order.
+fn put_lines<K: Sink>(buffer: &mut OutBuffer, out: &mut K, lines: &[LogLine])
     ensures { Adds (point (K.written out.old) (K.faults out.old) buffer.old)
         (point (K.written out.new) (K.faults out.new) buffer.new)
         (flat_map log_line_text lines.now) }
@@ -62,8 +63,8 @@ pub fn put_lines<K: Sink>(buffer: &mut OutBuffer, out: &mut K, lines: &[LogLine]
     }
 }
 
-/// Sends the line of a torn tail, by where it begins.
-pub fn put_torn<K: Sink>(buffer: &mut OutBuffer, out: &mut K, at: Lsn)
+// Sends the line of a torn tail, by where it begins.
+fn put_torn<K: Sink>(buffer: &mut OutBuffer, out: &mut K, at: Lsn)
     ensures { Adds (point (K.written out.old) (K.faults out.old) buffer.old)
         (point (K.written out.new) (K.faults out.new) buffer.new)
         (torn_text at) }
@@ -71,4 +72,36 @@ pub fn put_torn<K: Sink>(buffer: &mut OutBuffer, out: &mut K, at: Lsn)
     buffer.put(out, b"torn ");
     put_lsn(buffer, out, at);
     buffer.put(out, b"\n");
+}
+
+// Sends the line of a torn tail, if there is one.
+fn put_if_torn<K: Sink>(buffer: &mut OutBuffer, out: &mut K, torn: Option<Lsn>)
+    ensures { Adds (point (K.written out.old) (K.faults out.old) buffer.old)
+        (point (K.written out.new) (K.faults out.new) buffer.new)
+        (torn_line torn) }
+{
+    if let Some(at) = torn {
+        put_torn(buffer, out, at);
+    }
+}
+
+// Sends what is printed of a file.
+fn put_file<K: Sink>(buffer: &mut OutBuffer, out: &mut K, file: &FileLines)
+    ensures { Adds (point (K.written out.old) (K.faults out.old) buffer.old)
+        (point (K.written out.new) (K.faults out.new) buffer.new)
+        (lines_text file.now) }
+{
+    put_lines(buffer, out, &file.lines);
+    put_if_torn(buffer, out, file.torn);
+}
+
+/// Sends what is printed of files, in order. It takes no memory.
+pub fn put_log<K: Sink>(buffer: &mut OutBuffer, out: &mut K, files: &[FileLines])
+    ensures { Adds (point (K.written out.old) (K.faults out.old) buffer.old)
+        (point (K.written out.new) (K.faults out.new) buffer.new)
+        (flat_map lines_text files.now) }
+{
+    for k in 0..files.len() {
+        put_file(buffer, out, &files[k]);
+    }
 }
