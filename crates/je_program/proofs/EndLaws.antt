@@ -1,6 +1,7 @@
--- How a program ends whose arguments are valid and whose input is a script.
-use Rattle.std.proofs.Common.{◌≡◌, ◌≢◌, ℕ, ◌<◌, ◌≤◌, ◌⊎◌, Bool, true, false, List, Option, None, Some, IfSome, Result, Ok, Err, length, refl, ap, sym, ◌∙◌, subst, inl, inr, ⊎_elim, arith}
-use Rattle.std.proofs.lemmas.Bool.{cases_Bool, cond-true, cond-false}
+-- How a program ends that has its input.
+use Rattle.std.specs.Map.{lookup}
+use Rattle.std.proofs.Common.{◌≡◌, ◌≢◌, ◌==◌, ℕ, ◌<◌, ◌≤◌, ◌⊎◌, Bool, true, false, cond, List, [], ◌∷◌, Option, None, Some, IfSome, Result, Ok, Err, length, refl, ap, sym, ◌∙◌, subst, inl, inr, ⊎_elim, arith}
+use Rattle.std.proofs.lemmas.Bool.{cases_Bool, cond-true, cond-false, eq-eqb}
 use Rattle.je_order.specs.Counts.{HasRisen, HasRisen as Failing}
 use Rattle.je_disk.specs.States.{Files}
 use Rattle.store_model.specs.declared.event.Event.{Event}
@@ -13,13 +14,18 @@ use Rattle.log_meaning.specs.Meaning.{Meaning}
 use Rattle.log_meaning.specs.Reading.{reading_of}
 use Rattle.script_text.specs.Grammar.{plan_of}
 use Rattle.je_program.specs.declared.cause.Cause.{Cause}
-use Rattle.je_program.specs.declared.cause.Cause.TheVariants.{Done, Usage, BadScript, Disk, Unreadable, WrongIndex, Memory, Input, InputTooLong, LogFull, IdsEnded}
+use Rattle.je_program.specs.declared.cause.Cause.TheVariants.{Done, Usage, BadScript, Disk, Unreadable, WrongIndex, Memory, NoEnvironment, Input, InputTooLong, LogFull, IdsEnded}
 use Rattle.je_program.specs.declared.reading.TheConstants.{MOST_INPUT}
 use Rattle.engine.specs.Files.{HasCorruption, HasWrongIndex, Means}
 use Rattle.engine.specs.Opening.{HasNoNumbers}
-use Rattle.store_model.specs.Indexes.{AreIndexed}
 use Rattle.log_replay.specs.Indexed.{wrong_index}
 use Rattle.environment.proofs.RightStores.{none_wrong}
+use Rattle.command_line.specs.declared.command.Command.{Command}
+use Rattle.command_line.specs.declared.command.Command.TheVariants.{Run, Soak, PrintLog}
+use Rattle.log_file.specs.Log.{AreFiles}
+use Rattle.log_replay.specs.Reading.{corruption_in}
+use Rattle.log_printer.specs.Reading.{HasNoFile}
+use Rattle.je_program.specs.Commands.{AreSound, CanBeOpened, EndsRun, HasDamage, HasInput, ends_reading, ends_script, ends_soak, may_end, opens}
 use Rattle.je_program.specs.Program.{EndsBy, IsStopped, RunsIf}
 use Rattle.je_program.specs.Run.{cause_of_journal, cause_of_room}
 
@@ -67,7 +73,7 @@ pub no_wrong_beside : (files : Files) (name : List ℕ) (meaning : Meaning) → 
 no_wrong_beside files name meaning has means none =
     let e : Some name ≡ None = sym has.wrong ∙ ap (λ (m : Meaning). wrong_index m.store) (one_meaning files has.meaning meaning (meant_where_wrong files name has) means) ∙ none in cc
 
--- ---- one input
+-- ---- the input
 
 -- the input is a script of this plan
 record IsScript (left : Option (List ℕ)) (plan : RunPlan) : Type 0 where
@@ -86,6 +92,51 @@ not_long left plan script long =
     let here = subst (λ (o : Option (List ℕ)). IfSome o (λ bytes. MOST_INPUT < length bytes)) script.is long in
     let short = script.short in omega (arith, here, short)
 
+-- what is left of a cause where the arguments are valid and the input is what the command needs
+abbrev pub IsPast : ℕ → ℕ → Cause → Type 0
+IsPast s0 s1 Usage = ⊥
+IsPast s0 s1 (BadScript line) = ⊥
+IsPast s0 s1 InputTooLong = ⊥
+IsPast s0 s1 NoEnvironment = ⊥
+IsPast s0 s1 Input = HasRisen s0 s1
+IsPast s0 s1 cause = Unit {0}
+
+script_past : (left : Option (List ℕ)) (plan : RunPlan) (s0 s1 : ℕ) (cause : Cause) → IsScript left plan → ends_script cause ≡ true → IsStopped left s0 s1 cause → IsPast s0 s1 cause
+script_past left plan s0 s1 Usage script may stopped = cc
+script_past left plan s0 s1 NoEnvironment script may stopped = cc
+script_past left plan s0 s1 (BadScript line) script may stopped = absurd (not_bad left plan line script stopped)
+script_past left plan s0 s1 InputTooLong script may stopped = absurd (not_long left plan script stopped)
+script_past left plan s0 s1 Input script may stopped = stopped
+script_past left plan s0 s1 Done script may stopped = tt
+script_past left plan s0 s1 Disk script may stopped = tt
+script_past left plan s0 s1 Memory script may stopped = tt
+script_past left plan s0 s1 (Unreadable corruption) script may stopped = tt
+script_past left plan s0 s1 (WrongIndex name) script may stopped = tt
+script_past left plan s0 s1 LogFull script may stopped = tt
+script_past left plan s0 s1 IdsEnded script may stopped = tt
+
+soak_past : (s0 s1 : ℕ) (cause : Cause) → ends_soak cause ≡ true → IsPast s0 s1 cause
+soak_past s0 s1 Usage may = cc
+soak_past s0 s1 (BadScript line) may = cc
+soak_past s0 s1 Input may = cc
+soak_past s0 s1 InputTooLong may = cc
+soak_past s0 s1 NoEnvironment may = cc
+soak_past s0 s1 Done may = tt
+soak_past s0 s1 Disk may = tt
+soak_past s0 s1 Memory may = tt
+soak_past s0 s1 (Unreadable corruption) may = tt
+soak_past s0 s1 (WrongIndex name) may = tt
+soak_past s0 s1 LogFull may = tt
+soak_past s0 s1 IdsEnded may = tt
+
+pub past_input : (command : Option Command) (left : Option (List ℕ)) (s0 s1 : ℕ) (cause : Cause) → opens command ≡ true → HasInput command left → may_end command cause ≡ true →
+    IsStopped left s0 s1 cause → IsPast s0 s1 cause
+past_input None left s0 s1 cause opened input may stopped = cc
+past_input (Some (Run settings)) left s0 s1 cause opened input may stopped =
+    script_past left input.1 s0 s1 cause (record { bytes = input.0; is = input.2; short = input.3; plans = input.4 }) may stopped
+past_input (Some (Soak seed settings)) left s0 s1 cause opened input may stopped = soak_past s0 s1 cause may
+past_input (Some PrintLog) left s0 s1 cause opened input may stopped = cc
+
 -- ---- the end
 
 -- a run that ends by its journal, and not by a fault of the disk, ends as its room says
@@ -99,103 +150,144 @@ in_room journal cause other ends =
     (λ (is : cause ≡ Disk). absurd (other is))
     ends
 
--- a program that was run ends as its journal's room says; one that was not may lack node numbers; or memory ran out or a count rose
-abbrev pub IsCompleted : Cause → Bool → List Event → ℕ → ℕ → ℕ → ℕ → Type 0
-IsCompleted cause opened journal s0 s1 d0 d1 =
-    ((opened ≡ true) × (cause ≡ cause_of_room journal)) ⊎ ((opened ≡ false) × (cause ≡ IdsEnded)) ⊎ (cause ≡ Memory) ⊎ Failing s0 s1 ⊎ HasRisen d0 d1
-
--- valid arguments, a script and files with a meaning end so
-pub completes : (files : Files) (left : Option (List ℕ)) (s0 s1 d0 d1 : ℕ) (cause : Cause) (opened : Bool) (journal : List Event) (bytes : List ℕ) (plan : RunPlan) (meaning : Meaning) →
-    left ≡ Some bytes → length bytes ≤ MOST_INPUT → plan_of bytes ≡ Ok plan → Means files meaning → AreIndexed meaning.store → (cause ≡ Usage → ⊥) → IsStopped left s0 s1 cause → RunsIf cause opened →
-    ((corruption : Corruption) → cause ≡ Unreadable corruption → HasCorruption files corruption) → ((name : List ℕ) → cause ≡ WrongIndex name → HasWrongIndex files name) → (opened ≡ true → cause ≢ Memory → EndsBy journal cause) → (cause ≡ Disk → HasRisen d0 d1) →
-    IsCompleted cause opened journal s0 s1 d0 d1
-completes files left s0 s1 d0 d1 cause opened journal bytes plan meaning is short plans means indexed right stopped runs unreadable wrong ends failed =
-    by_cause cause right stopped runs unreadable wrong ends failed
-  where
-    script : IsScript left plan
-    script = record { bytes = bytes; is = is; short = short; plans = plans }
-
-    by_cause : (cause : Cause) → (cause ≡ Usage → ⊥) → IsStopped left s0 s1 cause → RunsIf cause opened →
-        ((corruption : Corruption) → cause ≡ Unreadable corruption → HasCorruption files corruption) → ((name : List ℕ) → cause ≡ WrongIndex name → HasWrongIndex files name) → (opened ≡ true → cause ≢ Memory → EndsBy journal cause) → (cause ≡ Disk → HasRisen d0 d1) →
-        IsCompleted cause opened journal s0 s1 d0 d1
-    by_cause Done right stopped runs unreadable wrong ends failed = inl (runs, in_room journal Done (λ e. cc) (ends runs (λ e. cc)))
-    by_cause LogFull right stopped runs unreadable wrong ends failed = inl (runs, in_room journal LogFull (λ e. cc) (ends runs (λ e. cc)))
-    by_cause IdsEnded right stopped runs unreadable wrong ends failed =
-        ⊎_elim
-        (λ (is_opened : opened ≡ true). inl (is_opened, in_room journal IdsEnded (λ e. cc) (ends is_opened (λ e. cc))))
-        (λ (none : opened ≡ false). inr (inl (none, refl)))
-        (cases_Bool opened)
-    by_cause Disk right stopped runs unreadable wrong ends failed = inr (inr (inr (inr (failed refl))))
-    by_cause Memory right stopped runs unreadable wrong ends failed = inr (inr (inl refl))
-    by_cause Input right stopped runs unreadable wrong ends failed = inr (inr (inr (inl stopped)))
-    by_cause Usage right stopped runs unreadable wrong ends failed = absurd (right refl)
-    by_cause (BadScript line) right stopped runs unreadable wrong ends failed = absurd (not_bad left plan line script stopped)
-    by_cause InputTooLong right stopped runs unreadable wrong ends failed = absurd (not_long left plan script stopped)
-    by_cause (Unreadable corruption) right stopped runs unreadable wrong ends failed = absurd (no_corruption_beside files corruption meaning (unreadable corruption refl) means)
-    by_cause (WrongIndex name) right stopped runs unreadable wrong ends failed = absurd (no_wrong_beside files name meaning (wrong name refl) means (none_wrong means.held meaning means.reads indexed))
+-- files with a meaning end so: a run as its journal's room says; one that has not begun may lack node numbers; or memory ran out or a count rose
+pub completes : (files : Files) (s0 s1 d0 d1 : ℕ) (cause : Cause) (opened : Bool) (journal : List Event) → CanBeOpened files → IsPast s0 s1 cause → RunsIf cause opened →
+    ((corruption : Corruption) → cause ≡ Unreadable corruption → HasCorruption files corruption) → ((name : List ℕ) → cause ≡ WrongIndex name → HasWrongIndex files name) →
+    (opened ≡ true → cause ≢ Memory → EndsBy journal cause) → (cause ≡ Disk → HasRisen d0 d1) →
+    EndsRun cause opened journal ⊎ (cause ≡ Memory) ⊎ Failing s0 s1 ⊎ HasRisen d0 d1
+completes files s0 s1 d0 d1 Done opened journal can past runs unreadable wrong ends failed = inl (inl (runs, in_room journal Done (λ e. cc) (ends runs (λ e. cc))))
+completes files s0 s1 d0 d1 LogFull opened journal can past runs unreadable wrong ends failed = inl (inl (runs, in_room journal LogFull (λ e. cc) (ends runs (λ e. cc))))
+completes files s0 s1 d0 d1 IdsEnded opened journal can past runs unreadable wrong ends failed =
+    ⊎_elim
+    (λ (is_opened : opened ≡ true). inl (inl (is_opened, in_room journal IdsEnded (λ e. cc) (ends is_opened (λ e. cc)))))
+    (λ (none : opened ≡ false). inl (inr (none, refl)))
+    (cases_Bool opened)
+completes files s0 s1 d0 d1 Disk opened journal can past runs unreadable wrong ends failed = inr (inr (inr (failed refl)))
+completes files s0 s1 d0 d1 Memory opened journal can past runs unreadable wrong ends failed = inr (inl refl)
+completes files s0 s1 d0 d1 Input opened journal can past runs unreadable wrong ends failed = inr (inr (inl past))
+completes files s0 s1 d0 d1 Usage opened journal can past runs unreadable wrong ends failed = absurd past
+completes files s0 s1 d0 d1 (BadScript line) opened journal can past runs unreadable wrong ends failed = absurd past
+completes files s0 s1 d0 d1 InputTooLong opened journal can past runs unreadable wrong ends failed = absurd past
+completes files s0 s1 d0 d1 NoEnvironment opened journal can past runs unreadable wrong ends failed = absurd past
+completes files s0 s1 d0 d1 (Unreadable corruption) opened journal can past runs unreadable wrong ends failed =
+    absurd (no_corruption_beside files corruption can.meaning (unreadable corruption refl) can.means)
+completes files s0 s1 d0 d1 (WrongIndex name) opened journal can past runs unreadable wrong ends failed =
+    absurd (no_wrong_beside files name can.meaning (wrong name refl) can.means (none_wrong can.means.held can.meaning can.means.reads can.indexed))
 
 -- where the files have a corruption, the program ends by it, unless memory ran out or a count rose
-pub finds : (files : Files) (left : Option (List ℕ)) (s0 s1 d0 d1 : ℕ) (cause : Cause) (opened : Bool) (bytes : List ℕ) (plan : RunPlan) (corruption : Corruption) →
-    left ≡ Some bytes → length bytes ≤ MOST_INPUT → plan_of bytes ≡ Ok plan → HasCorruption files corruption → (cause ≡ Usage → ⊥) → IsStopped left s0 s1 cause → RunsIf cause opened →
-    ((f : Corruption) → cause ≡ Unreadable f → HasCorruption files f) → ((name : List ℕ) → cause ≡ WrongIndex name → HasWrongIndex files name) → (opened ≡ true → (meaning : Meaning) × Means files meaning) → (cause ≡ IdsEnded → opened ≡ false → HasNoNumbers files) → (cause ≡ Disk → HasRisen d0 d1) →
+pub finds : (files : Files) (s0 s1 d0 d1 : ℕ) (cause : Cause) (opened : Bool) (corruption : Corruption) → HasCorruption files corruption → IsPast s0 s1 cause → RunsIf cause opened →
+    ((f : Corruption) → cause ≡ Unreadable f → HasCorruption files f) → ((name : List ℕ) → cause ≡ WrongIndex name → HasWrongIndex files name) → (opened ≡ true → (meaning : Meaning) × Means files meaning) →
+    (cause ≡ IdsEnded → opened ≡ false → HasNoNumbers files) → (cause ≡ Disk → HasRisen d0 d1) →
     (cause ≡ Unreadable corruption) ⊎ (cause ≡ Memory) ⊎ Failing s0 s1 ⊎ HasRisen d0 d1
-finds files left s0 s1 d0 d1 cause opened bytes plan corruption is short plans has right stopped runs unreadable wrong means numbers failed = by_cause cause right stopped runs unreadable wrong numbers failed
+finds files s0 s1 d0 d1 cause opened corruption has past runs unreadable wrong means numbers failed = by_cause cause past runs unreadable wrong numbers failed
   where
-    script : IsScript left plan
-    script = record { bytes = bytes; is = is; short = short; plans = plans }
-
     closed : opened ≡ true → ⊥
     closed e = let m = means e in no_corruption_beside files corruption m.0 has m.1
 
     none_left : HasNoNumbers files → ⊥
     none_left has_none = no_corruption_beside files corruption has_none.meaning has (record { held = has_none.held; are = has_none.are; reads = has_none.reads })
 
-    by_cause : (cause : Cause) → (cause ≡ Usage → ⊥) → IsStopped left s0 s1 cause → RunsIf cause opened → ((f : Corruption) → cause ≡ Unreadable f → HasCorruption files f) → ((name : List ℕ) → cause ≡ WrongIndex name → HasWrongIndex files name) →
+    by_cause : (cause : Cause) → IsPast s0 s1 cause → RunsIf cause opened → ((f : Corruption) → cause ≡ Unreadable f → HasCorruption files f) → ((name : List ℕ) → cause ≡ WrongIndex name → HasWrongIndex files name) →
         (cause ≡ IdsEnded → opened ≡ false → HasNoNumbers files) → (cause ≡ Disk → HasRisen d0 d1) →
         (cause ≡ Unreadable corruption) ⊎ (cause ≡ Memory) ⊎ Failing s0 s1 ⊎ HasRisen d0 d1
-    by_cause Done right stopped runs unreadable wrong numbers failed = absurd (closed runs)
-    by_cause LogFull right stopped runs unreadable wrong numbers failed = absurd (closed runs)
-    by_cause IdsEnded right stopped runs unreadable wrong numbers failed =
+    by_cause Done past runs unreadable wrong numbers failed = absurd (closed runs)
+    by_cause LogFull past runs unreadable wrong numbers failed = absurd (closed runs)
+    by_cause IdsEnded past runs unreadable wrong numbers failed =
         absurd (⊎_elim (λ (is_opened : opened ≡ true). closed is_opened) (λ (none : opened ≡ false). none_left (numbers refl none)) (cases_Bool opened))
-    by_cause Disk right stopped runs unreadable wrong numbers failed = inr (inr (inr (failed refl)))
-    by_cause Memory right stopped runs unreadable wrong numbers failed = inr (inl refl)
-    by_cause Input right stopped runs unreadable wrong numbers failed = inr (inr (inl stopped))
-    by_cause Usage right stopped runs unreadable wrong numbers failed = absurd (right refl)
-    by_cause (BadScript line) right stopped runs unreadable wrong numbers failed = absurd (not_bad left plan line script stopped)
-    by_cause InputTooLong right stopped runs unreadable wrong numbers failed = absurd (not_long left plan script stopped)
-    by_cause (Unreadable f) right stopped runs unreadable wrong numbers failed = inl (ap Unreadable (one_corruption files f corruption (unreadable f refl) has))
-    by_cause (WrongIndex name) right stopped runs unreadable wrong numbers failed =
+    by_cause Disk past runs unreadable wrong numbers failed = inr (inr (inr (failed refl)))
+    by_cause Memory past runs unreadable wrong numbers failed = inr (inl refl)
+    by_cause Input past runs unreadable wrong numbers failed = inr (inr (inl past))
+    by_cause Usage past runs unreadable wrong numbers failed = absurd past
+    by_cause (BadScript line) past runs unreadable wrong numbers failed = absurd past
+    by_cause InputTooLong past runs unreadable wrong numbers failed = absurd past
+    by_cause NoEnvironment past runs unreadable wrong numbers failed = absurd past
+    by_cause (Unreadable f) past runs unreadable wrong numbers failed = inl (ap Unreadable (one_corruption files f corruption (unreadable f refl) has))
+    by_cause (WrongIndex name) past runs unreadable wrong numbers failed =
         let has_wrong = wrong name refl in absurd (no_corruption_beside files corruption has_wrong.meaning has (meant_where_wrong files name has_wrong))
 
 -- where an index is wrong, the program ends by it, unless memory ran out or a count rose
-pub finds_wrong : (files : Files) (left : Option (List ℕ)) (s0 s1 d0 d1 : ℕ) (cause : Cause) (opened : Bool) (bytes : List ℕ) (plan : RunPlan) (name : List ℕ) →
-    left ≡ Some bytes → length bytes ≤ MOST_INPUT → plan_of bytes ≡ Ok plan → HasWrongIndex files name → (cause ≡ Usage → ⊥) → IsStopped left s0 s1 cause → RunsIf cause opened →
+pub finds_wrong : (files : Files) (s0 s1 d0 d1 : ℕ) (cause : Cause) (opened : Bool) (name : List ℕ) → HasWrongIndex files name → IsPast s0 s1 cause → RunsIf cause opened →
     ((f : Corruption) → cause ≡ Unreadable f → HasCorruption files f) → ((other : List ℕ) → cause ≡ WrongIndex other → HasWrongIndex files other) →
     (opened ≡ true → (meaning : Meaning) × Means files meaning × (wrong_index meaning.store ≡ None)) → (cause ≡ IdsEnded → opened ≡ false → HasNoNumbers files) → (cause ≡ Disk → HasRisen d0 d1) →
     (cause ≡ WrongIndex name) ⊎ (cause ≡ Memory) ⊎ Failing s0 s1 ⊎ HasRisen d0 d1
-finds_wrong files left s0 s1 d0 d1 cause opened bytes plan name is short plans has right stopped runs unreadable wrong means numbers failed = by_cause cause right stopped runs unreadable wrong numbers failed
+finds_wrong files s0 s1 d0 d1 cause opened name has past runs unreadable wrong means numbers failed = by_cause cause past runs unreadable wrong numbers failed
   where
-    script : IsScript left plan
-    script = record { bytes = bytes; is = is; short = short; plans = plans }
-
     closed : opened ≡ true → ⊥
     closed e = let m = means e in no_wrong_beside files name m.0 has m.1 m.2
 
     none_left : HasNoNumbers files → ⊥
     none_left none = no_wrong_beside files name none.meaning has (record { held = none.held; are = none.are; reads = none.reads }) (sym none.indexed.first)
 
-    by_cause : (cause : Cause) → (cause ≡ Usage → ⊥) → IsStopped left s0 s1 cause → RunsIf cause opened → ((f : Corruption) → cause ≡ Unreadable f → HasCorruption files f) →
+    by_cause : (cause : Cause) → IsPast s0 s1 cause → RunsIf cause opened → ((f : Corruption) → cause ≡ Unreadable f → HasCorruption files f) →
         ((other : List ℕ) → cause ≡ WrongIndex other → HasWrongIndex files other) → (cause ≡ IdsEnded → opened ≡ false → HasNoNumbers files) → (cause ≡ Disk → HasRisen d0 d1) →
         (cause ≡ WrongIndex name) ⊎ (cause ≡ Memory) ⊎ Failing s0 s1 ⊎ HasRisen d0 d1
-    by_cause Done right stopped runs unreadable wrong numbers failed = absurd (closed runs)
-    by_cause LogFull right stopped runs unreadable wrong numbers failed = absurd (closed runs)
-    by_cause IdsEnded right stopped runs unreadable wrong numbers failed =
+    by_cause Done past runs unreadable wrong numbers failed = absurd (closed runs)
+    by_cause LogFull past runs unreadable wrong numbers failed = absurd (closed runs)
+    by_cause IdsEnded past runs unreadable wrong numbers failed =
         absurd (⊎_elim (λ (is_opened : opened ≡ true). closed is_opened) (λ (none : opened ≡ false). none_left (numbers refl none)) (cases_Bool opened))
-    by_cause Disk right stopped runs unreadable wrong numbers failed = inr (inr (inr (failed refl)))
-    by_cause Memory right stopped runs unreadable wrong numbers failed = inr (inl refl)
-    by_cause Input right stopped runs unreadable wrong numbers failed = inr (inr (inl stopped))
-    by_cause Usage right stopped runs unreadable wrong numbers failed = absurd (right refl)
-    by_cause (BadScript line) right stopped runs unreadable wrong numbers failed = absurd (not_bad left plan line script stopped)
-    by_cause InputTooLong right stopped runs unreadable wrong numbers failed = absurd (not_long left plan script stopped)
-    by_cause (Unreadable f) right stopped runs unreadable wrong numbers failed = absurd (no_corruption_beside files f has.meaning (unreadable f refl) (meant_where_wrong files name has))
-    by_cause (WrongIndex other) right stopped runs unreadable wrong numbers failed = inl (ap WrongIndex (one_wrong files other name (wrong other refl) has))
+    by_cause Disk past runs unreadable wrong numbers failed = inr (inr (inr (failed refl)))
+    by_cause Memory past runs unreadable wrong numbers failed = inr (inl refl)
+    by_cause Input past runs unreadable wrong numbers failed = inr (inr (inl past))
+    by_cause Usage past runs unreadable wrong numbers failed = absurd past
+    by_cause (BadScript line) past runs unreadable wrong numbers failed = absurd past
+    by_cause InputTooLong past runs unreadable wrong numbers failed = absurd past
+    by_cause NoEnvironment past runs unreadable wrong numbers failed = absurd past
+    by_cause (Unreadable f) past runs unreadable wrong numbers failed = absurd (no_corruption_beside files f has.meaning (unreadable f refl) (meant_where_wrong files name has))
+    by_cause (WrongIndex other) past runs unreadable wrong numbers failed = inl (ap WrongIndex (one_wrong files other name (wrong other refl) has))
+
+-- ---- files that are only read
+
+-- a disk without a file has none
+no_files : (files : Files) (held : List (ℕ × List ℕ)) → AreFiles files held → HasNoFile files → held ≡ []
+no_files files [] are none = refl
+no_files files (x ∷ held) are none =
+    let found : cond (x.0 == x.0) (Some x.1) (lookup (λ n. n == x.0) held) ≡ None = are.each x.0 ∙ none x.0 in
+    let there : Some x.1 ≡ None = subst (λ (b : Bool). cond b (Some x.1) (lookup (λ n. n == x.0) held) ≡ None) (eq-eqb x.0 x.0 refl) found in cc
+
+sound_has_files : (files : Files) → AreSound files → HasNoFile files → ⊥
+sound_has_files files sound none = sound.some (no_files files sound.held sound.are none)
+
+damage_has_files : (files : Files) (corruption : Corruption) → HasDamage files corruption → HasNoFile files → ⊥
+damage_has_files files corruption damage none =
+    let e : None ≡ Some corruption = sym (ap corruption_in (no_files files damage.held damage.are none)) ∙ damage.found in cc
+
+sound_no_damage : (files : Files) (corruption : Corruption) → AreSound files → HasDamage files corruption → ⊥
+sound_no_damage files corruption sound damage =
+    let e : None ≡ Some corruption = sym sound.none ∙ ap corruption_in (are_one_list files sound.held damage.held sound.are damage.are) ∙ damage.found in cc
+
+abbrev corruption_found : Corruption → Option Corruption → Corruption
+corruption_found other None = other
+corruption_found other (Some corruption) = corruption
+
+one_damage : (files : Files) (a b : Corruption) → HasDamage files a → HasDamage files b → a ≡ b
+one_damage files a b is other = ap (corruption_found a) (sym is.found ∙ ap corruption_in (are_one_list files is.held other.held is.are other.are) ∙ other.found)
+
+-- a command that only reads files prints them, or tells what is wrong with them
+module _ (files : Files) (s0 s1 d0 d1 : ℕ) where
+  pub reads_well : (cause : Cause) → AreSound files → ends_reading cause ≡ true → ((corruption : Corruption) → cause ≡ Unreadable corruption → HasDamage files corruption) →
+      (cause ≡ NoEnvironment → HasNoFile files) → (cause ≡ Disk → HasRisen d0 d1) → (cause ≡ Done) ⊎ (cause ≡ Memory) ⊎ Failing s0 s1 ⊎ HasRisen d0 d1
+  reads_well Done sound may unreadable none failed = inl refl
+  reads_well Disk sound may unreadable none failed = inr (inr (inr (failed refl)))
+  reads_well Memory sound may unreadable none failed = inr (inl refl)
+  reads_well (Unreadable corruption) sound may unreadable none failed = absurd (sound_no_damage files corruption sound (unreadable corruption refl))
+  reads_well NoEnvironment sound may unreadable none failed = absurd (sound_has_files files sound (none refl))
+  reads_well cause sound may unreadable none failed = cc
+
+  pub reads_damage : (cause : Cause) (corruption : Corruption) → HasDamage files corruption → ends_reading cause ≡ true → (cause ≡ Done → AreSound files) →
+      ((f : Corruption) → cause ≡ Unreadable f → HasDamage files f) → (cause ≡ NoEnvironment → HasNoFile files) → (cause ≡ Disk → HasRisen d0 d1) →
+      (cause ≡ Unreadable corruption) ⊎ (cause ≡ Memory) ⊎ Failing s0 s1 ⊎ HasRisen d0 d1
+  reads_damage Done corruption damage may sound unreadable none failed = absurd (sound_no_damage files corruption (sound refl) damage)
+  reads_damage Disk corruption damage may sound unreadable none failed = inr (inr (inr (failed refl)))
+  reads_damage Memory corruption damage may sound unreadable none failed = inr (inl refl)
+  reads_damage (Unreadable f) corruption damage may sound unreadable none failed = inl (ap Unreadable (one_damage files f corruption (unreadable f refl) damage))
+  reads_damage NoEnvironment corruption damage may sound unreadable none failed = absurd (damage_has_files files corruption damage (none refl))
+  reads_damage cause corruption damage may sound unreadable none failed = cc
+
+  pub reads_nothing : (cause : Cause) → HasNoFile files → ends_reading cause ≡ true → (cause ≡ Done → AreSound files) → ((f : Corruption) → cause ≡ Unreadable f → HasDamage files f) →
+      (cause ≡ Disk → HasRisen d0 d1) → (cause ≡ NoEnvironment) ⊎ (cause ≡ Memory) ⊎ HasRisen d0 d1
+  reads_nothing Done no_file may sound unreadable failed = absurd (sound_has_files files (sound refl) no_file)
+  reads_nothing Disk no_file may sound unreadable failed = inr (inr (failed refl))
+  reads_nothing Memory no_file may sound unreadable failed = inr (inl refl)
+  reads_nothing (Unreadable f) no_file may sound unreadable failed = absurd (damage_has_files files f (unreadable f refl) no_file)
+  reads_nothing NoEnvironment no_file may sound unreadable failed = inl refl
+  reads_nothing cause no_file may sound unreadable failed = cc

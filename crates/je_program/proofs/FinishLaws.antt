@@ -17,7 +17,8 @@ use Rattle.log_replay.specs.declared.corruption.Corruption.{Corruption}
 use Rattle.je_program.specs.declared.cause.Cause.{Cause}
 use Rattle.je_program.specs.declared.cause.Cause.TheVariants.{Done, Disk, Unreadable, WrongIndex, Memory, LogFull, IdsEnded}
 use Rattle.engine.proofs.Counts.{rose_earlier, rose_later}
-use Rattle.je_program.specs.Program.{cause_closed, ClosesBy, ClosesRun, EndsBy, RunsIf, is_before_disk}
+use Rattle.je_program.specs.Commands.{ends_soak}
+use Rattle.je_program.specs.Program.{cause_closed, ClosesBy, ClosesRun, EndsBy, RunsIf}
 use Rattle.script_run.specs.UnderWay.{IsCaused}
 use Rattle.script_run.proofs.FaultLaws.{or_false}
 use Rattle.je_program.specs.Run.{cause_of_journal, cause_of_room, cause_of_answer, is_run_through}
@@ -154,13 +155,14 @@ runs_if LogFull opened ran is = is
 runs_if IdsEnded opened ran is = tt
 runs_if cause opened ran is = absurd ran
 
-pub ran_after_reading : (cause : Cause) → IsRanCause cause → is_before_disk cause ≡ false
-ran_after_reading Done ran = refl
-ran_after_reading Disk ran = refl
-ran_after_reading Memory ran = refl
-ran_after_reading LogFull ran = refl
-ran_after_reading IdsEnded ran = refl
-ran_after_reading cause ran = absurd ran
+-- such a cause is none of arguments or input, and files were there
+pub ran_ends : (cause : Cause) → IsRanCause cause → ends_soak cause ≡ true
+ran_ends Done ran = refl
+ran_ends Disk ran = refl
+ran_ends Memory ran = refl
+ran_ends LogFull ran = refl
+ran_ends IdsEnded ran = refl
+ran_ends cause ran = absurd ran
 
 pub ran_not_unreadable : (cause : Cause) (corruption : Corruption) → IsRanCause cause → cause ≡ Unreadable corruption → ⊥
 ran_not_unreadable cause corruption ran is = subst (λ (c : Cause). IsRanCause c) is ran

@@ -4,7 +4,7 @@ pub mod FinishLaws
 pub mod ReadingLaws
 -- Writing one text after another.
 pub mod OutputLaws
--- How a program ends whose arguments are valid and whose input is a script.
+-- How a program ends that has its input.
 pub mod EndLaws
 -- A disk that was left as it was.
 pub mod UntouchedLaws
@@ -14,3 +14,11 @@ pub mod BeginLaws
 pub mod StopLaws
 -- The transactions of a run replay, and none of them wait in a cycle.
 pub mod ReplayLaws
+-- What a program came to, command by command.
+pub mod CommandLaws
+-- The lines of a soak are lines of a script.
+pub mod SoakLaws
+-- Printing a log.
+pub mod PrintLaws
+-- What a program is to do.
+pub mod RequestLaws

@@ -1,7 +1,9 @@
 -- Writing one text after another.
-use Rattle.std.proofs.Common.{◌≡◌, ℕ, suc, Result, Ok, Err, OnOk, OnErr, ◌+◌, ◌≤◌, ◌<◌, List, [], ◌∷◌, ◌++◌, length, take, Option, Some, None, refl, ap, sym, ◌∙◌, subst, append_assoc, arith, ⊎_elim}
+use Rattle.std.proofs.Common.{◌≡◌, ℕ, suc, false, Result, Ok, Err, OnOk, OnErr, ◌+◌, ◌≤◌, ◌<◌, List, [], ◌∷◌, ◌++◌, length, take, Option, Some, None, refl, ap, sym, ◌∙◌, subst, append_assoc, arith, ⊎_elim}
 use Rattle.std.proofs.lemmas.Bool.{cases_lt}
-use Rattle.std.proofs.lemmas.List.{take-append-le, take_all}
+use Rattle.std.proofs.lemmas.List.{append-nil, take-append-le, take_all}
+use Rattle.text_out.specs.OutBuffer.{Adds, Held, Point, Sends, point}
+use Rattle.text_out.proofs.BufferedText.{adds_none, all_sent}
 use Rattle.je_io.specs.Sink.{Gains, GainsPart}
 
 -- two texts that were gained, one after the other
@@ -45,3 +47,13 @@ both_observed a b c x y (Err e) p q = tt
 pub both_part : {T E : Type 0} → (a b c : Option (List ℕ)) (x y : List ℕ) (r : Result T E) → Gains a b x → OnErr r (GainsPart b c y) → OnErr r (GainsPart a c (x ++ y))
 both_part a b c x y (Ok t) p q = tt
 both_part a b c x y (Err e) p q = gains_then_part a b c x y p q
+
+-- ---- a text that is sent through a buffer
+
+-- what was sent stays so while nothing is
+pub sent_on : {b c : Point} {start : Option (List ℕ)} {started : ℕ} {text : List ℕ} → Adds b c [] → Sends start started b text → Sends start started c text
+sent_on {b} {c} {start} {started} {text} h s = subst (λ (t : List ℕ). Sends start started c t) (append-nil text) (h.goes_on start started text s)
+
+-- a text that was sent first
+pub one_sent : {w : Option (List ℕ)} {f : ℕ} {held : Held} {b : Point} {x : List ℕ} → held.bytes ≡ [] → held.failed ≡ false → Adds (point w f held) b x → Sends w f b x
+one_sent {w} {f} {held} {b} {x} empty good first = subst (λ (t : List ℕ). Sends w f b t) (append-nil x) (all_sent empty good first (adds_none b) (adds_none b))

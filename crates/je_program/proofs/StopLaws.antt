@@ -12,7 +12,8 @@ use Rattle.engine.specs.Files.{HasCorruption, HasWrongIndex}
 use Rattle.engine.specs.Opening.{HasNoNumbers, StopsBy}
 use Rattle.je_program.specs.declared.cause.Cause.{Cause}
 use Rattle.je_program.specs.declared.cause.Cause.TheVariants.{Disk, IdsEnded, Unreadable, WrongIndex}
-use Rattle.je_program.specs.Program.{ClosesRun, RunsIf, cause_of_opening, is_before_disk}
+use Rattle.je_program.specs.Commands.{ends_soak}
+use Rattle.je_program.specs.Program.{ClosesRun, RunsIf, cause_of_opening}
 
 pub stopped_runs : (error : OpenErr) (opened : Bool) → opened ≡ false → RunsIf (cause_of_opening error) opened
 stopped_runs NoDisk opened is = tt
@@ -21,12 +22,12 @@ stopped_runs NoNumbers opened is = tt
 stopped_runs (CannotRead corruption) opened is = is
 stopped_runs (FoundWrong name) opened is = is
 
-pub stopped_after_reading : (error : OpenErr) → is_before_disk (cause_of_opening error) ≡ false
-stopped_after_reading NoDisk = refl
-stopped_after_reading NoMemory = refl
-stopped_after_reading NoNumbers = refl
-stopped_after_reading (CannotRead corruption) = refl
-stopped_after_reading (FoundWrong name) = refl
+pub stopped_ends : (error : OpenErr) → ends_soak (cause_of_opening error) ≡ true
+stopped_ends NoDisk = refl
+stopped_ends NoMemory = refl
+stopped_ends NoNumbers = refl
+stopped_ends (CannotRead corruption) = refl
+stopped_ends (FoundWrong name) = refl
 
 pub stopped_unreadable : (observable : Bool) (files : Files) (before after : ℕ) (error : OpenErr) (corruption : Corruption) → StopsBy observable files before after error →
     cause_of_opening error ≡ Unreadable corruption → observable ≡ true → HasCorruption files corruption

@@ -1,5 +1,9 @@
 pub mod Untouched
 pub mod Run
 pub mod Crash
+pub mod Commands
 pub mod Program
 pub mod Reading
+pub mod Printing
+pub mod Request
+pub mod Unprinted

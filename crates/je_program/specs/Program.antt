@@ -1,22 +1,21 @@
 -- What the program promises of one run.
-use Rattle.std.specs.Prelude.{ℕ, ◌≡◌, ◌≢◌, ◌≤◌, ◌<◌, ◌⊎◌, [], ◌++◌, List, Option, Some, None, Bool, true, false, Ok, Err, length, codes, decimal, slice_index_or, IfSome}
+use Rattle.std.specs.Prelude.{ℕ, ◌≡◌, ◌≢◌, ◌≤◌, ◌<◌, ◌⊎◌, [], ◌++◌, List, Option, Some, None, Bool, true, false, Err, length, codes, decimal, slice_index_or, IfSome}
 use Rattle.je_order.specs.Counts.{HasRisen}
 use Rattle.je_io.specs.Sink.{Gains, GainsPart}
 use Rattle.je_disk.specs.Moments.{History, now}
 use Rattle.store_model.specs.declared.answer.Answer.{Answer}
 use Rattle.store_model.specs.declared.store.Store.{Store}
 use Rattle.store_model.specs.declared.event.Event.{Event}
-use Rattle.store_model.specs.declared.plan.RunPlan.{RunPlan}
+use Rattle.command_line.specs.declared.command.Command.{Command}
 use Rattle.store_model.specs.declared.totals.Totals.{Totals}
 use Rattle.store_model.specs.Journal.{is_disk_fault}
 use Rattle.je_answers.specs.Standing.{Standing}
 use Rattle.je_answers.specs.After.{AnswersAsModel, after_events}
-use Rattle.je_answers.specs.Journal.{AllAcknowledged, AreResumedInOrder, AreSyncedAtOnce, first_ready, lines_of, has_answer}
+use Rattle.je_answers.specs.Journal.{AllAcknowledged, AreResumedInOrder, AreSyncedAtOnce, first_ready, has_answer}
 use Rattle.script_text.specs.Grammar.{plan_of}
-use Rattle.script_text.specs.Report.{report_text}
 use Rattle.je_program.specs.declared.reading.TheConstants.{MOST_INPUT}
 use Rattle.je_program.specs.declared.cause.Cause.{Cause}
-use Rattle.je_program.specs.declared.cause.Cause.TheVariants.{Done, Usage, BadScript, Disk, Unreadable, WrongIndex, Memory, Input, InputTooLong, LogFull, IdsEnded}
+use Rattle.je_program.specs.declared.cause.Cause.TheVariants.{Done, Usage, BadScript, Disk, Unreadable, WrongIndex, Memory, NoEnvironment, Input, InputTooLong, LogFull, IdsEnded}
 use Rattle.text_out.specs.Lsn.{lsn_text}
 use Rattle.je_lsn.specs.Naming.{name_of}
 use Rattle.log_replay.specs.declared.corruption.Corruption.{Corruption}
@@ -35,15 +34,8 @@ use Rattle.serial_replay.specs.Cycles.{NeverWaitInCycle}
 use Rattle.serial_replay.specs.Laws.{StaysIndexed}
 use Rattle.script_run.specs.Events.{final_store}
 use Rattle.script_run.specs.Maintenance.{AreStepsInPlace}
-use Rattle.script_run.specs.Lines.{AreFirstLines, of_maintenance, of_session}
+use Rattle.je_program.specs.Commands.{reads_input}
 use Rattle.je_program.specs.Run.{cause_of_journal, is_run_through, status_of, unwritten_status_of}
-
--- the input was a script, and was read to its end
-abbrev pub ReadsPlan : Option (List ℕ) → Option (List ℕ) → RunPlan → Type 0
-ReadsPlan (Some left) (Some rest) plan = (length left ≤ MOST_INPUT) × (plan_of left ≡ Ok plan) × (rest ≡ [])
-ReadsPlan (Some left) None plan = ⊥
-ReadsPlan None (Some rest) plan = ⊥
-ReadsPlan None None plan = Unit {0}
 
 -- why the input was not a plan: the source failed, it has too many bytes, its first bad line, or there was no memory
 abbrev pub StopsReading : Option (List ℕ) → ℕ → ℕ → Cause → Type 0
@@ -53,11 +45,11 @@ StopsReading left before after (BadScript line) = IfSome left (λ bytes. (length
 StopsReading left before after Memory = Unit {0}
 StopsReading left before after cause = ⊥
 
--- why the arguments and the input give no plan to run: invalid arguments, no memory, or valid arguments and an input that was not a plan
-abbrev pub IsNoRequest : Bool → Option (List ℕ) → ℕ → ℕ → Cause → Type 0
-IsNoRequest taken left before after Usage = taken ≡ false
-IsNoRequest taken left before after Memory = Unit {0}
-IsNoRequest taken left before after cause = (taken ≡ true) × StopsReading left before after cause
+-- why the arguments and the input give nothing to do: invalid arguments, no memory, or an input that was not a plan
+abbrev pub IsNoRequest : Option Command → Option (List ℕ) → ℕ → ℕ → Cause → Type 0
+IsNoRequest command left before after Usage = command ≡ None
+IsNoRequest command left before after Memory = Unit {0}
+IsNoRequest command left before after cause = (reads_input command ≡ true) × StopsReading left before after cause
 
 -- a cause that is one of reading came by reading; of the others this says nothing
 abbrev pub IsStopped : Option (List ℕ) → ℕ → ℕ → Cause → Type 0
@@ -65,14 +57,6 @@ IsStopped left before after Input = HasRisen before after
 IsStopped left before after InputTooLong = IfSome left (λ bytes. MOST_INPUT < length bytes)
 IsStopped left before after (BadScript line) = IfSome left (λ bytes. (length bytes ≤ MOST_INPUT) × (plan_of bytes ≡ Err line))
 IsStopped left before after cause = Unit {0}
-
--- a journal holds the lines of a script that was read: all, in order; or where a line found no memory, of each session the
--- first of its lines, and of the steps of maintenance the first
-pub record IsGivenTo (left rest : Option (List ℕ)) (journal : List Event) (cause : Cause) (plan : RunPlan) : Type 0 where
-  pub reads : ReadsPlan left rest plan
-  pub all : cause ≢ Memory → lines_of journal ≡ plan.lines
-  pub front : (session : ℕ) → AreFirstLines (of_session session (lines_of journal)) (of_session session plan.lines)
-  pub front_steps : AreFirstLines (of_maintenance (lines_of journal)) (of_maintenance plan.lines)
 
 -- whether the program ended before it came to its disk
 abbrev pub is_before_disk : Cause → Bool
@@ -90,6 +74,11 @@ RunsIf IdsEnded opened = Unit {0}
 RunsIf Disk opened = Unit {0}
 RunsIf Memory opened = Unit {0}
 RunsIf cause opened = opened ≡ false
+
+-- the same of a command that opens the environment; any other runs no script
+abbrev pub RunsBy : Bool → Cause → Bool → Type 0
+RunsBy true cause opened = RunsIf cause opened
+RunsBy false cause opened = opened ≡ false
 
 -- a run with memory for all its lines ends as its journal says, or closing met a fault of the disk
 abbrev pub EndsBy : List Event → Cause → Type 0
@@ -142,19 +131,11 @@ fault_text Disk = codes "fault disk\n"
 fault_text (Unreadable corruption) = corruption_text corruption
 fault_text (WrongIndex name) = codes "fault index " ++ name ++ codes "\n"
 fault_text Memory = codes "fault memory\n"
+fault_text NoEnvironment = codes "fault no environment\n"
 fault_text Input = codes "fault input\n"
 fault_text InputTooLong = codes "fault input too long\n"
 fault_text LogFull = codes "fault log full\n"
 fault_text IdsEnded = codes "fault ids ended\n"
-
--- the report of a run, and none where no script was run
-abbrev pub report_of : Bool → List Event → Totals → List ℕ
-report_of true journal totals = report_text journal totals
-report_of false journal totals = []
-
--- all that the program writes: the report with how much the final store holds, and the fault line
-abbrev pub output_text : Cause → Bool → List Event → Totals → List ℕ
-output_text cause opened journal totals = report_of opened journal totals ++ fault_text cause
 
 -- the output was written, and the status is the cause's; or the sink failed, which has a part of it
 abbrev pub IsOutputWritten : Option (List ℕ) → Option (List ℕ) → ℕ → ℕ → List ℕ → Cause → ℕ → Type 0

@@ -26,6 +26,8 @@ pub enum Cause {
     WrongIndex(Word),
     /// Out of memory: 6.
     Memory,
+    /// No environment is there, and the command makes none: 10.
+    NoEnvironment,
     /// The input failed: 7.
     Input,
     /// The input has more bytes than an input may have: 11.
@@ -49,6 +51,7 @@ impl Cause {
             Cause::Unreadable(_) | Cause::WrongIndex(_) => 5,
             Cause::Memory => 6,
             Cause::Input => 7,
+            Cause::NoEnvironment => 10,
             Cause::InputTooLong => 11,
             Cause::LogFull | Cause::IdsEnded => 12,
         }

@@ -136,6 +136,7 @@ pub fn fault_line(cause: &Cause) -> ArrayVec<u8, 80>
         Cause::Unreadable(corruption) => line_of_corruption(corruption),
         Cause::WrongIndex(name) => line_of_index(name),
         Cause::Memory => plain_line(b"fault memory\n"),
+        Cause::NoEnvironment => plain_line(b"fault no environment\n"),
         Cause::Input => plain_line(b"fault input\n"),
         Cause::InputTooLong => plain_line(b"fault input too long\n"),
         Cause::LogFull => plain_line(b"fault log full\n"),

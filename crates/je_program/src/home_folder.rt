@@ -12,7 +12,7 @@ pub fn home(alloc: Global, args: &[String]) -> Result<Option<String>, AllocError
     ensures right { IfOk result (λ folder. is_some folder ≡ is_taken (map string_bytes args.now)) }
 {
     match parse(alloc, args)? {
-        Some(options) => Ok(Some(options.home)),
+        Some(line) => Ok(Some(line.home)),
         None => Ok(None),
     }
 }

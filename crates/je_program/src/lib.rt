@@ -1,7 +1,8 @@
-//! The program: it reads its arguments and its script, opens the environment over a disk, runs the
-//! script's lines in order, and writes the report. `run_je` is the public top call; its contract is the
-//! store's theorem. It stands on `environment`, and on `script_run` for the run of the lines, on `command_line`
-//! and `script_text` for what it reads and writes, and `jedb` only hands it the real disk, input and output.
+//! The program: it reads its arguments and does what their command asks for: it opens the environment over a disk, runs
+//! a script's lines in order, and writes the report; it does so with the script of a seed; or it prints the log. `run_je` is
+//! the public top call; its contract is the store's theorem. It stands on `environment`, and on `script_run` for the run of
+//! the lines, on `command_line`, `script_text`, `soak_plan` and `log_printer` for what it reads and writes, and `jedb` only
+//! hands it the real disk, input and output.
 #![tactic(auto)]
 
 mod cause;
@@ -9,10 +10,13 @@ mod ending;
 mod fault_line;
 mod home_folder;
 mod output;
+mod print_log;
 mod program;
 mod reading;
-mod run_request;
+mod request;
 mod run_result;
+mod text;
+mod unprinted;
 
 pub use cause::Cause;
 pub use home_folder::home;

@@ -1,14 +1,22 @@
 // What a program writes.
-ghost use Rattle.std.specs.Prelude.{◌≡◌, ◌≤◌, ◌++◌, OnOk, OnErr};
+ghost use Rattle.std.specs.Prelude.{◌≡◌, ◌≤◌, ◌++◌, ℕ, List, Option, OnOk, OnErr};
+ghost use Rattle.std.specs.List.{flat_map};
 ghost use Rattle.je_order.specs.Counts.{HasRisen};
 ghost use Rattle.je_io.specs.Sink.{Gains, GainsPart};
-ghost use Rattle.je_program.specs.Program.{fault_text, report_of, IsOutputWritten};
+ghost use Rattle.text_out.specs.OutBuffer.{Adds, Sends, point};
+ghost use Rattle.log_printer.specs.LogLines.{lines_text};
+ghost use Rattle.je_program.specs.Commands.{report_of, soak_end_of, soak_text, text_of};
+ghost use Rattle.je_program.specs.Program.{fault_text, IsOutputWritten};
 
 use crate::cause::Cause;
 use crate::fault_line::fault_line;
+use crate::text::Text;
 use je_io::{Failed, Sink, write_all};
-use script_text::report;
+use log_printer::{FileLines, put_log};
+use script_text::{put_last_line, report};
+use soak_plan::SOAK_LINES;
 use store_model::{Event, Totals};
+use text_out::{OutBuffer, put_number};
 
 // Writes the fault line of a cause, and nothing where all was done.
 fn write_fault<K: Sink>(cause: &Cause, output: &mut K) -> Result<(), Failed>
@@ -40,38 +48,149 @@ fn write_report<K: Sink>(
     }
 }
 
-fn write_text<K: Sink>(
-    cause: &Cause,
+// Ends a text that was sent through a buffer.
+fn finish_text<K: Sink>(mut buffer: OutBuffer, output: &mut K) -> Result<(), Failed>
+    ensures whole { (start : Option (List ℕ)) (started : ℕ) (sent : List ℕ) → Sends start started (point (K.written output.old) (K.faults output.old) buffer) sent
+        → OnOk result (Gains start (K.written output.new) sent) }
+    ensures part { (start : Option (List ℕ)) (started : ℕ) (sent : List ℕ) → Sends start started (point (K.written output.old) (K.faults output.old) buffer) sent
+        → OnErr result (GainsPart start (K.written output.new) sent) }
+    ensures never_falls { (start : Option (List ℕ)) (started : ℕ) (sent : List ℕ) → Sends start started (point (K.written output.old) (K.faults output.old) buffer) sent
+        → started ≤ K.faults output.new }
+    ensures cause { (start : Option (List ℕ)) (started : ℕ) (sent : List ℕ) → Sends start started (point (K.written output.old) (K.faults output.old) buffer) sent
+        → OnErr result (HasRisen started (K.faults output.new)) }
+{
+    buffer.flush(output);
+    if buffer.has_failed() {
+        Err(Failed)
+    } else {
+        Ok(())
+    }
+}
+
+// Sends the lines of a soak.
+fn put_soak<K: Sink>(
+    buffer: &mut OutBuffer,
+    out: &mut K,
+    seed: u32,
+    journal: &[Event],
+    totals: &Totals,
+)
+    ensures { Adds (point (K.written out.old) (K.faults out.old) buffer.old)
+        (point (K.written out.new) (K.faults out.new) buffer.new)
+        (soak_text seed journal.now totals.now) }
+{
+    buffer.put(out, b"soak seed ");
+    put_number(buffer, out, u64::from(seed));
+    buffer.put(out, b" lines ");
+    put_number(buffer, out, u64::from(SOAK_LINES));
+    buffer.put(out, b"\n");
+    put_last_line(buffer, out, journal, totals);
+}
+
+// Writes how the run of a seed's script ended.
+fn write_soak_end<K: Sink>(
+    seed: u32,
+    journal: &[Event],
+    totals: &Totals,
+    output: &mut K,
+) -> Result<(), Failed>
+    ensures observed { OnOk result (Gains (K.written output.old) (K.written output.new) (soak_text seed journal.now totals.now)) }
+    ensures part { OnErr result (GainsPart (K.written output.old) (K.written output.new) (soak_text seed journal.now totals.now)) }
+    ensures never_falls { K.faults output.old ≤ K.faults output.new }
+    ensures cause { OnErr result (HasRisen (K.faults output.old) (K.faults output.new)) }
+{
+    let mut buffer = OutBuffer::new();
+    put_soak(&mut buffer, output, seed, journal, totals);
+    finish_text(buffer, output)
+}
+
+// Writes that, if the script was run.
+fn write_soak<K: Sink>(
+    seed: u32,
     opened: bool,
     journal: &[Event],
     totals: &Totals,
     output: &mut K,
 ) -> Result<(), Failed>
-    ensures observed { OnOk result (Gains (K.written output.old) (K.written output.new) (report_of opened journal.now totals.now ++ fault_text cause.now)) }
-    ensures part { OnErr result (GainsPart (K.written output.old) (K.written output.new) (report_of opened journal.now totals.now ++ fault_text cause.now)) }
+    ensures observed { OnOk result (Gains (K.written output.old) (K.written output.new) (soak_end_of seed opened journal.now totals.now)) }
+    ensures part { OnErr result (GainsPart (K.written output.old) (K.written output.new) (soak_end_of seed opened journal.now totals.now)) }
     ensures never_falls { K.faults output.old ≤ K.faults output.new }
     ensures cause { OnErr result (HasRisen (K.faults output.old) (K.faults output.new)) }
 {
-    match write_report(opened, journal, totals, output) {
+    if opened {
+        write_soak_end(seed, journal, totals, output)
+    } else {
+        write_all(output, b"")
+    }
+}
+
+// Writes the lines of a log.
+fn write_log<K: Sink>(files: &[FileLines], output: &mut K) -> Result<(), Failed>
+    ensures observed { OnOk result (Gains (K.written output.old) (K.written output.new) (flat_map lines_text files.now)) }
+    ensures part { OnErr result (GainsPart (K.written output.old) (K.written output.new) (flat_map lines_text files.now)) }
+    ensures never_falls { K.faults output.old ≤ K.faults output.new }
+    ensures cause { OnErr result (HasRisen (K.faults output.old) (K.faults output.new)) }
+{
+    let mut buffer = OutBuffer::new();
+    put_log(&mut buffer, output, files);
+    finish_text(buffer, output)
+}
+
+// Writes what comes before the fault line.
+fn write_body<K: Sink>(
+    text: &Text,
+    opened: bool,
+    journal: &[Event],
+    totals: &Totals,
+    output: &mut K,
+) -> Result<(), Failed>
+    ensures observed { OnOk result (Gains (K.written output.old) (K.written output.new) (text_of text.now opened journal.now totals.now)) }
+    ensures part { OnErr result (GainsPart (K.written output.old) (K.written output.new) (text_of text.now opened journal.now totals.now)) }
+    ensures never_falls { K.faults output.old ≤ K.faults output.new }
+    ensures cause { OnErr result (HasRisen (K.faults output.old) (K.faults output.new)) }
+{
+    match text {
+        Text::Nothing => write_all(output, b""),
+        Text::Report => write_report(opened, journal, totals, output),
+        Text::SoakEnd { seed } => write_soak(*seed, opened, journal, totals, output),
+        Text::Log(files) => write_log(files, output),
+    }
+}
+
+fn write_text<K: Sink>(
+    cause: &Cause,
+    text: &Text,
+    opened: bool,
+    journal: &[Event],
+    totals: &Totals,
+    output: &mut K,
+) -> Result<(), Failed>
+    ensures observed { OnOk result (Gains (K.written output.old) (K.written output.new) (text_of text.now opened journal.now totals.now ++ fault_text cause.now)) }
+    ensures part { OnErr result (GainsPart (K.written output.old) (K.written output.new) (text_of text.now opened journal.now totals.now ++ fault_text cause.now)) }
+    ensures never_falls { K.faults output.old ≤ K.faults output.new }
+    ensures cause { OnErr result (HasRisen (K.faults output.old) (K.faults output.new)) }
+{
+    match write_body(text, opened, journal, totals, output) {
         Ok(()) => write_fault(cause, output),
         Err(failed) => Err(failed),
     }
 }
 
-/// Writes a program's output, the report first, and gives the status that it ends with. It takes no
+/// Writes a program's output, its text first, and gives the status that it ends with. It takes no
 /// memory.
 pub fn write_output<K: Sink>(
     cause: &Cause,
+    text: &Text,
     opened: bool,
     journal: &[Event],
     totals: &Totals,
     output: &mut K,
 ) -> u8
     ensures written { IsOutputWritten (K.written output.old) (K.written output.new) (K.faults output.old) (K.faults output.new)
-        (report_of opened journal.now totals.now ++ fault_text cause.now) cause.now result }
+        (text_of text.now opened journal.now totals.now ++ fault_text cause.now) cause.now result }
     ensures never_falls { K.faults output.old ≤ K.faults output.new }
 {
-    match write_text(cause, opened, journal, totals, output) {
+    match write_text(cause, text, opened, journal, totals, output) {
         Ok(()) => cause.status(),
         Err(_) => cause.unwritten_status(),
     }

@@ -1,29 +1,30 @@
 // The top call.
-ghost use Rattle.std.specs.Prelude.{◌≡◌, ◌≢◌, ◌≤◌, ◌<◌, ◌⊎◌, [], ℕ, List, Some, Ok, Err, IfSome, true, false, length, map, string_bytes};
+ghost use Rattle.std.specs.Prelude.{◌≡◌, ◌≢◌, ◌≤◌, ◌<◌, ◌++◌, ◌⊎◌, [], ℕ, List, Some, Err, IfSome, true, false, length, map, string_bytes};
 ghost use Rattle.je_order.specs.Counts.{HasRisen, HasRisen as Failing};
 ghost use Rattle.je_disk.specs.Moments.{now};
-ghost use Rattle.store_model.specs.declared.plan.RunPlan.{RunPlan};
-ghost use Rattle.store_model.specs.Indexes.{AreIndexed};
 ghost use Rattle.store_model.specs.Journal.{is_disk_fault};
 ghost use Rattle.store_model.specs.Store.{no_databases};
 ghost use Rattle.je_answers.specs.Standing.{Standing};
 ghost use Rattle.je_answers.specs.Journal.{has_answer};
-ghost use Rattle.log_meaning.specs.Meaning.{Meaning};
 ghost use Rattle.log_replay.specs.declared.corruption.Corruption.{Corruption as Wrong};
+ghost use Rattle.log_printer.specs.Reading.{HasNoFile};
 ghost use Rattle.script_text.specs.Grammar.{plan_of};
-ghost use Rattle.je_program.specs.declared.cause.Cause.{Cause as Why};
-ghost use Rattle.je_program.specs.declared.reading.TheConstants.{MOST_INPUT};
 ghost use Rattle.engine.specs.Crash.{KeepsEntry};
 ghost use Rattle.engine.specs.Untouched.{IsUntouched};
-ghost use Rattle.engine.specs.Files.{HasCorruption, HasWrongIndex, Means};
+ghost use Rattle.engine.specs.Files.{HasWrongIndex};
 ghost use Rattle.engine.specs.Opening.{HasNoNumbers};
-ghost use Rattle.je_program.specs.Program.{EndsBy, IsGivenTo, IsOutputWritten, IsRunOf, ReadsPlan, RunsIf, is_before_disk, output_text};
-ghost use Rattle.je_program.specs.Run.{cause_of_room};
-ghost use Rattle.command_line.specs.Arguments.{file_max_in, is_taken};
+ghost use Rattle.command_line.specs.declared.command.RunSettings.{RunSettings};
+ghost use Rattle.command_line.specs.declared.command.Command.TheVariants.{Run};
+ghost use Rattle.command_line.specs.Arguments.{command_in, is_taken};
+ghost use Rattle.je_program.specs.declared.cause.Cause.{Cause as Why};
+ghost use Rattle.je_program.specs.declared.reading.TheConstants.{MOST_INPUT};
+ghost use Rattle.je_program.specs.Commands.{AreReady, EndsWell, HasInput, IsFound, IsGivenTo, IsTextOf, ReadsInput, file_max_of, may_end, needs_environment, opens, reads_input};
+ghost use Rattle.je_program.specs.Program.{EndsBy, IsOutputWritten, IsRunOf, RunsBy, fault_text, is_before_disk};
 
 use crate::cause::Cause;
 use crate::output::write_output;
-use crate::run_result::{RunResult, run_unprinted};
+use crate::run_result::RunResult;
+use crate::unprinted::{Unprinted, run_unprinted};
 use environment::{Opening, Records};
 use je_disk::Disk;
 use je_io::{Sink, Source};
@@ -47,8 +48,10 @@ pub struct Ended<D> {
     pub records: Option<Records>,
 }
 
-/// Runs the program: reads the script from the input, opens the environment over the disk, gives the
-/// script's lines in order, and writes the report, or the one line that tells why there is none.
+/// Runs the program: does what the arguments' command asks for. For `run` it reads a script from the input, opens the
+/// environment over the disk, gives the script's lines in order, and writes the report; for `soak` it does so with the
+/// script of a seed, and writes how that ended; for `printlog` it reads the disk's files and writes a line for each entry
+/// of the log. Or it writes the one line that tells why there is none of these.
 pub fn run_je<D: Disk, S: Source, K: Sink>(
     alloc: Global,
     args: &[String],
@@ -57,38 +60,45 @@ pub fn run_je<D: Disk, S: Source, K: Sink>(
     output: &mut K,
 ) -> Ended<D>
     // The arguments are the cause of the end only where they are wrong, and then always, unless memory ran
-    // out.
+    // out. A command ends with causes of its own alone.
     ensures usage { result.cause ≡ Why.Usage → is_taken (map string_bytes args.now) ≡ false }
     ensures usage_found { is_taken (map string_bytes args.now) ≡ false → (result.cause ≡ Why.Usage) ⊎ (result.cause ≡ Why.Memory) }
+    ensures causes { may_end (command_in (map string_bytes args.now)) result.cause ≡ true }
 
     // The input failed only where its count of faults rose; it is too long, or has a first bad line.
     ensures input_failed { result.cause ≡ Why.Input → Failing (S.faults input.old) (S.faults input.new) }
     ensures input_too_long { result.cause ≡ Why.InputTooLong → IfSome (S.left input.old) (λ bytes. MOST_INPUT < length bytes) }
     ensures bad_script { (line : ℕ) → result.cause ≡ Why.BadScript line → IfSome (S.left input.old) (λ bytes. (length bytes ≤ MOST_INPUT) × (plan_of bytes ≡ Err line)) }
-    ensures too_long_found { (bytes : List ℕ) → is_taken (map string_bytes args.now) ≡ true → S.left input.old ≡ Some bytes → MOST_INPUT < length bytes
+    ensures too_long_found { (bytes : List ℕ) → reads_input (command_in (map string_bytes args.now)) ≡ true → S.left input.old ≡ Some bytes → MOST_INPUT < length bytes
         → (result.cause ≡ Why.InputTooLong) ⊎ (result.cause ≡ Why.Memory) ⊎ Failing (S.faults input.old) (S.faults input.new) }
-    ensures bad_line_found { (bytes : List ℕ) (line : ℕ) → is_taken (map string_bytes args.now) ≡ true → S.left input.old ≡ Some bytes → length bytes ≤ MOST_INPUT → plan_of bytes ≡ Err line
-        → (result.cause ≡ Why.BadScript line) ⊎ (result.cause ≡ Why.Memory) ⊎ Failing (S.faults input.old) (S.faults input.new) }
+    ensures bad_line_found { (settings : RunSettings) (bytes : List ℕ) (line : ℕ) → command_in (map string_bytes args.now) ≡ Some (Run settings) → S.left input.old ≡ Some bytes → length bytes ≤ MOST_INPUT
+        → plan_of bytes ≡ Err line → (result.cause ≡ Why.BadScript line) ⊎ (result.cause ≡ Why.Memory) ⊎ Failing (S.faults input.old) (S.faults input.new) }
 
-    // Before the script was read, no call was made on the disk. Otherwise it was read to its end.
+    // Before the input was read, no call was made on the disk. Otherwise it was read to its end, if the command reads
+    // it; and one that does not leaves it as it is.
     ensures untouched { is_before_disk result.cause ≡ true → result.disk ≡ disk }
-    ensures read_whole { is_before_disk result.cause ≡ false → result.cause ≢ Why.Memory → (plan : RunPlan) × ReadsPlan (S.left input.old) (S.left input.new) plan }
+    ensures read_whole { is_before_disk result.cause ≡ false → result.cause ≢ Why.Memory → ReadsInput (command_in (map string_bytes args.now)) (S.left input.old) (S.left input.new) }
+    ensures unread { reads_input (command_in (map string_bytes args.now)) ≡ false → S.left input.new ≡ S.left input.old }
 
     // The disk failed only where its count of faults rose; the files at entry cannot be opened, with this
     // corruption first, or this index the first whose pairs are not those of its primary's records, exactly where
-    // that is the cause of the end.
+    // that is the cause of the end; a command that only reads files finds what is wrong with them alone. No file is
+    // there, and the command needs an environment, exactly where that is the cause.
     ensures disk_failed { result.cause ≡ Why.Disk → HasRisen (D.faults disk) (D.faults result.disk) }
-    ensures unreadable { (corruption : Wrong) → result.cause ≡ Why.Unreadable corruption → D.observable ≡ true → HasCorruption (now (D.history disk)).reads corruption }
+    ensures unreadable { (corruption : Wrong) → result.cause ≡ Why.Unreadable corruption → D.observable ≡ true → IsFound (command_in (map string_bytes args.now)) (now (D.history disk)).reads corruption }
     ensures wrong_index { (name : List ℕ) → result.cause ≡ Why.WrongIndex name → D.observable ≡ true → HasWrongIndex (now (D.history disk)).reads name }
+    ensures no_environment { result.cause ≡ Why.NoEnvironment → D.observable ≡ true → HasNoFile (now (D.history disk)).reads }
 
     // Where no script was run, no number is left only if those of the files' nodes may pass the last one.
     ensures ids_ended { result.cause ≡ Why.IdsEnded → result.opened ≡ false → D.observable ≡ true → HasNoNumbers (now (D.history disk)).reads }
 
-    // Where the files at entry cannot be opened, the disk's state is at each moment what it was.
+    // Where the files at entry cannot be opened, the disk's state is at each moment what it was; so it is, whatever the
+    // cause, where a command opens no environment.
     ensures unreadable_untouched { (corruption : Wrong) → result.cause ≡ Why.Unreadable corruption → D.observable ≡ true → IsUntouched (D.history disk) (D.history result.disk) }
     ensures wrong_index_untouched { (name : List ℕ) → result.cause ≡ Why.WrongIndex name → D.observable ≡ true → IsUntouched (D.history disk) (D.history result.disk) }
+    ensures reads_only { opens (command_in (map string_bytes args.now)) ≡ false → D.observable ≡ true → IsUntouched (D.history disk) (D.history result.disk) }
 
-    // A run: its journal holds the script's lines. Each answer is the model's, from what the files at entry mean on;
+    // A run: its journal holds the script's lines, or those of the seed. Each answer is the model's, from what the files at entry mean on;
     // each commit is followed at once by its sync or its write-out, as its durability asks; the calls that waited go on
     // in the order in which they began to wait, before the next line; a step of maintenance is taken where a line asks
     // for it, and a sync among them has made all commits so far durable; each index has the pairs of its primary's
@@ -99,9 +109,9 @@ pub fn run_je<D: Disk, S: Source, K: Sink>(
     // by chance means it changed by at least the synced ones. Behind a disk fault the disk stands still. Each file stays.
     // Where the script was run through, each image at the end means the final store. There, and at any end if the disk
     // met no fault, each file is as long as its bound lets it be, or one entry behind a header, or no longer than at entry.
-    ensures runs { RunsIf result.cause result.opened }
-    ensures given { result.opened ≡ true → (plan : RunPlan) × IsGivenTo (S.left input.old) (S.left input.new) result.journal.items result.cause plan }
-    ensures run { result.opened ≡ true → (file_max : ℕ) × (st : Standing) × (file_max_in (map string_bytes args.now) ≡ Some file_max) × IsRunOf file_max D.observable (D.history disk) (D.history result.disk) (D.faults disk) (D.faults result.disk) result.opening result.totals result.journal.items result.cause st }
+    ensures runs { RunsBy (opens (command_in (map string_bytes args.now))) result.cause result.opened }
+    ensures given { result.opened ≡ true → IsGivenTo (command_in (map string_bytes args.now)) (S.left input.old) (S.left input.new) result.journal.items result.cause }
+    ensures run { result.opened ≡ true → (file_max : ℕ) × (st : Standing) × (file_max_of (command_in (map string_bytes args.now)) ≡ Some file_max) × IsRunOf file_max D.observable (D.history disk) (D.history result.disk) (D.faults disk) (D.faults result.disk) result.opening result.totals result.journal.items result.cause st }
     ensures unopened { result.opened ≡ false → (result.opening ≡ no_databases) × (result.journal.items ≡ []) }
     ensures ends { result.opened ≡ true → result.cause ≢ Why.Memory → EndsBy result.journal.items result.cause }
     ensures faults { has_answer is_disk_fault result.journal.items ≡ true → HasRisen (D.faults disk) (D.faults result.disk) }
@@ -111,31 +121,35 @@ pub fn run_je<D: Disk, S: Source, K: Sink>(
     // too, if nothing was pending at entry; and each image at the end does, if nothing is pending then.
     ensures crash_unopened { D.observable ≡ true → result.opened ≡ false → KeepsEntry (D.history disk) (D.history result.disk) }
 
-    // Valid arguments, a script and files with a meaning, in which each index has the pairs of its primary's records,
-    // end in a run, unless memory ran out or a count rose.
-    ensures complete { (bytes : List ℕ) (plan : RunPlan) (meaning : Meaning) → is_taken (map string_bytes args.now) ≡ true → S.left input.old ≡ Some bytes
-        → length bytes ≤ MOST_INPUT → plan_of bytes ≡ Ok plan → D.observable ≡ true → Means (now (D.history disk)).reads meaning → AreIndexed meaning.store
-        → ((result.opened ≡ true) × (result.cause ≡ cause_of_room result.journal.items)) ⊎ ((result.opened ≡ false) × (result.cause ≡ Why.IdsEnded)) ⊎ (result.cause ≡ Why.Memory)
+    // A command that has its input, and the files that it needs, ends well, unless memory ran out or a count rose: `run`
+    // and `soak` in a run, with files that mean a store in which each index has the pairs of its primary's records;
+    // `printlog` with all files printed. Where the files are not such, that is the cause.
+    ensures complete { HasInput (command_in (map string_bytes args.now)) (S.left input.old) → D.observable ≡ true → AreReady (command_in (map string_bytes args.now)) (now (D.history disk)).reads
+        → EndsWell (command_in (map string_bytes args.now)) result.cause result.opened result.journal.items ⊎ (result.cause ≡ Why.Memory)
         ⊎ Failing (S.faults input.old) (S.faults input.new) ⊎ HasRisen (D.faults disk) (D.faults result.disk) }
-    ensures unreadable_found { (bytes : List ℕ) (plan : RunPlan) (corruption : Wrong) → is_taken (map string_bytes args.now) ≡ true → S.left input.old ≡ Some bytes
-        → length bytes ≤ MOST_INPUT → plan_of bytes ≡ Ok plan → D.observable ≡ true → HasCorruption (now (D.history disk)).reads corruption
+    ensures unreadable_found { (corruption : Wrong) → HasInput (command_in (map string_bytes args.now)) (S.left input.old) → D.observable ≡ true
+        → IsFound (command_in (map string_bytes args.now)) (now (D.history disk)).reads corruption
         → (result.cause ≡ Why.Unreadable corruption) ⊎ (result.cause ≡ Why.Memory)
         ⊎ Failing (S.faults input.old) (S.faults input.new) ⊎ HasRisen (D.faults disk) (D.faults result.disk) }
-    ensures wrong_index_found { (bytes : List ℕ) (plan : RunPlan) (name : List ℕ) → is_taken (map string_bytes args.now) ≡ true → S.left input.old ≡ Some bytes
-        → length bytes ≤ MOST_INPUT → plan_of bytes ≡ Ok plan → D.observable ≡ true → HasWrongIndex (now (D.history disk)).reads name
+    ensures wrong_index_found { (name : List ℕ) → HasInput (command_in (map string_bytes args.now)) (S.left input.old) → opens (command_in (map string_bytes args.now)) ≡ true → D.observable ≡ true
+        → HasWrongIndex (now (D.history disk)).reads name
         → (result.cause ≡ Why.WrongIndex name) ⊎ (result.cause ≡ Why.Memory)
         ⊎ Failing (S.faults input.old) (S.faults input.new) ⊎ HasRisen (D.faults disk) (D.faults result.disk) }
+    ensures no_environment_found { needs_environment (command_in (map string_bytes args.now)) ≡ true → D.observable ≡ true → HasNoFile (now (D.history disk)).reads
+        → (result.cause ≡ Why.NoEnvironment) ⊎ (result.cause ≡ Why.Memory) ⊎ HasRisen (D.faults disk) (D.faults result.disk) }
 
-    // What was written, and the status: the cause's, unless the output failed.
-    ensures written { IsOutputWritten (K.written output.old) (K.written output.new) (K.faults output.old) (K.faults output.new)
-        (output_text result.cause result.opened result.journal.items result.totals) result.cause result.status }
+    // What was written, and the status: the command's text and the fault line, and the cause's status, unless the output
+    // failed.
+    ensures written { (text : List ℕ) × IsTextOf (command_in (map string_bytes args.now))
+        (record { observable = D.observable; files = (now (D.history disk)).reads; opened = result.opened; journal = result.journal.items; totals = result.totals; cause = result.cause }) text
+        × IsOutputWritten (K.written output.old) (K.written output.new) (K.faults output.old) (K.faults output.new) (text ++ fault_text result.cause) result.cause result.status }
 
     // No count of faults falls.
     ensures disk_faults { D.faults disk ≤ D.faults result.disk }
     ensures input_faults { S.faults input.old ≤ S.faults input.new }
     ensures output_faults { K.faults output.old ≤ K.faults output.new }
 {
-    let run_result = run_unprinted(alloc, args, disk, input);
+    let Unprinted { run, text } = run_unprinted(alloc, args, disk, input);
     let RunResult {
         cause,
         opened,
@@ -144,8 +158,9 @@ pub fn run_je<D: Disk, S: Source, K: Sink>(
         opening,
         totals,
         records,
-    } = run_result;
-    let status = write_output(&cause, opened, &journal, &totals, output);
+    } = run;
+    let status = write_output(&cause, &text, opened, &journal, &totals, output);
+    drop(text);
     Ended {
         status,
         cause,

@@ -2,7 +2,8 @@
 ghost use Rattle.std.specs.Prelude.{◌≡◌, ◌≤◌, true, IfOk, IfErr};
 ghost use Rattle.std.specs.List.{list_all};
 ghost use Rattle.script_text.specs.Grammar.{is_line};
-ghost use Rattle.je_program.specs.Program.{ReadsPlan, StopsReading};
+ghost use Rattle.je_program.specs.Commands.{ReadsPlan};
+ghost use Rattle.je_program.specs.Program.{StopsReading};
 
 use crate::cause::Cause;
 use je_io::{ReadErr, Source, read_all};

@@ -1,49 +1,125 @@
 // What a program is to do.
-ghost use Rattle.std.specs.Prelude.{◌≡◌, ◌≤◌, Some, true, false, map, string_bytes, IfErr, IfOk, OnOk};
-ghost use Rattle.std.specs.List.{list_all};
-ghost use Rattle.script_text.specs.Grammar.{is_line};
-ghost use Rattle.command_line.specs.Arguments.{fanout_in, file_max_in, is_taken};
-ghost use Rattle.je_program.specs.Program.{ReadsPlan, IsNoRequest};
+ghost use Rattle.std.specs.Prelude.{◌≡◌, ◌≤◌, ℕ, List, Option, Some, false, map, string_bytes, IfErr, IfOk};
+ghost use Rattle.command_line.specs.Arguments.{AreSettings, IsBounded, command_in};
+ghost use Rattle.command_line.specs.declared.command.Command.TheVariants.{Run, Soak};
+ghost use Rattle.je_program.specs.declared.cause.Cause.{Cause as Why};
+ghost use Rattle.je_program.specs.Commands.{reads_input};
+ghost use Rattle.je_program.specs.Program.{IsNoRequest, StopsReading};
+ghost use Rattle.je_program.specs.Request.{IsConfig, IsNoCommand, IsRequestOf};
 
 use crate::cause::Cause;
 use crate::reading::read_script;
-use command_line::parse;
+use crate::text::Text;
+use command_line::{Command, RunSettings, parse};
 use environment::Config;
 use je_io::Source;
+use soak_plan::soak;
 use std::alloc::Global;
 use store_model::RunPlan;
 
-/// What a program is to do: to run a plan over an environment that is opened so.
-pub struct RunRequest {
-    pub config: Config,
-    pub plan: RunPlan,
+/// What a program is to do: to run a plan over an environment that is opened so, and then to write this; or to print the
+/// log.
+pub enum Request {
+    Life {
+        config: Config,
+        plan: RunPlan,
+        text: Text,
+    },
+    PrintLog,
+}
+
+// How an environment is opened with these settings.
+fn config_of(settings: RunSettings) -> Config
+    requires { AreSettings settings }
+    ensures is { IsConfig result }
+    ensures file_max { result.file_max ≡ settings.file_max }
+{
+    Config {
+        file_max: settings.file_max,
+        fanout: settings.fanout,
+    }
+}
+
+// What `run` is to do.
+fn run_request<S: Source>(
+    alloc: Global,
+    settings: RunSettings,
+    input: &mut S,
+) -> Result<Request, Cause>
+    requires { AreSettings settings }
+    ensures is { IfOk result (IsRequestOf (Some (Run settings)) (S.left input.old) (S.left input.new)) }
+    ensures none { IfErr result (λ cause. StopsReading (S.left input.old) (S.faults input.old) (S.faults input.new) cause) }
+    ensures never_falls { S.faults input.old ≤ S.faults input.new }
+{
+    let plan = read_script(alloc, input)?;
+    Ok(Request::Life {
+        config: config_of(settings),
+        plan,
+        text: Text::Report,
+    })
+}
+
+// What `soak` is to do.
+fn soak_request(alloc: Global, seed: u32, settings: RunSettings) -> Result<Request, Cause>
+    requires { AreSettings settings }
+    ensures is { (left : Option (List ℕ)) → IfOk result (IsRequestOf (Some (Soak seed settings)) left left) }
+    ensures none { IfErr result (λ cause. cause ≡ Why.Memory) }
+{
+    let plan = soak(alloc, seed)?;
+    Ok(Request::Life {
+        config: config_of(settings),
+        plan,
+        text: Text::SoakEnd { seed },
+    })
+}
+
+// The command that the arguments give, or why they give none.
+fn command_of(alloc: Global, args: &[String]) -> Result<Command, Cause>
+    ensures is { IfOk result (λ command. command_in (map string_bytes args.now) ≡ Some command) }
+    ensures bounded { IfOk result (λ command. IsBounded command) }
+    ensures none { IfErr result (IsNoCommand (command_in (map string_bytes args.now))) }
+{
+    match parse(alloc, args)? {
+        Some(line) => {
+            let command = line.command;
+            drop(line);
+            Ok(command)
+        }
+        None => Err(Cause::Usage),
+    }
+}
+
+// What a command is to do.
+fn request_of<S: Source>(
+    alloc: Global,
+    command: Command,
+    input: &mut S,
+) -> Result<Request, Cause>
+    requires { IsBounded command }
+    ensures is { IfOk result (IsRequestOf (Some command) (S.left input.old) (S.left input.new)) }
+    ensures none { IfErr result (IsNoRequest (Some command) (S.left input.old) (S.faults input.old) (S.faults input.new)) }
+    ensures unread { reads_input (Some command) ≡ false → S.left input.new ≡ S.left input.old }
+    ensures never_falls { S.faults input.old ≤ S.faults input.new }
+{
+    match command {
+        Command::Run(settings) => run_request(alloc, settings, input),
+        Command::Soak { seed, settings } => soak_request(alloc, seed, settings),
+        Command::PrintLog => Ok(Request::PrintLog),
+    }
 }
 
 /// The request that the arguments and the input make, or why they make none. The input is read only
-/// where the arguments are valid.
+/// where the arguments are those of a command that reads it.
 pub fn read_request<S: Source>(
     alloc: Global,
     args: &[String],
     input: &mut S,
-) -> Result<RunRequest, Cause>
-    ensures taken { OnOk result (is_taken (map string_bytes args.now) ≡ true) }
-    ensures file_max { IfOk result (λ request. file_max_in (map string_bytes args.now) ≡ Some request.config.file_max) }
-    ensures most { IfOk result (λ request. request.config.file_max ≤ 1073741824) }
-    ensures fanout { IfOk result (λ request. fanout_in (map string_bytes args.now) ≡ Some request.config.fanout) }
-    ensures slots { IfOk result (λ request. (4 ≤ request.config.fanout) × (request.config.fanout ≤ 128)) }
-    ensures read { IfOk result (λ request. ReadsPlan (S.left input.old) (S.left input.new) request.plan) }
-    ensures lines { IfOk result (λ request. list_all is_line request.plan.lines ≡ true) }
-    ensures none { IfErr result (λ cause. IsNoRequest (is_taken (map string_bytes args.now)) (S.left input.old) (S.faults input.old) (S.faults input.new) cause) }
-    ensures unread { is_taken (map string_bytes args.now) ≡ false → (S.left input.new ≡ S.left input.old) × (S.faults input.new ≡ S.faults input.old) }
+) -> Result<Request, Cause>
+    ensures is { IfOk result (IsRequestOf (command_in (map string_bytes args.now)) (S.left input.old) (S.left input.new)) }
+    ensures none { IfErr result (IsNoRequest (command_in (map string_bytes args.now)) (S.left input.old) (S.faults input.old) (S.faults input.new)) }
+    ensures unread { reads_input (command_in (map string_bytes args.now)) ≡ false → S.left input.new ≡ S.left input.old }
     ensures never_falls { S.faults input.old ≤ S.faults input.new }
 {
-    let options = parse(alloc, args)?.ok_or(Cause::Usage)?;
-    let plan = read_script(alloc, input)?;
-    Ok(RunRequest {
-        config: Config {
-            file_max: options.file_max,
-            fanout: options.fanout,
-        },
-        plan,
-    })
+    let command = command_of(alloc, args)?;
+    request_of(alloc, command, input)
 }

@@ -1,9 +1,7 @@
 // A program's work, up to its output.
-ghost use Rattle.std.specs.Prelude.{◌≡◌, ◌≢◌, ◌≤◌, ◌^◌, ◌⊎◌, [], ℕ, List, true, false, map, string_bytes, Some};
+ghost use Rattle.std.specs.Prelude.{◌≡◌, ◌≢◌, ◌≤◌, ◌^◌, ◌⊎◌, [], ℕ, List, true, false};
 ghost use Rattle.std.specs.List.{list_all};
-ghost use Rattle.store_model.specs.declared.plan.RunPlan.{RunPlan};
 ghost use Rattle.script_text.specs.Grammar.{is_line};
-ghost use Rattle.command_line.specs.Arguments.{file_max_in, is_taken};
 ghost use Rattle.je_order.specs.Counts.{HasRisen};
 ghost use Rattle.je_disk.specs.Moments.{History, now};
 ghost use Rattle.environment.specs.Whole.{disk_of};
@@ -22,17 +20,16 @@ ghost use Rattle.engine.specs.Files.{HasCorruption, HasWrongIndex, MeanStore};
 ghost use Rattle.engine.specs.Lengths.{AreLengthsWithin};
 ghost use Rattle.engine.specs.Opening.{HasNoNumbers};
 ghost use Rattle.txn_core.specs.Totals.{totals_of};
-ghost use Rattle.je_program.specs.Program.{ClosesRun, EndsBy, IsGivenTo, IsRunOf, IsStopped, ReadsPlan, RunsIf, is_before_disk, cause_closed, cause_of_opening};
+ghost use Rattle.je_program.specs.Commands.{ends_soak};
+ghost use Rattle.je_program.specs.Program.{ClosesRun, EndsBy, IsRunOf, RunsIf, cause_closed, cause_of_opening};
 ghost use Rattle.je_program.specs.Run.{cause_of_journal, is_run_through};
 
 use crate::cause::Cause;
 use crate::ending::journal_cause;
-use crate::run_request::{RunRequest, read_request};
 use environment::{
     Closed, Config, Environment, OpenErr, Opened, Opening, Records, Stopped, no_opening,
 };
 use je_disk::Disk;
-use je_io::Source;
 use script_run::{Recorded, Running, run};
 use std::alloc::Global;
 use store_model::{Event, RunPlan, Totals};
@@ -50,7 +47,7 @@ pub struct RunResult<D> {
     pub records: Option<Records>,
 }
 
-/// A program that ended before its environment was opened.
+/// A program that opened no environment.
 pub fn unopened<D>(alloc: Global, cause: Cause, disk: D) -> RunResult<D>
     ensures cause { result.cause ≡ cause }
     ensures opened { result.opened ≡ false }
@@ -166,7 +163,7 @@ pub fn run_plan<D: Disk>(alloc: Global, disk: D, config: Config, plan: RunPlan) 
     requires most { config.fanout ≤ 128 }
     requires lines { list_all is_line plan.lines ≡ true }
     ensures runs { RunsIf result.cause result.opened }
-    ensures after_reading { is_before_disk result.cause ≡ false }
+    ensures causes { ends_soak result.cause ≡ true }
     ensures run { result.opened ≡ true → (st : Standing) × IsRunOf config.file_max D.observable (D.history disk) (D.history result.disk) (D.faults disk) (D.faults result.disk) result.opening result.totals result.journal.items result.cause st }
     ensures crash_unopened { D.observable ≡ true → result.opened ≡ false → KeepsEntry (D.history disk) (D.history result.disk) }
     ensures unopened { result.opened ≡ false → (result.opening ≡ no_databases) × (result.journal.items ≡ []) }
@@ -193,37 +190,5 @@ pub fn run_plan<D: Disk>(alloc: Global, disk: D, config: Config, plan: RunPlan) 
             let cause = opening_cause(error);
             unopened(alloc, cause, disk)
         }
-    }
-}
-
-/// Does all that a program does but its output: looks at its arguments, reads its script, and runs it
-/// over the disk.
-pub fn run_unprinted<D: Disk, S: Source>(
-    alloc: Global,
-    args: &[String],
-    disk: D,
-    input: &mut S,
-) -> RunResult<D>
-    ensures usage { result.cause ≡ Why.Usage → is_taken (map string_bytes args.now) ≡ false }
-    ensures wrong { is_taken (map string_bytes args.now) ≡ false → (result.cause ≡ Why.Usage) ⊎ (result.cause ≡ Why.Memory) }
-    ensures stopped { IsStopped (S.left input.old) (S.faults input.old) (S.faults input.new) result.cause }
-    ensures script { is_before_disk result.cause ≡ false → result.cause ≢ Why.Memory → (plan : RunPlan) × ReadsPlan (S.left input.old) (S.left input.new) plan }
-    ensures given { result.opened ≡ true → (plan : RunPlan) × IsGivenTo (S.left input.old) (S.left input.new) result.journal.items result.cause plan }
-    ensures untouched { is_before_disk result.cause ≡ true → result.disk ≡ disk }
-    ensures runs { RunsIf result.cause result.opened }
-    ensures run { result.opened ≡ true → (file_max : ℕ) × (st : Standing) × (file_max_in (map string_bytes args.now) ≡ Some file_max) × IsRunOf file_max D.observable (D.history disk) (D.history result.disk) (D.faults disk) (D.faults result.disk) result.opening result.totals result.journal.items result.cause st }
-    ensures crash_unopened { D.observable ≡ true → result.opened ≡ false → KeepsEntry (D.history disk) (D.history result.disk) }
-    ensures unopened { result.opened ≡ false → (result.opening ≡ no_databases) × (result.journal.items ≡ []) }
-    ensures unreadable { (corruption : Wrong) → result.cause ≡ Why.Unreadable corruption → D.observable ≡ true → HasCorruption (now (D.history disk)).reads corruption }
-    ensures wrong_index { (name : List ℕ) → result.cause ≡ Why.WrongIndex name → D.observable ≡ true → HasWrongIndex (now (D.history disk)).reads name }
-    ensures ids_ended { result.cause ≡ Why.IdsEnded → result.opened ≡ false → D.observable ≡ true → HasNoNumbers (now (D.history disk)).reads }
-    ensures ends { result.opened ≡ true → result.cause ≢ Why.Memory → EndsBy result.journal.items result.cause }
-    ensures caused { ClosesRun (D.faults disk) (D.faults result.disk) result.journal.items result.cause }
-    ensures source { S.faults input.old ≤ S.faults input.new }
-    ensures left_alone { D.observable ≡ true → LeavesUnreadable result.cause (D.history disk) (D.history result.disk) }
-{
-    match read_request(alloc, args, input) {
-        Ok(RunRequest { config, plan }) => run_plan(alloc, disk, config, plan),
-        Err(cause) => unopened(alloc, cause, disk),
     }
 }

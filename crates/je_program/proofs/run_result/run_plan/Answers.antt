@@ -9,15 +9,16 @@ use Rattle.engine.specs.Crash.{KeepsEntry}
 use Rattle.engine.proofs.LengthLaws.{entry_lengths, lengths_kept}
 use Rattle.engine.specs.Opening.{reach_in}
 use Rattle.je_program.specs.Crash.{IsSafeProgram}
-use Rattle.je_program.specs.Program.{EndsBy, ClosesRun, IsRunOf, RunsIf, cause_of_opening, is_before_disk}
+use Rattle.je_program.specs.Commands.{ends_soak}
+use Rattle.je_program.specs.Program.{EndsBy, ClosesRun, IsRunOf, RunsIf, cause_of_opening}
 use Rattle.script_run.specs.Lines.{AreFirstLines, of_maintenance, of_session}
 use Rattle.je_program.proofs.BeginLaws.{beginning, begins, opened_as_one, starts_valid}
-use Rattle.je_program.proofs.FinishLaws.{done_acknowledged, done_is_no_memory, ran_cause, runs_if, ran_after_reading, ran_not_unreadable, ran_not_wrong, ends_by, memory_left, well_since}
+use Rattle.je_program.proofs.FinishLaws.{done_acknowledged, done_is_no_memory, ran_cause, runs_if, ran_ends, ran_not_unreadable, ran_not_wrong, ends_by, memory_left, well_since}
 use Rattle.script_run.proofs.Pushed.{bounded_far, caused_earlier, synced_all}
 use Rattle.je_program.specs.declared.cause.Cause.{Cause}
 use Rattle.je_program.specs.Untouched.{LeavesUnreadable}
 use Rattle.je_program.proofs.ReplayLaws.{run_fronts_indexed, run_never_cycles, run_replays, run_stays_indexed}
-use Rattle.je_program.proofs.StopLaws.{stopped_after_reading, stopped_caused, stopped_failed, stopped_numbers, stopped_runs, stopped_unreadable, stopped_wrong}
+use Rattle.je_program.proofs.StopLaws.{stopped_ends, stopped_caused, stopped_failed, stopped_numbers, stopped_runs, stopped_unreadable, stopped_wrong}
 use Rattle.je_program.proofs.UntouchedLaws.{ran_alone, stopped_alone}
 use Rattle.je_program.proofs.run_result.run_plan.Goals as goal
 
@@ -26,10 +27,10 @@ returns-in-Ok-clause-runs g c =
     let f = c.finish in
     runs_if f.result.cause f.result.opened (ran_cause c.run-running.result.recorded.journal.items c.run-running.result.memory_ended f.result.cause f.ensures.memory f.ensures.ends) f.ensures.opened
 
-pub returns-in-Ok-clause-after_reading : goal.returns-in-Ok-clause-after_reading
-returns-in-Ok-clause-after_reading g c =
+pub returns-in-Ok-clause-causes : goal.returns-in-Ok-clause-causes
+returns-in-Ok-clause-causes g c =
     let f = c.finish in
-    ran_after_reading f.result.cause (ran_cause c.run-running.result.recorded.journal.items c.run-running.result.memory_ended f.result.cause f.ensures.memory f.ensures.ends)
+    ran_ends f.result.cause (ran_cause c.run-running.result.recorded.journal.items c.run-running.result.memory_ended f.result.cause f.ensures.memory f.ensures.ends)
 
 pub run-running-requires-clause-start : goal.run-running-requires-clause-start
 run-running-requires-clause-start g c =
@@ -177,8 +178,8 @@ returns-in-Err-clause-runs g c =
     subst (λ (why : Cause). RunsIf why c.unopened.result.opened) (sym (c.unopened.ensures.cause ∙ c.opening_cause-cause.ensures))
     (stopped_runs c.in-Err.field-0.error c.unopened.result.opened c.unopened.ensures.opened)
 
-pub returns-in-Err-clause-after_reading : goal.returns-in-Err-clause-after_reading
-returns-in-Err-clause-after_reading g c = ap is_before_disk (c.unopened.ensures.cause ∙ c.opening_cause-cause.ensures) ∙ stopped_after_reading c.in-Err.field-0.error
+pub returns-in-Err-clause-causes : goal.returns-in-Err-clause-causes
+returns-in-Err-clause-causes g c = ap ends_soak (c.unopened.ensures.cause ∙ c.opening_cause-cause.ensures) ∙ stopped_ends c.in-Err.field-0.error
 
 pub returns-in-Err-clause-unreadable : goal.returns-in-Err-clause-unreadable
 returns-in-Err-clause-unreadable g c = λ corruption is observed.

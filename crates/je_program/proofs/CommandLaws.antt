@@ -1,0 +1,398 @@
+-- What a program came to, command by command.
+use Rattle.std.proofs.Common.{◌≡◌, ◌≢◌, ◌<◌, ◌≤◌, ◌⊎◌, ◌∙◌, ℕ, Bool, true, false, true≢false, List, [], Option, None, Some, IfSome, Result, Ok, Err, is_some, length, refl, ap, sym, subst, inl, inr, arith}
+use Rattle.je_order.specs.Counts.{HasRisen, HasRisen as Failing}
+use Rattle.je_disk.specs.Moments.{History, now}
+use Rattle.je_disk.specs.States.{Files}
+use Rattle.store_model.specs.declared.event.Event.{Event}
+use Rattle.store_model.specs.declared.plan.RunPlan.{RunPlan}
+use Rattle.store_model.specs.declared.totals.Totals.{Totals}
+use Rattle.store_model.specs.Store.{no_databases}
+use Rattle.store_model.specs.Journal.{is_disk_fault}
+use Rattle.je_answers.specs.Journal.{has_answer}
+use Rattle.log_replay.specs.declared.corruption.Corruption.{Corruption}
+use Rattle.log_replay.specs.Indexed.{wrong_index}
+use Rattle.log_meaning.specs.Meaning.{Meaning}
+use Rattle.engine.specs.Crash.{KeepsEntry}
+use Rattle.engine.specs.Files.{HasCorruption, HasWrongIndex, Means}
+use Rattle.engine.specs.Untouched.{IsUntouched}
+use Rattle.engine.proofs.EntryLaws.{entry_none, entry_still}
+use Rattle.engine.proofs.UntouchedLaws.{untouched_itself}
+use Rattle.script_text.specs.Grammar.{plan_of}
+use Rattle.command_line.specs.declared.command.RunSettings.{RunSettings}
+use Rattle.command_line.specs.declared.command.Command.{Command}
+use Rattle.command_line.specs.declared.command.Command.TheVariants.{Run, Soak, PrintLog}
+use Rattle.log_printer.specs.Reading.{HasNoFile}
+use Rattle.je_program.specs.declared.cause.Cause.{Cause}
+use Rattle.je_program.specs.declared.cause.Cause.TheVariants.{Done, Usage, BadScript, Disk, Unreadable, WrongIndex, Memory, NoEnvironment, Input, InputTooLong, LogFull, IdsEnded}
+use Rattle.je_program.specs.declared.reading.TheConstants.{MOST_INPUT}
+use Rattle.je_program.specs.declared.run_result.RunResult.{RunResult}
+use Rattle.je_program.specs.declared.text.Text.{Text}
+use Rattle.je_program.specs.declared.text.Text.TheVariants.{Nothing, Log}
+use Rattle.je_program.specs.Commands.{AreReady, AreSound, CanBeOpened, EndsRun, EndsWell, HasInput, IsFound, IsLogText, IsTextOf, ReadsInput, ReadsPlan, ends_reading, ends_script, ends_soak, ends_unparsed, may_end, needs_environment, opens, reads_input, text_of}
+use Rattle.je_program.specs.Printing.{IsPrinted}
+use Rattle.je_program.specs.Program.{ClosesRun, IsNoRequest, IsStopped, RunsBy, RunsIf, is_before_disk}
+use Rattle.je_program.specs.Unprinted.{ComesTo}
+use Rattle.je_program.proofs.EndLaws.{completes, finds, finds_wrong, past_input, reads_damage, reads_nothing, reads_well}
+use Rattle.je_program.proofs.UntouchedLaws.{left_alone}
+
+-- ---- a command that opens the environment
+
+pub life_may : (command : Option Command) (cause : Cause) → opens command ≡ true → ends_soak cause ≡ true → may_end command cause ≡ true
+life_may None cause opened may = cc
+life_may (Some (Run settings)) Usage opened may = may
+life_may (Some (Run settings)) NoEnvironment opened may = may
+life_may (Some (Run settings)) cause opened may = refl
+life_may (Some (Soak seed settings)) cause opened may = may
+life_may (Some PrintLog) cause opened may = cc
+
+pub past_reading : (left : Option (List ℕ)) (before after : ℕ) (cause : Cause) → ends_soak cause ≡ true → IsStopped left before after cause
+past_reading left before after Input may = cc
+past_reading left before after InputTooLong may = cc
+past_reading left before after (BadScript line) may = cc
+past_reading left before after cause may = tt
+
+pub after_input : (cause : Cause) → ends_soak cause ≡ true → is_before_disk cause ≡ false
+after_input Usage may = absurd (true≢false (sym may))
+after_input (BadScript line) may = absurd (true≢false (sym may))
+after_input Input may = absurd (true≢false (sym may))
+after_input InputTooLong may = absurd (true≢false (sym may))
+after_input cause may = refl
+
+pub life_unread : (command : Option Command) (left rest : Option (List ℕ)) → ReadsInput command left rest → reads_input command ≡ false → rest ≡ left
+life_unread None left rest read none = read
+life_unread (Some (Run settings)) left rest read none = cc
+life_unread (Some (Soak seed settings)) left rest read none = read
+life_unread (Some PrintLog) left rest read none = read
+
+pub life_is_no_reading : {A : Type 0} (command : Option Command) → opens command ≡ true → command ≡ Some PrintLog → A
+life_is_no_reading command opened is = absurd (true≢false (sym opened ∙ ap opens is))
+
+pub life_none : {A : Type 0} (cause : Cause) → ends_soak cause ≡ true → cause ≡ NoEnvironment → A
+life_none cause may is = absurd (true≢false (sym may ∙ ap ends_soak is))
+
+pub life_found : (command : Option Command) (files : Files) (corruption : Corruption) → opens command ≡ true → HasCorruption files corruption → IsFound command files corruption
+life_found None files corruption opened has = has
+life_found (Some (Run settings)) files corruption opened has = has
+life_found (Some (Soak seed settings)) files corruption opened has = has
+life_found (Some PrintLog) files corruption opened has = cc
+
+pub life_runs : (command : Option Command) (cause : Cause) (is_opened : Bool) → opens command ≡ true → RunsIf cause is_opened → RunsBy (opens command) cause is_opened
+life_runs command cause is_opened opened runs = subst (λ (b : Bool). RunsBy b cause is_opened) (sym opened) runs
+
+-- ---- nothing was to do
+
+none_may : (command : Option Command) (left : Option (List ℕ)) (before after : ℕ) (cause : Cause) → IsNoRequest command left before after cause → may_end command cause ≡ true
+none_may command left before after Usage none = ap (λ (k : Option Command). may_end k Usage) none
+none_may None left before after Memory none = refl
+none_may (Some (Run settings)) left before after Memory none = refl
+none_may (Some (Soak seed settings)) left before after Memory none = refl
+none_may (Some PrintLog) left before after Memory none = refl
+none_may (Some (Run settings)) left before after Input none = refl
+none_may (Some (Run settings)) left before after InputTooLong none = refl
+none_may (Some (Run settings)) left before after (BadScript line) none = refl
+none_may None left before after cause none = absurd (true≢false (sym none.0))
+none_may (Some (Soak seed settings)) left before after cause none = absurd (true≢false (sym none.0))
+none_may (Some PrintLog) left before after cause none = absurd (true≢false (sym none.0))
+none_may (Some (Run settings)) left before after cause none = absurd none.1
+
+none_stopped : (command : Option Command) (left : Option (List ℕ)) (before after : ℕ) (cause : Cause) → IsNoRequest command left before after cause → IsStopped left before after cause
+none_stopped command left before after Input none = none.1
+none_stopped command left before after InputTooLong none = none.1
+none_stopped command left before after (BadScript line) none = none.1
+none_stopped command left before after cause none = tt
+
+-- the causes with which nothing was to do
+abbrev IsEarly : Cause → Type 0
+IsEarly Usage = Unit {0}
+IsEarly Memory = Unit {0}
+IsEarly Input = Unit {0}
+IsEarly InputTooLong = Unit {0}
+IsEarly (BadScript line) = Unit {0}
+IsEarly cause = ⊥
+
+early : (command : Option Command) (left : Option (List ℕ)) (before after : ℕ) (cause : Cause) → IsNoRequest command left before after cause → IsEarly cause
+early command left before after Usage none = tt
+early command left before after Memory none = tt
+early command left before after Input none = tt
+early command left before after InputTooLong none = tt
+early command left before after (BadScript line) none = tt
+early command left before after cause none = none.1
+
+not_early : (cause other : Cause) → IsEarly cause → cause ≡ other → IsEarly other
+not_early cause other is same = subst IsEarly same is
+
+early_before : (cause : Cause) → IsEarly cause → is_before_disk cause ≡ false → cause ≡ Memory
+early_before Usage is after = absurd (true≢false after)
+early_before Memory is after = refl
+early_before Input is after = absurd (true≢false after)
+early_before InputTooLong is after = absurd (true≢false after)
+early_before (BadScript line) is after = absurd (true≢false after)
+early_before cause is after = absurd is
+
+early_runs : (opening : Bool) (cause : Cause) → IsEarly cause → RunsBy opening cause false
+early_runs false cause is = refl
+early_runs true Usage is = refl
+early_runs true Memory is = tt
+early_runs true Input is = refl
+early_runs true InputTooLong is = refl
+early_runs true (BadScript line) is = refl
+early_runs true cause is = absurd is
+
+early_log : (cause : Cause) (observable : Bool) (files : Files) → IsEarly cause → IsLogText cause observable files []
+early_log Done observable files is = absurd is
+early_log cause observable files is = refl
+
+early_text : (command : Option Command) (observable : Bool) (files : Files) (cause : Cause) (journal : List Event) (totals : Totals) → IsEarly cause →
+    IsTextOf command (record { observable = observable; files = files; opened = false; journal = journal; totals = totals; cause = cause }) []
+early_text None observable files cause journal totals is = refl
+early_text (Some (Run settings)) observable files cause journal totals is = refl
+early_text (Some (Soak seed settings)) observable files cause journal totals is = refl
+early_text (Some PrintLog) observable files cause journal totals is = early_log cause observable files is
+
+-- a program without a journal, whose disk failed only where its count rose
+unrun : (before after : ℕ) (journal : List Event) (cause : Cause) → before ≤ after → journal ≡ [] → (cause ≡ Disk → HasRisen before after) → ClosesRun before after journal cause
+unrun before after journal cause later none failed = record {
+  never_falls = later;
+  fault = λ h. (let e : has_answer is_disk_fault [] ≡ true = sym (ap (has_answer is_disk_fault) none) ∙ h in cc);
+  failed = failed;
+}
+
+module _ {D : Type 0} (observable : Bool) (history : D → History) (faults : D → ℕ) where
+  -- the arguments or the input gave nothing to do
+  pub none_comes : (command : Option Command) (left rest : Option (List ℕ)) (before after : ℕ) (disk : D) (r : RunResult D) → IsNoRequest command left before after r.cause →
+      (reads_input command ≡ false → rest ≡ left) → before ≤ after → r.opened ≡ false → r.disk ≡ disk → r.journal.items ≡ [] → r.opening ≡ no_databases →
+      ComesTo command observable history faults left rest before after disk r Nothing
+  none_comes command left rest before after disk r none unread later shut same no_journal nothing =
+      let is = early command left before after r.cause none in
+      let still : (d : D) → d ≡ disk → IsUntouched (history disk) (history d) = λ d e. subst (λ (d : D). IsUntouched (history disk) (history d)) (sym e) (untouched_itself (history disk)) in
+      record {
+        may = none_may command left before after r.cause none;
+        stopped = none_stopped command left before after r.cause none;
+        read = λ after_input other. absurd (other (early_before r.cause is after_input));
+        unread = unread;
+        given = λ opened. absurd (true≢false (sym opened ∙ shut));
+        untouched = λ before_disk. same;
+        runs = subst (λ (b : Bool). RunsBy (opens command) r.cause b) (sym shut) (early_runs (opens command) r.cause is);
+        run = λ opened. absurd (true≢false (sym opened ∙ shut));
+        unopened = λ none_opened. (nothing, no_journal);
+        unreadable = λ corruption e. absurd (not_early r.cause (Unreadable corruption) is e);
+        sound = λ command_is e. absurd (not_early r.cause Done is e);
+        wrong_index = λ name e. absurd (not_early r.cause (WrongIndex name) is e);
+        ids_ended = λ e. absurd (not_early r.cause IdsEnded is e);
+        no_environment = λ e. absurd (not_early r.cause NoEnvironment is e);
+        ends = λ opened. absurd (true≢false (sym opened ∙ shut));
+        caused = unrun (faults disk) (faults r.disk) r.journal.items r.cause (subst (λ (d : D). faults disk ≤ faults d) (sym same) (omega arith)) no_journal (λ e. absurd (not_early r.cause Disk is e));
+        left_alone = λ observed. left_alone r.cause (history disk) (history r.disk) (still r.disk same);
+        reads_only = λ closed observed. still r.disk same;
+        crash_unopened = λ observed none_opened. subst (λ (d : D). KeepsEntry (history disk) (history d)) (sym same) (entry_none (history disk));
+        text_is = subst (λ (b : Bool). IsTextOf command (record { observable = observable; files = (now (history disk)).reads; opened = b; journal = r.journal.items; totals = r.totals; cause = r.cause }) [])
+            (sym shut) (early_text command observable (now (history disk)).reads r.cause r.journal.items r.totals is);
+        source = later;
+      }
+
+  -- ---- a log was to be printed
+
+  printed_log : (files : Files) (before after : ℕ) (cause : Cause) (text : Text) (opened : Bool) (journal : List Event) (totals : Totals) → ends_reading cause ≡ true → IsPrinted observable files before after cause text →
+      IsLogText cause observable files (text_of text opened journal totals)
+  printed_log files before after Done (Log lines) opened journal totals may printed = (printed.held, printed.are, printed.text)
+  printed_log files before after Done text opened journal totals may printed = absurd printed
+  printed_log files before after Disk text opened journal totals may printed = ap (λ (t : Text). text_of t opened journal totals) printed.1
+  printed_log files before after Memory text opened journal totals may printed = ap (λ (t : Text). text_of t opened journal totals) printed
+  printed_log files before after NoEnvironment text opened journal totals may printed = ap (λ (t : Text). text_of t opened journal totals) printed.1
+  printed_log files before after (Unreadable corruption) text opened journal totals may printed = ap (λ (t : Text). text_of t opened journal totals) printed.1
+  printed_log files before after cause text opened journal totals may printed = absurd printed
+
+  printed_sound : (files : Files) (before after : ℕ) (text : Text) → IsPrinted observable files before after Done text → observable ≡ true → AreSound files
+  printed_sound files before after (Log lines) printed observed = record { held = printed.held; are = printed.are observed; some = printed.some; none = printed.none }
+  printed_sound files before after text printed observed = absurd printed
+
+  reading_stopped : (left : Option (List ℕ)) (before after : ℕ) (cause : Cause) → ends_reading cause ≡ true → IsStopped left before after cause
+  reading_stopped left before after Input is = cc
+  reading_stopped left before after InputTooLong is = cc
+  reading_stopped left before after (BadScript line) is = cc
+  reading_stopped left before after cause is = tt
+
+  reading_after : (cause : Cause) → ends_reading cause ≡ true → is_before_disk cause ≡ false
+  reading_after Usage is = absurd (true≢false (sym is))
+  reading_after Input is = absurd (true≢false (sym is))
+  reading_after InputTooLong is = absurd (true≢false (sym is))
+  reading_after (BadScript line) is = absurd (true≢false (sym is))
+  reading_after cause is = refl
+
+  pub print_comes : (left : Option (List ℕ)) (before after : ℕ) (disk : D) (r : RunResult D) (text : Text) → before ≤ after → ends_reading r.cause ≡ true →
+      IsPrinted observable (now (history disk)).reads (faults disk) (faults r.disk) r.cause text → r.opened ≡ false → r.journal.items ≡ [] → r.opening ≡ no_databases →
+      (observable ≡ true → IsUntouched (history disk) (history r.disk)) → faults disk ≤ faults r.disk →
+      ComesTo (Some PrintLog) observable history faults left left before after disk r text
+  print_comes left before after disk r text later may printed shut no_journal nothing untouched never_falls =
+      let files = (now (history disk)).reads in
+      let at : (cause : Cause) → r.cause ≡ cause → IsPrinted observable files (faults disk) (faults r.disk) cause text = λ cause e. subst (λ (c : Cause). IsPrinted observable files (faults disk) (faults r.disk) c text) e printed in
+      let other : (cause : Cause) → r.cause ≡ cause → ends_reading cause ≡ true = λ cause e. subst (λ (c : Cause). ends_reading c ≡ true) e may in
+      record {
+        may = may;
+        stopped = reading_stopped left before after r.cause may;
+        read = λ after_input other_. refl;
+        unread = λ none. refl;
+        given = λ opened. absurd (true≢false (sym opened ∙ shut));
+        untouched = λ before_disk. absurd (true≢false (sym before_disk ∙ reading_after r.cause may));
+        runs = shut;
+        run = λ opened. absurd (true≢false (sym opened ∙ shut));
+        unopened = λ none_opened. (nothing, no_journal);
+        unreadable = λ corruption e observed. (let damage = (at (Unreadable corruption) e).0 in record { held = damage.held; are = damage.are observed; found = damage.found });
+        sound = λ command_is e observed. printed_sound files (faults disk) (faults r.disk) text (at Done e) observed;
+        wrong_index = λ name e. absurd (true≢false (sym (other (WrongIndex name) e)));
+        ids_ended = λ e. absurd (true≢false (sym (other IdsEnded e)));
+        no_environment = λ e. (at NoEnvironment e).0;
+        ends = λ opened. absurd (true≢false (sym opened ∙ shut));
+        caused = unrun (faults disk) (faults r.disk) r.journal.items r.cause never_falls no_journal (λ e. (at Disk e).0);
+        left_alone = λ observed. left_alone r.cause (history disk) (history r.disk) (untouched observed);
+        reads_only = λ closed. untouched;
+        crash_unopened = λ observed none_opened. (let u = untouched observed in entry_still (history disk) (history r.disk) u.moments u.same);
+        text_is = printed_log files (faults disk) (faults r.disk) r.cause text r.opened r.journal.items r.totals may printed;
+        source = later;
+      }
+
+-- ---- the clauses of the top call
+
+read_bytes : (left rest : Option (List ℕ)) (plan : RunPlan) (bytes : List ℕ) → ReadsPlan left rest plan → left ≡ Some bytes → (length bytes ≤ MOST_INPUT) × (plan_of bytes ≡ Ok plan)
+read_bytes (Some l) (Some r) plan bytes read is = (let same : l ≡ bytes = cc in subst (λ (b : List ℕ). (length b ≤ MOST_INPUT) × (plan_of b ≡ Ok plan)) same (read.0, read.1))
+read_bytes (Some l) None plan bytes read is = absurd read
+read_bytes None rest plan bytes read is = cc
+
+module _ (left rest : Option (List ℕ)) (before after : ℕ) where
+  -- an input that is too long
+  too_much : (bytes : List ℕ) → left ≡ Some bytes → MOST_INPUT < length bytes → (plan : RunPlan) × ReadsPlan left rest plan → ⊥
+  too_much bytes is long has = (let short = (read_bytes left rest has.0 bytes has.1 is).0 in omega (arith, short, long))
+
+  too_long_by : (cause : Cause) (bytes : List ℕ) → left ≡ Some bytes → MOST_INPUT < length bytes → ends_script cause ≡ true → IsStopped left before after cause →
+      (is_before_disk cause ≡ false → cause ≢ Memory → (plan : RunPlan) × ReadsPlan left rest plan) → (cause ≡ InputTooLong) ⊎ (cause ≡ Memory) ⊎ Failing before after
+  too_long_by Usage bytes is long may stopped read = cc
+  too_long_by NoEnvironment bytes is long may stopped read = cc
+  too_long_by Input bytes is long may stopped read = inr (inr stopped)
+  too_long_by InputTooLong bytes is long may stopped read = inl refl
+  too_long_by Memory bytes is long may stopped read = inr (inl refl)
+  too_long_by (BadScript line) bytes is long may stopped read =
+      let here = subst (λ (o : Option (List ℕ)). IfSome o (λ b. (length b ≤ MOST_INPUT) × (plan_of b ≡ Err line))) is stopped in
+      absurd (omega (arith, here.0, long))
+  too_long_by cause bytes is long may stopped read = absurd (too_much bytes is long (read refl (λ e. cc)))
+
+  -- the line that a reading names
+  abbrev line_or : Result RunPlan ℕ → ℕ
+  line_or (Ok plan) = 0
+  line_or (Err line) = line
+
+  -- an input with a first bad line
+  not_plan : (bytes : List ℕ) (line : ℕ) → left ≡ Some bytes → plan_of bytes ≡ Err line → (plan : RunPlan) × ReadsPlan left rest plan → ⊥
+  not_plan bytes line is bad has = (let e : Ok has.0 ≡ Err line = sym (read_bytes left rest has.0 bytes has.1 is).1 ∙ bad in cc)
+
+  bad_line_by : (cause : Cause) (bytes : List ℕ) (line : ℕ) → left ≡ Some bytes → length bytes ≤ MOST_INPUT → plan_of bytes ≡ Err line → ends_script cause ≡ true → IsStopped left before after cause →
+      (is_before_disk cause ≡ false → cause ≢ Memory → (plan : RunPlan) × ReadsPlan left rest plan) → (cause ≡ BadScript line) ⊎ (cause ≡ Memory) ⊎ Failing before after
+  bad_line_by Usage bytes line is short bad may stopped read = cc
+  bad_line_by NoEnvironment bytes line is short bad may stopped read = cc
+  bad_line_by Input bytes line is short bad may stopped read = inr (inr stopped)
+  bad_line_by InputTooLong bytes line is short bad may stopped read =
+      let here = subst (λ (o : Option (List ℕ)). IfSome o (λ b. MOST_INPUT < length b)) is stopped in
+      absurd (omega (arith, here, short))
+  bad_line_by Memory bytes line is short bad may stopped read = inr (inl refl)
+  bad_line_by (BadScript other) bytes line is short bad may stopped read =
+      let here = subst (λ (o : Option (List ℕ)). IfSome o (λ b. (length b ≤ MOST_INPUT) × (plan_of b ≡ Err other))) is stopped in
+      inl (ap BadScript (ap line_or (sym here.1 ∙ bad)))
+  bad_line_by cause bytes line is short bad may stopped read = absurd (not_plan bytes line is bad (read refl (λ e. cc)))
+
+module _ {D : Type 0} {observable : Bool} {history : D → History} {faults : D → ℕ} {left rest : Option (List ℕ)} {before after : ℕ} {disk : D} {r : RunResult D} {text : Text} where
+  -- a cause that is one of reading came by reading
+  pub came_stopped : {command : Option Command} {cause : Cause} → ComesTo command observable history faults left rest before after disk r text → r.cause ≡ cause → IsStopped left before after cause
+  came_stopped c is = subst (IsStopped left before after) is c.stopped
+
+  pub came_too_long : (command : Option Command) → ComesTo command observable history faults left rest before after disk r text → (bytes : List ℕ) → reads_input command ≡ true → left ≡ Some bytes →
+      MOST_INPUT < length bytes → (r.cause ≡ InputTooLong) ⊎ (r.cause ≡ Memory) ⊎ Failing before after
+  came_too_long None c bytes reads is long = cc
+  came_too_long (Some (Run settings)) c bytes reads is long = too_long_by left rest before after r.cause bytes is long c.may c.stopped c.read
+  came_too_long (Some (Soak seed settings)) c bytes reads is long = cc
+  came_too_long (Some PrintLog) c bytes reads is long = cc
+
+  pub came_bad : (command : Option Command) → ComesTo command observable history faults left rest before after disk r text → (settings : RunSettings) (bytes : List ℕ) (line : ℕ) → command ≡ Some (Run settings) →
+      left ≡ Some bytes → length bytes ≤ MOST_INPUT → plan_of bytes ≡ Err line → (r.cause ≡ BadScript line) ⊎ (r.cause ≡ Memory) ⊎ Failing before after
+  came_bad None c settings bytes line run is short bad = cc
+  came_bad (Some (Run settings)) c others bytes line run is short bad = bad_line_by left rest before after r.cause bytes line is short bad c.may c.stopped c.read
+  came_bad (Some (Soak seed settings)) c others bytes line run is short bad = cc
+  came_bad (Some PrintLog) c settings bytes line run is short bad = cc
+
+  -- where a run began its files meant something
+  began : (command : Option Command) → ComesTo command observable history faults left rest before after disk r text → observable ≡ true → r.opened ≡ true →
+      (meaning : Meaning) × Means (now (history disk)).reads meaning × (wrong_index meaning.store ≡ None)
+  began command c observed opened =
+      let starts = (c.run opened).3.starts in (
+        starts.meaning,
+        record { held = starts.held; are = starts.observed observed; reads = starts.means },
+        ap wrong_index starts.means_store ∙ sym starts.indexed.first,
+      )
+
+  run_ends : (command : Option Command) → ComesTo command observable history faults left rest before after disk r text → opens command ≡ true →
+      ((corruption : Corruption) → r.cause ≡ Unreadable corruption → observable ≡ true → HasCorruption (now (history disk)).reads corruption) → HasInput command left → observable ≡ true →
+      CanBeOpened (now (history disk)).reads → EndsRun r.cause r.opened r.journal.items ⊎ (r.cause ≡ Memory) ⊎ Failing before after ⊎ HasRisen (faults disk) (faults r.disk)
+  run_ends command c opened unreadable input observed can =
+      completes (now (history disk)).reads before after (faults disk) (faults r.disk) r.cause r.opened r.journal.items can (past_input command left before after r.cause opened input c.may c.stopped)
+      (subst (λ (b : Bool). RunsBy b r.cause r.opened) opened c.runs) (λ corruption is. unreadable corruption is observed) (λ name is. c.wrong_index name is observed) c.ends c.caused.failed
+
+  pub came_well : (command : Option Command) → ComesTo command observable history faults left rest before after disk r text → HasInput command left → observable ≡ true →
+      AreReady command (now (history disk)).reads → EndsWell command r.cause r.opened r.journal.items ⊎ (r.cause ≡ Memory) ⊎ Failing before after ⊎ HasRisen (faults disk) (faults r.disk)
+  came_well None c input observed ready = absurd input
+  came_well (Some (Run settings)) c input observed ready = run_ends (Some (Run settings)) c refl c.unreadable input observed ready
+  came_well (Some (Soak seed settings)) c input observed ready = run_ends (Some (Soak seed settings)) c refl c.unreadable input observed ready
+  came_well (Some PrintLog) c input observed ready =
+      reads_well (now (history disk)).reads before after (faults disk) (faults r.disk) r.cause ready c.may (λ corruption is. c.unreadable corruption is observed) (λ is. c.no_environment is observed) c.caused.failed
+
+  run_finds : (command : Option Command) → ComesTo command observable history faults left rest before after disk r text → opens command ≡ true →
+      ((corruption : Corruption) → r.cause ≡ Unreadable corruption → observable ≡ true → HasCorruption (now (history disk)).reads corruption) → (corruption : Corruption) → HasInput command left → observable ≡ true →
+      HasCorruption (now (history disk)).reads corruption → (r.cause ≡ Unreadable corruption) ⊎ (r.cause ≡ Memory) ⊎ Failing before after ⊎ HasRisen (faults disk) (faults r.disk)
+  run_finds command c opened unreadable corruption input observed has =
+      finds (now (history disk)).reads before after (faults disk) (faults r.disk) r.cause r.opened corruption has (past_input command left before after r.cause opened input c.may c.stopped)
+      (subst (λ (b : Bool). RunsBy b r.cause r.opened) opened c.runs) (λ f is. unreadable f is observed) (λ name is. c.wrong_index name is observed)
+      (λ is_opened. (let m = began command c observed is_opened in (m.0, m.1))) (λ is none. c.ids_ended is none observed) c.caused.failed
+
+  pub came_found : (command : Option Command) → ComesTo command observable history faults left rest before after disk r text → (corruption : Corruption) → HasInput command left → observable ≡ true →
+      IsFound command (now (history disk)).reads corruption → (r.cause ≡ Unreadable corruption) ⊎ (r.cause ≡ Memory) ⊎ Failing before after ⊎ HasRisen (faults disk) (faults r.disk)
+  came_found None c corruption input observed found = absurd input
+  came_found (Some (Run settings)) c corruption input observed found = run_finds (Some (Run settings)) c refl c.unreadable corruption input observed found
+  came_found (Some (Soak seed settings)) c corruption input observed found = run_finds (Some (Soak seed settings)) c refl c.unreadable corruption input observed found
+  came_found (Some PrintLog) c corruption input observed found =
+      reads_damage (now (history disk)).reads before after (faults disk) (faults r.disk) r.cause corruption found c.may (λ is. c.sound refl is observed) (λ f is. c.unreadable f is observed)
+      (λ is. c.no_environment is observed) c.caused.failed
+
+  run_finds_wrong : (command : Option Command) → ComesTo command observable history faults left rest before after disk r text → opens command ≡ true →
+      ((corruption : Corruption) → r.cause ≡ Unreadable corruption → observable ≡ true → HasCorruption (now (history disk)).reads corruption) → (name : List ℕ) → HasInput command left → observable ≡ true →
+      HasWrongIndex (now (history disk)).reads name → (r.cause ≡ WrongIndex name) ⊎ (r.cause ≡ Memory) ⊎ Failing before after ⊎ HasRisen (faults disk) (faults r.disk)
+  run_finds_wrong command c opened unreadable name input observed has =
+      finds_wrong (now (history disk)).reads before after (faults disk) (faults r.disk) r.cause r.opened name has (past_input command left before after r.cause opened input c.may c.stopped)
+      (subst (λ (b : Bool). RunsBy b r.cause r.opened) opened c.runs) (λ f is. unreadable f is observed) (λ other is. c.wrong_index other is observed)
+      (λ is_opened. began command c observed is_opened) (λ is none. c.ids_ended is none observed) c.caused.failed
+
+  pub came_wrong : (command : Option Command) → ComesTo command observable history faults left rest before after disk r text → (name : List ℕ) → HasInput command left → opens command ≡ true → observable ≡ true →
+      HasWrongIndex (now (history disk)).reads name → (r.cause ≡ WrongIndex name) ⊎ (r.cause ≡ Memory) ⊎ Failing before after ⊎ HasRisen (faults disk) (faults r.disk)
+  came_wrong None c name input opened observed has = absurd input
+  came_wrong (Some (Run settings)) c name input opened observed has = run_finds_wrong (Some (Run settings)) c refl c.unreadable name input observed has
+  came_wrong (Some (Soak seed settings)) c name input opened observed has = run_finds_wrong (Some (Soak seed settings)) c refl c.unreadable name input observed has
+  came_wrong (Some PrintLog) c name input opened observed has = cc
+
+  pub came_nothing : (command : Option Command) → ComesTo command observable history faults left rest before after disk r text → needs_environment command ≡ true → observable ≡ true →
+      HasNoFile (now (history disk)).reads → (r.cause ≡ NoEnvironment) ⊎ (r.cause ≡ Memory) ⊎ HasRisen (faults disk) (faults r.disk)
+  came_nothing None c needs observed none = cc
+  came_nothing (Some (Run settings)) c needs observed none = cc
+  came_nothing (Some (Soak seed settings)) c needs observed none = cc
+  came_nothing (Some PrintLog) c needs observed none =
+      reads_nothing (now (history disk)).reads before after (faults disk) (faults r.disk) r.cause none c.may (λ is. c.sound refl is observed) (λ f is. c.unreadable f is observed) c.caused.failed
+
+  pub came_usage : (command : Option Command) → ComesTo command observable history faults left rest before after disk r text → r.cause ≡ Usage → is_some command ≡ false
+  came_usage None c is = refl
+  came_usage (Some (Run settings)) c is = (let e : false ≡ true = sym (ap ends_script is) ∙ c.may in cc)
+  came_usage (Some (Soak seed settings)) c is = (let e : false ≡ true = sym (ap ends_soak is) ∙ c.may in cc)
+  came_usage (Some PrintLog) c is = (let e : false ≡ true = sym (ap ends_reading is) ∙ c.may in cc)
+
+  pub came_unparsed : (command : Option Command) → ComesTo command observable history faults left rest before after disk r text → is_some command ≡ false → (r.cause ≡ Usage) ⊎ (r.cause ≡ Memory)
+  came_unparsed None c none = unparsed r.cause c.may
+    where
+      unparsed : (cause : Cause) → ends_unparsed cause ≡ true → (cause ≡ Usage) ⊎ (cause ≡ Memory)
+      unparsed Usage may = inl refl
+      unparsed Memory may = inr refl
+      unparsed cause may = cc
+  came_unparsed (Some command) c none = cc

@@ -1,0 +1,66 @@
+use Rattle.std.proofs.Common.{◌≡◌, map, string_bytes, sym, ap, subst, true≢false, ◌∙◌, Option, Some, List, ℕ}
+use Rattle.je_disk.specs.Moments.{now}
+use Rattle.command_line.specs.declared.command.Command.{Command}
+use Rattle.command_line.specs.declared.command.Command.TheVariants.{PrintLog}
+use Rattle.command_line.specs.Arguments.{command_in}
+use Rattle.je_program.specs.Program.{IsNoRequest}
+use Rattle.je_program.specs.Request.{IsLife, IsRequestOf}
+use Rattle.je_program.specs.Unprinted.{ComesTo, work_of}
+use Rattle.je_program.proofs.CommandLaws.{after_input, life_found, life_is_no_reading, life_may, life_none, life_runs, life_unread, none_comes, past_reading, print_comes}
+use Rattle.je_program.proofs.unprinted.run_unprinted.Goals as goal
+
+pub returns-in-Ok-Life : goal.returns-in-Ok-Life
+returns-in-Ok-Life g c =
+    let command = command_in (map string_bytes c.args.args.now) in
+    let p = c.run_plan.ensures in
+    let r = c.run_plan.result in
+    let left = g.S.Source.left c.args.input.now in
+    let rest = g.S.Source.left c.read_request.new.input in
+    let life : IsLife command left rest c.in-Ok-Life.config c.in-Ok-Life.plan.lines c.in-Ok-Life.text = subst (IsRequestOf command left rest) c.in-Ok-Life.field-0-is c.in-Ok-Life.ensures.is in
+    let faults = g.S.Source.faults in
+    record {
+      may = life_may command r.cause life.opened p.causes;
+      stopped = past_reading left (faults c.args.input.now) (faults c.read_request.new.input) r.cause p.causes;
+      read = λ after other. life.read;
+      unread = life_unread command left rest life.read;
+      given = λ opened. record { lines = c.in-Ok-Life.plan.lines; are = life.are; all = p.lines opened; front = p.front opened; front_steps = p.front_steps opened };
+      untouched = λ before. absurd (true≢false (sym before ∙ after_input r.cause p.causes));
+      runs = life_runs command r.cause r.opened life.opened p.runs;
+      run = λ opened. (let ran = p.run opened in (c.in-Ok-Life.config.file_max, ran.0, life.file_max, ran.1));
+      unopened = p.unopened;
+      unreadable = λ corruption is observed. life_found command (now (g.D.Disk.history c.args.disk)).reads corruption life.opened (p.unreadable corruption is observed);
+      sound = λ is. life_is_no_reading command life.opened is;
+      wrong_index = p.wrong_index;
+      ids_ended = p.ids_ended;
+      no_environment = λ is. life_none r.cause p.causes is;
+      ends = p.ends;
+      caused = p.caused;
+      left_alone = p.left_alone;
+      reads_only = λ closed. absurd (true≢false (sym life.opened ∙ closed));
+      crash_unopened = p.crash_unopened;
+      text_is = life.text_is (work_of g.D.Disk.observable (now (g.D.Disk.history c.args.disk)).reads r);
+      source = c.in-Ok-Life.ensures.never_falls;
+    }
+
+pub returns-in-Ok-PrintLog : goal.returns-in-Ok-PrintLog
+returns-in-Ok-PrintLog g c =
+    let is = subst (IsRequestOf (command_in (map string_bytes c.args.args.now)) (g.S.Source.left c.args.input.now) (g.S.Source.left c.read_request.new.input)) c.in-Ok-PrintLog.field-0-is c.in-Ok-PrintLog.ensures.is in
+    let p = c.print_log.ensures in
+    let r = c.print_log.result.run in
+    let text = c.print_log.result.text in
+    let left = g.S.Source.left c.args.input.now in
+    let faults = g.S.Source.faults in
+    let observable = g.D.Disk.observable in
+    subst (λ (k : Option Command). ComesTo k observable g.D.Disk.history g.D.Disk.faults left (g.S.Source.left c.read_request.new.input) (faults c.args.input.now) (faults c.read_request.new.input) c.args.disk r text) (sym is.0)
+    (subst (λ (o : Option (List ℕ)). ComesTo (Some PrintLog) observable g.D.Disk.history g.D.Disk.faults left o (faults c.args.input.now) (faults c.read_request.new.input) c.args.disk r text) (sym is.1)
+    (print_comes observable g.D.Disk.history g.D.Disk.faults left (faults c.args.input.now) (faults c.read_request.new.input) c.args.disk r text c.in-Ok-PrintLog.ensures.never_falls p.cause p.printed p.opened p.journal p.opening p.untouched p.never_falls))
+
+pub returns-in-Err : goal.returns-in-Err
+returns-in-Err g c =
+    let command = command_in (map string_bytes c.args.args.now) in
+    let e = c.in-Err.ensures in
+    let u = c.unopened.ensures in
+    let left = g.S.Source.left c.args.input.now in
+    let faults = g.S.Source.faults in
+    none_comes g.D.Disk.observable g.D.Disk.history g.D.Disk.faults command left (g.S.Source.left c.read_request.new.input) (faults c.args.input.now) (faults c.read_request.new.input) c.args.disk c.unopened.result
+    (subst (IsNoRequest command left (faults c.args.input.now) (faults c.read_request.new.input)) (sym u.cause) e.none) e.unread e.never_falls u.opened u.disk u.journal u.opening

@@ -1,0 +1,49 @@
+-- What a program came to before its output is written.
+use Rattle.std.specs.Prelude.{ℕ, ◌≡◌, ◌≢◌, ◌≤◌, [], List, Option, Some, Bool, true, false}
+use Rattle.je_disk.specs.Moments.{History, now}
+use Rattle.je_disk.specs.States.{Files}
+use Rattle.store_model.specs.Store.{no_databases}
+use Rattle.je_answers.specs.Standing.{Standing}
+use Rattle.log_replay.specs.declared.corruption.Corruption.{Corruption}
+use Rattle.engine.specs.Crash.{KeepsEntry}
+use Rattle.engine.specs.Files.{HasWrongIndex}
+use Rattle.engine.specs.Opening.{HasNoNumbers}
+use Rattle.engine.specs.Untouched.{IsUntouched}
+use Rattle.command_line.specs.declared.command.Command.{Command}
+use Rattle.command_line.specs.declared.command.Command.TheVariants.{PrintLog}
+use Rattle.log_printer.specs.Reading.{HasNoFile}
+use Rattle.je_program.specs.declared.cause.Cause.{Cause}
+use Rattle.je_program.specs.declared.cause.Cause.TheVariants.{Done, Unreadable, WrongIndex, Memory, NoEnvironment, IdsEnded}
+use Rattle.je_program.specs.declared.run_result.RunResult.{RunResult}
+use Rattle.je_program.specs.declared.text.Text.{Text}
+use Rattle.je_program.specs.Commands.{AreSound, IsFound, IsGivenTo, IsTextOf, ReadsInput, Work, file_max_of, may_end, opens, reads_input, text_of}
+use Rattle.je_program.specs.Program.{ClosesRun, EndsBy, IsRunOf, IsStopped, RunsBy, is_before_disk}
+use Rattle.je_program.specs.Untouched.{LeavesUnreadable}
+
+-- the work of a program that came to this, over a disk with these files at entry
+abbrev pub work_of : {D : Type 0} → Bool → Files → RunResult D → Work
+work_of observable files r = record { observable = observable; files = files; opened = r.opened; journal = r.journal.items; totals = r.totals; cause = r.cause }
+
+-- what a command came to, of which so much of the input was left and is, over a disk: each part is a clause of the top call
+pub record ComesTo {D : Type 0} (command : Option Command) (observable : Bool) (history : D → History) (faults : D → ℕ) (left rest : Option (List ℕ)) (before after : ℕ) (disk : D) (r : RunResult D) (text : Text) : Type 0 where
+  pub may : may_end command r.cause ≡ true
+  pub stopped : IsStopped left before after r.cause
+  pub read : is_before_disk r.cause ≡ false → r.cause ≢ Memory → ReadsInput command left rest
+  pub unread : reads_input command ≡ false → rest ≡ left
+  pub given : r.opened ≡ true → IsGivenTo command left rest r.journal.items r.cause
+  pub untouched : is_before_disk r.cause ≡ true → r.disk ≡ disk
+  pub runs : RunsBy (opens command) r.cause r.opened
+  pub run : r.opened ≡ true → (file_max : ℕ) × (st : Standing) × (file_max_of command ≡ Some file_max) × IsRunOf file_max observable (history disk) (history r.disk) (faults disk) (faults r.disk) r.opening r.totals r.journal.items r.cause st
+  pub unopened : r.opened ≡ false → (r.opening ≡ no_databases) × (r.journal.items ≡ [])
+  pub unreadable : (corruption : Corruption) → r.cause ≡ Unreadable corruption → observable ≡ true → IsFound command (now (history disk)).reads corruption
+  pub sound : command ≡ Some PrintLog → r.cause ≡ Done → observable ≡ true → AreSound (now (history disk)).reads
+  pub wrong_index : (name : List ℕ) → r.cause ≡ WrongIndex name → observable ≡ true → HasWrongIndex (now (history disk)).reads name
+  pub ids_ended : r.cause ≡ IdsEnded → r.opened ≡ false → observable ≡ true → HasNoNumbers (now (history disk)).reads
+  pub no_environment : r.cause ≡ NoEnvironment → observable ≡ true → HasNoFile (now (history disk)).reads
+  pub ends : r.opened ≡ true → r.cause ≢ Memory → EndsBy r.journal.items r.cause
+  pub caused : ClosesRun (faults disk) (faults r.disk) r.journal.items r.cause
+  pub left_alone : observable ≡ true → LeavesUnreadable r.cause (history disk) (history r.disk)
+  pub reads_only : opens command ≡ false → observable ≡ true → IsUntouched (history disk) (history r.disk)
+  pub crash_unopened : observable ≡ true → r.opened ≡ false → KeepsEntry (history disk) (history r.disk)
+  pub text_is : IsTextOf command (work_of observable (now (history disk)).reads r) (text_of text r.opened r.journal.items r.totals)
+  pub source : before ≤ after

@@ -1,0 +1,41 @@
+// A program's work, up to its output.
+ghost use Rattle.std.specs.Prelude.{map, string_bytes};
+ghost use Rattle.command_line.specs.Arguments.{command_in};
+ghost use Rattle.je_program.specs.Unprinted.{ComesTo};
+
+use crate::print_log::print_log;
+use crate::request::{Request, read_request};
+use crate::run_result::{RunResult, run_plan, unopened};
+use crate::text::Text;
+use je_disk::Disk;
+use je_io::Source;
+use std::alloc::Global;
+
+/// What a program came to before its output is written, and what it has to write before its fault line.
+pub struct Unprinted<D> {
+    pub run: RunResult<D>,
+    pub text: Text,
+}
+
+/// Does all that a program does but its output: looks at its arguments, reads its input if the command has
+/// one, and does what the command asks for over the disk.
+pub fn run_unprinted<D: Disk, S: Source>(
+    alloc: Global,
+    args: &[String],
+    disk: D,
+    input: &mut S,
+) -> Unprinted<D>
+    ensures { ComesTo (command_in (map string_bytes args.now)) D.observable D.history D.faults (S.left input.old) (S.left input.new) (S.faults input.old) (S.faults input.new) disk result.run result.text }
+{
+    match read_request(alloc, args, input) {
+        Ok(Request::Life { config, plan, text }) => Unprinted {
+            run: run_plan(alloc, disk, config, plan),
+            text,
+        },
+        Ok(Request::PrintLog) => print_log(alloc, disk),
+        Err(cause) => Unprinted {
+            run: unopened(alloc, cause, disk),
+            text: Text::Nothing,
+        },
+    }
+}
