@@ -9,7 +9,7 @@ use std::process::Abort;
 use std::test::Fail;
 
 // The header of file 1.
-const HEADER_1: &[u8] = b"\
+pub const HEADER_1: &[u8] = b"\
 \x0c\xb4\x01\x32\
 \x01\
 \x00\
@@ -31,7 +31,7 @@ const HEADER_LAST: &[u8] = b"\
 \xff\xff\xff\xfe";
 
 // The header of file 0 in version 9 of the format.
-const HEADER_9: &[u8] = b"\
+pub const HEADER_9: &[u8] = b"\
 \x0c\xdb\x01\x39\
 \x01\
 \x00\
@@ -42,7 +42,7 @@ const HEADER_9: &[u8] = b"\
 \x00\x00\x00\x00";
 
 // A log whose transaction 1 puts the database t into the catalog with number 0, which is none.
-const NO_NUMBER: &[u8] = b"\
+pub const NO_NUMBER: &[u8] = b"\
 \x0c\xb3\x01\x31\
 \x01\
 \x00\

@@ -27,6 +27,8 @@ mod index_locks;
 #[cfg(test)]
 mod indexes;
 #[cfg(test)]
+mod log_lines;
+#[cfg(test)]
 mod phantoms;
 #[cfg(test)]
 mod range_phantoms;
@@ -34,6 +36,8 @@ mod range_phantoms;
 mod reopened;
 #[cfg(test)]
 mod reports;
+#[cfg(test)]
+mod soaks;
 #[cfg(test)]
 mod splitting;
 #[cfg(test)]
