@@ -82,6 +82,7 @@ number_read text = if is_unsigned_in 0 4294967295 text then Some (decimal_value 
 abbrev pub number_of : Text → List Row → Option ℕ
 number_of name rows = option_and_then number_read (one_of name rows)
 
+-- settings of these two numbers
 abbrev pub settings_with : ℕ → ℕ → RunSettings
 settings_with file_max fanout = record { file_max = file_max; fanout = fanout }
 

@@ -33,6 +33,7 @@ keyed_call draw key = if draw == 4 then Get (codes "t") (key ∷ []) false else 
 abbrev pub put_drawn : ℕ → ℕ → ℕ → Call
 put_drawn draw key value = Put (if draw == 6 then codes "u" else codes "t") (key ∷ []) (value ∷ []) Overwrite
 
+-- a call, and the last number that was drawn for it
 abbrev pub drawn_with : Call → ℕ → DrawnCall
 drawn_with call number = record { call = call; number = number }
 
