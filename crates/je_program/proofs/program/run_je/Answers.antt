@@ -43,7 +43,7 @@ pub returns-clause-no_environment_found : goal.returns-clause-no_environment_fou
 returns-clause-no_environment_found g c = came_nothing (command_in (map string_bytes c.args.args.now)) c.run_unprinted-run.ensures
 
 pub returns-clause-written : goal.returns-clause-written
-returns-clause-written g c = (_, c.run_unprinted-run.ensures.text_is, c.write_output-status.ensures.written)
+returns-clause-written g c = (_, c.run_unprinted-run.ensures.text_is, rw c.deref.ensures.value at c.write_output-status.ensures.written)
 
 pub returns-clause-ids_ended : goal.returns-clause-ids_ended
 returns-clause-ids_ended g c = c.run_unprinted-run.ensures.ids_ended
