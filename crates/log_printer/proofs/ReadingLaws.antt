@@ -1,5 +1,5 @@
 -- A reading of the log for printing.
-use Rattle.std.proofs.Common.{◌≡◌, ◌≢◌, ℕ, suc, ◌==◌, ◌≤◌, ◌<◌, Bool, true, List, [], ◌∷◌, ◌++◌, Option, Some, None, Result, Ok, Err, map, length, refl, sym, ap, ap₂, subst, ◌∙◌, append_assoc, arith}
+use Rattle.std.proofs.Common.{◌≡◌, ◌≢◌, ℕ, suc, ◌==◌, ◌≤◌, ◌<◌, Bool, true, List, [], ◌∷◌, ◌++◌, Option, Some, None, Result, Ok, Err, is_some, map, length, refl, sym, ap, ap₂, subst, ◌∙◌, append_assoc, arith}
 use Rattle.std.specs.Prelude.{IfErr, IfOk, IsErrAnd}
 use Rattle.std.specs.List.{AllByRecursion, flat_map}
 use Rattle.std.proofs.lemmas.List.{append-nil}
@@ -177,7 +177,7 @@ log_stops observable before mid files first then_ after (Corrupt corruption) sam
 -- the listing failed
 pub listing_stops : {T U : Type 0} (observable : Bool) (reads : Files) (before after : ℕ) (r : Result T LogErr) (failure : DiskErr) → IsErrAnd r (λ e. e ≡ error_of failure) →
     HasCause {T = U} before after (Err failure) → IfErr r (StopsLog observable reads before after)
-listing_stops {T} {U} observable reads before after r failure is cause = disk_stops {T} {U} (StopsLog observable reads before after) before after r failure is cause (λ rose. rose) tt
+listing_stops {T} {U} observable reads before after r failure is cause = disk_stops {T = T} {U = U} (StopsLog observable reads before after) before after r failure is cause (λ rose. rose) tt
 
 -- the files were not read
 pub files_stop : {T : Type 0} (observable : Bool) (before mid : Files) (files : List FileNo) (first then_ after : ℕ) (r : Result T LogErr) → (observable ≡ true → mid ≡ before) → files ≢ [] → AreRisingNumbers files →
@@ -193,7 +193,7 @@ none_listed reads files none listing f = by_file (reads f) refl
     by_file : (o : Option (List ℕ)) → reads f ≡ o → o ≡ None
     by_file None is = refl
     by_file (Some bytes) is =
-        let some = (listing f).1 (subst (λ (o : Option (List ℕ)). o ≡ None → ⊥) (sym is) (λ e. cc)) in
+        let some = (listing f).1 (ap is_some is) in
         let within = some.1 in
         let nothing : length (map (λ (g : FileNo). g.0) files) ≡ 0 = ap (λ (l : List FileNo). length (map (λ (g : FileNo). g.0) l)) none in
         absurd (omega (arith, within, nothing))
