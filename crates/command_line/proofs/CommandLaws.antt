@@ -103,8 +103,10 @@ run_has_line args none =
     let rows = (rows_at s args).1 in
     let read : AreRead settings_numbers s rows = level_read settings_numbers s args
     (uses_kept settings_numbers s.rules (
-      home_kept settings_numbers (λ v. (apart, (apart, tt))), (
-        number_kept settings_numbers (codes "file-max") 4096 1073741824 (codes "10000000" ∷ []) false (λ v is. ((λ same. (refl, is)), (apart, tt))), (
+      home_kept settings_numbers (λ v. (apart, (apart, tt))),
+      (
+        number_kept settings_numbers (codes "file-max") 4096 1073741824 (codes "10000000" ∷ []) false (λ v is. ((λ same. (refl, is)), (apart, tt))),
+        (
           number_kept settings_numbers (codes "fanout") 4 128 (codes "128" ∷ []) false (λ v is. (apart, ((λ same. (refl, is)), tt))),
           (help_kept settings_numbers, tt),
         ),
@@ -123,9 +125,12 @@ soak_has_line args none =
     let rows = (rows_at s args).1 in
     let read : AreRead soak_numbers s rows = level_read soak_numbers s args
     (uses_kept soak_numbers s.rules (
-      home_kept soak_numbers (λ v. (apart, (apart, (apart, tt)))), (
-        number_kept soak_numbers (codes "seed") 0 4294967295 [] true (λ v is. ((λ same. (refl, is)), (apart, (apart, tt)))), (
-          number_kept soak_numbers (codes "file-max") 4096 1073741824 (codes "10000000" ∷ []) false (λ v is. (apart, ((λ same. (refl, is)), (apart, tt)))), (
+      home_kept soak_numbers (λ v. (apart, (apart, (apart, tt)))),
+      (
+        number_kept soak_numbers (codes "seed") 0 4294967295 [] true (λ v is. ((λ same. (refl, is)), (apart, (apart, tt)))),
+        (
+          number_kept soak_numbers (codes "file-max") 4096 1073741824 (codes "10000000" ∷ []) false (λ v is. (apart, ((λ same. (refl, is)), (apart, tt)))),
+          (
             number_kept soak_numbers (codes "fanout") 4 128 (codes "128" ∷ []) false (λ v is. (apart, (apart, ((λ same. (refl, is)), tt)))),
             (help_kept soak_numbers, tt),
           ),

@@ -168,10 +168,7 @@ fn command_given<'a>(found: &ArgMatches<'a>) -> Option<Command>
 }
 
 // The folder and the command, in what a parse found.
-fn line_given<'a>(
-    alloc: Global,
-    found: &ArgMatches<'a>,
-) -> Result<Option<CommandLine>, AllocError>
+fn line_given<'a>(alloc: Global, found: &ArgMatches<'a>) -> Result<Option<CommandLine>, AllocError>
     ensures { IfOk result (λ line. option_map (λ l. (string_bytes l.home, l.command)) line ≡ line_of (subcommand_rows_of found.now)) }
 {
     let Some(home) = home_given(found) else {

@@ -90,11 +90,7 @@ fn command_of(alloc: Global, args: &[String]) -> Result<Command, Cause>
 }
 
 // What a command is to do.
-fn request_of<S: Source>(
-    alloc: Global,
-    command: Command,
-    input: &mut S,
-) -> Result<Request, Cause>
+fn request_of<S: Source>(alloc: Global, command: Command, input: &mut S) -> Result<Request, Cause>
     requires { IsBounded command }
     ensures is { IfOk result (IsRequestOf (Some command) (S.left input.old) (S.left input.new)) }
     ensures none { IfErr result (IsNoRequest (Some command) (S.left input.old) (S.faults input.old) (S.faults input.new)) }

@@ -110,7 +110,12 @@ static WRONG: [&str; 62] = [
 static SOAKS: [(&str, u32, u32, u32); 6] = [
     ("soak --home d --seed 1", 1, 10_000_000, 128),
     ("soak --seed=0 --home d", 0, 10_000_000, 128),
-    ("soak --home=d --seed=4294967295", 4_294_967_295, 10_000_000, 128),
+    (
+        "soak --home=d --seed=4294967295",
+        4_294_967_295,
+        10_000_000,
+        128,
+    ),
     ("soak --home d --seed +007", 7, 10_000_000, 128),
     ("soak --home d --seed=-0", 0, 10_000_000, 128),
     (
@@ -132,11 +137,14 @@ fn gives(
     let Some(found) = parse(alloc, args.as_slice())? else {
         return Ok(false);
     };
-    Ok(found.home.as_str() == home
-        && match found.command {
-            Command::Run(settings) => settings.file_max == file_max && settings.fanout == fanout,
-            _ => false,
-        })
+    Ok(
+        found.home.as_str() == home
+            && match found.command {
+                Command::Run(settings) => settings.file_max == file_max
+                    && settings.fanout == fanout,
+                _ => false,
+            },
+    )
 }
 
 fn soaks(
