@@ -6,7 +6,7 @@ use Rattle.je_io.specs.Source.{TakesAll}
 use Rattle.store_model.specs.declared.plan.RunPlan.{RunPlan}
 use Rattle.script_text.specs.Grammar.{plan_of}
 use Rattle.je_program.specs.declared.reading.TheConstants.{MOST_INPUT}
-use Rattle.je_program.specs.Program.{ReadsPlan}
+use Rattle.je_program.specs.Commands.{ReadsPlan}
 
 -- an input of which more than the limit was read is longer than the limit
 pub long_input : (left rest : Option (List ℕ)) (bytes : List ℕ) → TakesAll left rest MOST_INPUT bytes → MOST_INPUT < length bytes → IfSome left (λ l. MOST_INPUT < length l)
