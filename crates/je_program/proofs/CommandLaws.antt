@@ -58,12 +58,6 @@ after_input Input may = absurd (true≢false (sym may))
 after_input InputTooLong may = absurd (true≢false (sym may))
 after_input cause may = refl
 
-pub life_unread : (command : Option Command) (left rest : Option (List ℕ)) → ReadsInput command left rest → reads_input command ≡ false → rest ≡ left
-life_unread None left rest read none = read
-life_unread (Some (Run settings)) left rest read none = cc
-life_unread (Some (Soak seed settings)) left rest read none = read
-life_unread (Some PrintLog) left rest read none = read
-
 pub life_is_no_reading : {A : Type 0} (command : Option Command) → opens command ≡ true → command ≡ Some PrintLog → A
 life_is_no_reading command opened is = absurd (true≢false (sym opened ∙ ap opens is))
 
@@ -160,16 +154,15 @@ unrun before after journal cause later none failed = record {
 module _ {D : Type 0} (observable : Bool) (history : D → History) (faults : D → ℕ) where
   -- the arguments or the input gave nothing to do
   pub none_comes : (command : Option Command) (left rest : Option (List ℕ)) (before after : ℕ) (disk : D) (r : RunResult D) → IsNoRequest command left before after r.cause →
-      (reads_input command ≡ false → rest ≡ left) → before ≤ after → r.opened ≡ false → r.disk ≡ disk → r.journal.items ≡ [] → r.opening ≡ no_databases →
+      before ≤ after → r.opened ≡ false → r.disk ≡ disk → r.journal.items ≡ [] → r.opening ≡ no_databases →
       ComesTo command observable history faults left rest before after disk r Nothing
-  none_comes command left rest before after disk r none unread later shut same no_journal nothing =
+  none_comes command left rest before after disk r none later shut same no_journal nothing =
       let is = early command left before after r.cause none in
       let still : (d : D) → d ≡ disk → IsUntouched (history disk) (history d) = λ d e. subst (λ (d : D). IsUntouched (history disk) (history d)) (sym e) (untouched_itself (history disk)) in
       record {
         may = none_may command left before after r.cause none;
         stopped = none_stopped command left before after r.cause none;
         read = λ after_input other. absurd (other (early_before r.cause is after_input));
-        unread = unread;
         given = λ opened. absurd (true≢false (sym opened ∙ shut));
         untouched = λ before_disk. same;
         runs = subst (λ (b : Bool). RunsBy (opens command) r.cause b) (sym shut) (early_runs (opens command) r.cause is);
@@ -231,7 +224,6 @@ module _ {D : Type 0} (observable : Bool) (history : D → History) (faults : D 
         may = may;
         stopped = reading_stopped left before after r.cause may;
         read = λ after_input other_. refl;
-        unread = λ none. refl;
         given = λ opened. absurd (true≢false (sym opened ∙ shut));
         untouched = λ before_disk. absurd (true≢false (sym before_disk ∙ reading_after r.cause may));
         runs = shut;

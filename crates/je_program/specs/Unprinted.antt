@@ -16,7 +16,7 @@ use Rattle.je_program.specs.declared.cause.Cause.{Cause}
 use Rattle.je_program.specs.declared.cause.Cause.TheVariants.{Done, Unreadable, WrongIndex, Memory, NoEnvironment, IdsEnded}
 use Rattle.je_program.specs.declared.run_result.RunResult.{RunResult}
 use Rattle.je_program.specs.declared.text.Text.{Text}
-use Rattle.je_program.specs.Commands.{AreSound, IsFound, IsGivenTo, IsTextOf, ReadsInput, Work, file_max_of, may_end, opens, reads_input, text_of}
+use Rattle.je_program.specs.Commands.{AreSound, IsFound, IsGivenTo, IsTextOf, ReadsInput, Work, file_max_of, may_end, opens, text_of}
 use Rattle.je_program.specs.Program.{ClosesRun, EndsBy, IsRunOf, IsStopped, RunsBy, is_before_disk}
 use Rattle.je_program.specs.Untouched.{LeavesUnreadable}
 
@@ -29,7 +29,6 @@ pub record ComesTo {D : Type 0} (command : Option Command) (observable : Bool) (
   pub may : may_end command r.cause ≡ true
   pub stopped : IsStopped left before after r.cause
   pub read : is_before_disk r.cause ≡ false → r.cause ≢ Memory → ReadsInput command left rest
-  pub unread : reads_input command ≡ false → rest ≡ left
   pub given : r.opened ≡ true → IsGivenTo command left rest r.journal.items r.cause
   pub untouched : is_before_disk r.cause ≡ true → r.disk ≡ disk
   pub runs : RunsBy (opens command) r.cause r.opened

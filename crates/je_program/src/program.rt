@@ -75,10 +75,10 @@ pub fn run_je<D: Disk, S: Source, K: Sink>(
         → plan_of bytes ≡ Err line → (result.cause ≡ Why.BadScript line) ⊎ (result.cause ≡ Why.Memory) ⊎ Failing (S.faults input.old) (S.faults input.new) }
 
     // Before the input was read, no call was made on the disk. Otherwise it was read to its end, if the command reads
-    // it; and one that does not leaves it as it is.
+    // it; one that does not makes no call on it.
     ensures untouched { is_before_disk result.cause ≡ true → result.disk ≡ disk }
     ensures read_whole { is_before_disk result.cause ≡ false → result.cause ≢ Why.Memory → ReadsInput (command_in (map string_bytes args.now)) (S.left input.old) (S.left input.new) }
-    ensures unread { reads_input (command_in (map string_bytes args.now)) ≡ false → S.left input.new ≡ S.left input.old }
+    ensures unread { reads_input (command_in (map string_bytes args.now)) ≡ false → input.new ≡ input.old }
 
     // The disk failed only where its count of faults rose; the files at entry cannot be opened, with this
     // corruption first, or this index the first whose pairs are not those of its primary's records, exactly where

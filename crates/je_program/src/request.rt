@@ -94,7 +94,7 @@ fn request_of<S: Source>(alloc: Global, command: Command, input: &mut S) -> Resu
     requires { IsBounded command }
     ensures is { IfOk result (IsRequestOf (Some command) (S.left input.old) (S.left input.new)) }
     ensures none { IfErr result (IsNoRequest (Some command) (S.left input.old) (S.faults input.old) (S.faults input.new)) }
-    ensures unread { reads_input (Some command) ≡ false → S.left input.new ≡ S.left input.old }
+    ensures unread { reads_input (Some command) ≡ false → input.new ≡ input.old }
     ensures never_falls { S.faults input.old ≤ S.faults input.new }
 {
     match command {
@@ -113,7 +113,7 @@ pub fn read_request<S: Source>(
 ) -> Result<Request, Cause>
     ensures is { IfOk result (IsRequestOf (command_in (map string_bytes args.now)) (S.left input.old) (S.left input.new)) }
     ensures none { IfErr result (IsNoRequest (command_in (map string_bytes args.now)) (S.left input.old) (S.faults input.old) (S.faults input.new)) }
-    ensures unread { reads_input (command_in (map string_bytes args.now)) ≡ false → S.left input.new ≡ S.left input.old }
+    ensures unread { reads_input (command_in (map string_bytes args.now)) ≡ false → input.new ≡ input.old }
     ensures never_falls { S.faults input.old ≤ S.faults input.new }
 {
     let command = command_of(alloc, args)?;

@@ -1,6 +1,7 @@
 // A program's work, up to its output.
-ghost use Rattle.std.specs.Prelude.{map, string_bytes};
+ghost use Rattle.std.specs.Prelude.{◌≡◌, false, map, string_bytes};
 ghost use Rattle.command_line.specs.Arguments.{command_in};
+ghost use Rattle.je_program.specs.Commands.{reads_input};
 ghost use Rattle.je_program.specs.Unprinted.{ComesTo};
 
 use crate::print_log::print_log;
@@ -25,7 +26,8 @@ pub fn run_unprinted<D: Disk, S: Source>(
     disk: D,
     input: &mut S,
 ) -> Unprinted<D>
-    ensures { ComesTo (command_in (map string_bytes args.now)) D.observable D.history D.faults (S.left input.old) (S.left input.new) (S.faults input.old) (S.faults input.new) disk result.run result.text }
+    ensures comes { ComesTo (command_in (map string_bytes args.now)) D.observable D.history D.faults (S.left input.old) (S.left input.new) (S.faults input.old) (S.faults input.new) disk result.run result.text }
+    ensures unread { reads_input (command_in (map string_bytes args.now)) ≡ false → input.new ≡ input.old }
 {
     match read_request(alloc, args, input) {
         Ok(Request::Life { config, plan, text }) => Unprinted {

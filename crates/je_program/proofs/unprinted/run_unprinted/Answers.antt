@@ -6,11 +6,11 @@ use Rattle.command_line.specs.Arguments.{command_in}
 use Rattle.je_program.specs.Program.{IsNoRequest}
 use Rattle.je_program.specs.Request.{IsLife, IsRequestOf}
 use Rattle.je_program.specs.Unprinted.{ComesTo, work_of}
-use Rattle.je_program.proofs.CommandLaws.{after_input, life_found, life_is_no_reading, life_may, life_none, life_runs, life_unread, none_comes, past_reading, print_comes}
+use Rattle.je_program.proofs.CommandLaws.{after_input, life_found, life_is_no_reading, life_may, life_none, life_runs, none_comes, past_reading, print_comes}
 use Rattle.je_program.proofs.unprinted.run_unprinted.Goals as goal
 
-pub returns-in-Ok-Life : goal.returns-in-Ok-Life
-returns-in-Ok-Life g c =
+pub returns-in-Ok-Life-clause-comes : goal.returns-in-Ok-Life-clause-comes
+returns-in-Ok-Life-clause-comes g c =
     let command = command_in (map string_bytes c.args.args.now) in
     let p = c.run_plan.ensures in
     let r = c.run_plan.result in
@@ -22,7 +22,6 @@ returns-in-Ok-Life g c =
       may = life_may command r.cause life.opened p.causes;
       stopped = past_reading left (faults c.args.input.now) (faults c.read_request.new.input) r.cause p.causes;
       read = λ after other. life.read;
-      unread = life_unread command left rest life.read;
       given = λ opened. record { lines = c.in-Ok-Life.plan.lines; are = life.are; all = p.lines opened; front = p.front opened; front_steps = p.front_steps opened };
       untouched = λ before. absurd (true≢false (sym before ∙ after_input r.cause p.causes));
       runs = life_runs command r.cause r.opened life.opened p.runs;
@@ -42,8 +41,8 @@ returns-in-Ok-Life g c =
       source = c.in-Ok-Life.ensures.never_falls;
     }
 
-pub returns-in-Ok-PrintLog : goal.returns-in-Ok-PrintLog
-returns-in-Ok-PrintLog g c =
+pub returns-in-Ok-PrintLog-clause-comes : goal.returns-in-Ok-PrintLog-clause-comes
+returns-in-Ok-PrintLog-clause-comes g c =
     let is = subst (IsRequestOf (command_in (map string_bytes c.args.args.now)) (g.S.Source.left c.args.input.now) (g.S.Source.left c.read_request.new.input)) c.in-Ok-PrintLog.field-0-is c.in-Ok-PrintLog.ensures.is in
     let p = c.print_log.ensures in
     let r = c.print_log.result.run in
@@ -55,12 +54,12 @@ returns-in-Ok-PrintLog g c =
     (subst (λ (o : Option (List ℕ)). ComesTo (Some PrintLog) observable g.D.Disk.history g.D.Disk.faults left o (faults c.args.input.now) (faults c.read_request.new.input) c.args.disk r text) (sym is.1)
     (print_comes observable g.D.Disk.history g.D.Disk.faults left (faults c.args.input.now) (faults c.read_request.new.input) c.args.disk r text c.in-Ok-PrintLog.ensures.never_falls p.cause p.printed p.opened p.journal p.opening p.untouched p.never_falls))
 
-pub returns-in-Err : goal.returns-in-Err
-returns-in-Err g c =
+pub returns-in-Err-clause-comes : goal.returns-in-Err-clause-comes
+returns-in-Err-clause-comes g c =
     let command = command_in (map string_bytes c.args.args.now) in
     let e = c.in-Err.ensures in
     let u = c.unopened.ensures in
     let left = g.S.Source.left c.args.input.now in
     let faults = g.S.Source.faults in
     none_comes g.D.Disk.observable g.D.Disk.history g.D.Disk.faults command left (g.S.Source.left c.read_request.new.input) (faults c.args.input.now) (faults c.read_request.new.input) c.args.disk c.unopened.result
-    (subst (IsNoRequest command left (faults c.args.input.now) (faults c.read_request.new.input)) (sym u.cause) e.none) e.unread e.never_falls u.opened u.disk u.journal u.opening
+    (subst (IsNoRequest command left (faults c.args.input.now) (faults c.read_request.new.input)) (sym u.cause) e.none) e.never_falls u.opened u.disk u.journal u.opening
