@@ -342,3 +342,71 @@ fn noted_nodes_are_logged(rt: HostRuntime) -> Result<(), Fail> {
     assert_ran(&rt, &filled, 0, FILLED_TEXT);
     Ok(())
 }
+
+// The only record of a database is put and deleted, a checkpoint logs its slot as deleted, and then the record is put and deleted
+// again: the node has its image's content, so the next checkpoint has nothing to log.
+const SETTLED: &[u8] = b"s1 create t plain\n\
+s1 put t 61 31\n\
+s1 delete t 61\n\
+m begin\n\
+m flush\n\
+m flush\n\
+m finish\n\
+s1 put t 61 32\n\
+s1 delete t 61\n\
+m begin\n\
+m flush\n\
+m finish\n";
+
+const SETTLED_TEXT: &str = "1 s1 ok\n\
+2 s1 ok\n\
+3 s1 ok\n\
+4 m ok\n\
+5 m flushed 1\n\
+6 m flushed 2\n\
+7 m ok\n\
+8 s1 ok\n\
+9 s1 ok\n\
+10 m ok\n\
+11 m nothing\n\
+12 m ok\n\
+end commits 5 databases 1 records 0\n";
+
+// A record is put twice behind a checkpoint's beginning, and the node is logged with the second data.
+const PUT_TWICE: &[u8] = b"s1 create t plain\n\
+m begin\n\
+s1 put t 61 31\n\
+s1 put t 61 32\n\
+m flush\n\
+m flush\n\
+m finish\n";
+
+const PUT_TWICE_TEXT: &str = "1 s1 ok\n\
+2 m ok\n\
+3 s1 ok\n\
+4 s1 ok\n\
+5 m flushed 1\n\
+6 m flushed 2\n\
+7 m ok\n\
+end commits 3 databases 1 records 1\n";
+
+// An opening redoes both puts, and the node has its image's content again.
+const CHECKPOINT_AGAIN: &[u8] = b"m begin\nm flush\nm finish\n";
+
+const CHECKPOINT_AGAIN_TEXT: &str = "1 m ok\n\
+2 m nothing\n\
+3 m ok\n\
+end commits 0 databases 1 records 1\n";
+
+#[test]
+fn content_as_logged(rt: HostRuntime) -> Result<(), Fail> {
+    let alloc = rt.alloc();
+    let settled = run_args(alloc, &RUN, MemDisk::new(alloc), SETTLED)?;
+    assert_ran(&rt, &settled, 0, SETTLED_TEXT);
+    drop(settled);
+    let ran = run_args(alloc, &RUN, MemDisk::new(alloc), PUT_TWICE)?;
+    assert_ran(&rt, &ran, 0, PUT_TWICE_TEXT);
+    let again = run_args(alloc, &RUN, disk_of(ran), CHECKPOINT_AGAIN)?;
+    assert_ran(&rt, &again, 0, CHECKPOINT_AGAIN_TEXT);
+    Ok(())
+}
