@@ -7,10 +7,12 @@
 
 A folder of Berkeley DB Java Edition is made by that program itself. This needs Debian's packages libdb-je-java and
 default-jdk-headless (`apt-get install` them); nothing is installed from here. It is opened by that program again afterwards.
-The other folders have its lock file alone, or under a log file's name a symbolic link, a folder, a pipe or a device.
+The other folders have its lock file alone, or under a log file's name a symbolic link, a folder, a pipe or a device. One is locked by
+another process, as each is that the program has open.
 """
 
 import argparse
+import fcntl
 import hashlib
 import os
 import shutil
@@ -107,6 +109,19 @@ def made_by_hand(program, work):
         yield name, path
 
 
+def locked(program, work):
+    """A folder of ours is refused while this process has its lock, and taken afterwards."""
+    home = os.path.join(work, "locked")
+    if run(program, home)[0] != 0:
+        wrong("a new folder is not taken")
+    handle = os.open(home, os.O_RDONLY)
+    fcntl.flock(handle, fcntl.LOCK_EX)
+    refused(program, work, "a locked folder", home)
+    os.close(handle)
+    if run(program, home)[0] != 0:
+        wrong("a folder is not taken whose lock is free")
+
+
 def log_in(path, number=0):
     return os.path.join(path, f"{number:08x}.jdb")
 
@@ -161,6 +176,8 @@ def main():
         for name, home in folders:
             refused(program, work, name, home)
         print(f"{len(folders)} folders made by hand are refused, and nothing in them is changed")
+        locked(program, work)
+        print("so is a folder that another process has locked, until it lets it go")
         if args.without_je:
             return
         java, home = Java(args.jar, work), os.path.join(work, "environment")

@@ -1,5 +1,6 @@
 // The disk over a folder.
 use crate::folder::Folder;
+use crate::folder_lock::FolderLock;
 use crate::{DirDone, DirJob, DirReadDone, DirReadJob};
 use je_disk::{Disk, DiskErr, Jobs};
 use je_lsn::FileNo;
@@ -10,7 +11,7 @@ use std::rt::Files;
 
 /// A folder of log files. Each failed call of the system is a fault, and so is running out of memory in
 /// a call that has no such answer. Files stay open, and the folder that is above this one has to be
-/// there.
+/// there. Mounting fails where another disk, of this process or of another one, has the folder.
 #[derive(Drop)]
 pub struct DirDisk<R: Files + AllocGlobal + Clone + Drop> {
     folder: Folder<R>,
@@ -18,7 +19,10 @@ pub struct DirDisk<R: Files + AllocGlobal + Clone + Drop> {
     jobs: Jobs,
 }
 
-impl<R: Files + AllocGlobal + Clone + Drop> DirDisk<R> {
+impl<R: Files + AllocGlobal + Clone + Drop> DirDisk<R>
+where
+    R::File: FolderLock,
+{
     ghost use Rattle.std.specs.Prelude.{◌≡◌, ◌≤◌, string_bytes, None, Ok, IfOk};
     ghost use Rattle.je_disk.specs.Causes.{HasFault, HasCause};
     ghost use Rattle.je_order.specs.Counts.{HasRisen};
@@ -76,7 +80,10 @@ impl<R: Files + AllocGlobal + Clone + Drop> DirDisk<R> {
     }
 }
 
-impl<R: Files + AllocGlobal + Clone + Drop> Disk for DirDisk<R> {
+impl<R: Files + AllocGlobal + Clone + Drop> Disk for DirDisk<R>
+where
+    R::File: FolderLock,
+{
     ghost use Rattle.std.specs.Prelude.{◌≡◌, [], false, None, IsErr, string_bytes};
     ghost use Rattle.je_disk.specs.Causes.{HasFault};
     ghost use Rattle.je_disk.specs.Moments.{History};

@@ -3,6 +3,7 @@ ghost use Rattle.std.specs.Prelude.{◌≡◌, ◌≤◌, [], false, length, str
 ghost use Rattle.je_disk.specs.States.{AreRisingNumbers};
 
 use crate::dir_path::DirPath;
+use crate::folder_lock::FolderLock;
 use crate::job::{DirJob, DirReadJob, Lost, Target, sync_all, sync_file, whole};
 use crate::opened::{Opened, Scope};
 use crate::pending::{Pending, Stage};
@@ -40,6 +41,8 @@ pub struct Folder<R: Files + AllocGlobal + Clone + Drop> {
     is_unflushed: bool,
     lost: Lost,
     reading: Option<Reading>,
+    // the folder, locked
+    held: Option<R::File>,
 }
 
 fn lost_data() -> Error {
@@ -60,7 +63,10 @@ fn push_folder<F: Drop>(
     Ok(())
 }
 
-impl<R: Files + AllocGlobal + Clone + Drop> Folder<R> {
+impl<R: Files + AllocGlobal + Clone + Drop> Folder<R>
+where
+    R::File: FolderLock,
+{
     pub fn new(rt: &R, path: &str) -> Result<Folder<R>, AllocError>
         ensures path { IfOk result (λ folder. string_bytes folder.dir_path.path ≡ path.now) }
     {
@@ -74,11 +80,24 @@ impl<R: Files + AllocGlobal + Clone + Drop> Folder<R> {
             is_unflushed: true,
             lost,
             reading: None,
+            held: None,
         })
     }
 
-    /// Forgets the open files, and gives the room behind their bytes back first. A folder that is not there is no
-    /// error; anything else of its name is, and so is an empty name, or a file in it that is not ours to touch.
+    // Locks the folder, where it is there and not locked yet.
+    fn hold(&mut self) -> io::Result<()> {
+        if self.held.is_some() || !self.dir_path.is_there()? {
+            return Ok(());
+        }
+        let folder = self.dir_path.folder()?;
+        folder.lock_folder()?;
+        self.held = Some(folder);
+        Ok(())
+    }
+
+    /// Forgets the open files, and gives the room behind their bytes back first. Then locks the folder, until this is let
+    /// go. A folder that is not there is no error; anything else of its name is, and so is an empty name, a file in it
+    /// that is not ours to touch, or that another process has the folder's lock.
     pub fn mount(&mut self) -> io::Result<()>
         ensures empty { string_bytes self.old.dir_path.path ≡ [] → IsErr result }
     {
@@ -89,7 +108,8 @@ impl<R: Files + AllocGlobal + Clone + Drop> Folder<R> {
         self.is_unflushed = true;
         self.reading = None;
         self.dir_path.is_there()?;
-        self.dir_path.check_entries()
+        self.dir_path.check_entries()?;
+        self.hold()
     }
 
     /// The numbers of the log files, rising; none where there is no folder.
@@ -138,7 +158,7 @@ impl<R: Files + AllocGlobal + Clone + Drop> Folder<R> {
         }
     }
 
-    /// Makes a file that is not there, and the folder too where it is not there.
+    /// Makes a file that is not there, and the folder too, and locks it, where it is not there.
     pub fn create(&mut self, f: FileNo) -> io::Result<()> {
         self.open(f)?;
         if self.files.contains_key(&f.0) {
@@ -149,6 +169,7 @@ impl<R: Files + AllocGlobal + Clone + Drop> Folder<R> {
             None => {
                 self.dir_path.make_folder()?;
                 self.name = Pending::Sync;
+                self.hold()?;
                 self.dir_path.make(f)?
             }
             made => made,

@@ -3,7 +3,7 @@
 //! itself. It stands on `je_program`, `dir_disk` and `je_io`.
 #![tactic(auto)]
 
-use dir_disk::DirDisk;
+use dir_disk::{DirDisk, FolderLock};
 use je_io::{StdSink, StdSource};
 use je_program::{Cause, Ended, home, run_je};
 use std::alloc::AllocError;
@@ -24,7 +24,10 @@ fn args_of<R: Runtime + AllocGlobal>(rt: &R) -> Result<Vec<String>, AllocError> 
 }
 
 // The disk over the folder that the arguments name; over none where they name none, and are refused.
-fn disk_of<R: Runtime + AllocGlobal>(rt: &R, args: &[String]) -> Result<DirDisk<R>, AllocError> {
+fn disk_of<R: Runtime + AllocGlobal>(rt: &R, args: &[String]) -> Result<DirDisk<R>, AllocError>
+where
+    R::File: FolderLock,
+{
     match home(rt.alloc(), args)? {
         Some(folder) => DirDisk::new(rt, folder.as_str()),
         None => DirDisk::new(rt, ""),
@@ -58,7 +61,7 @@ fn placeholders<R: Files>(rt: &R) -> HeldFiles<R::File> {
 // Runs the program, and gives its status. Out of memory before the top call is the one error.
 fn run<R: Runtime + AllocGlobal>(rt: &R) -> Result<u8, AllocError>
 where
-    R::File: Send + Sync,
+    R::File: Send + Sync + FolderLock,
 {
     let held = placeholders(rt);
     let args = args_of(rt)?;

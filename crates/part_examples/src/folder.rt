@@ -129,6 +129,31 @@ fn is_no_disk_without_a_name(rt: HostRuntime) {
     assert!(rt; matches!(fs::exists(&rt, "/00000005.jdb"), Ok(false)));
 }
 
+// How many faults a disk has that tries to be mounted beside another one, and again once that is gone.
+fn faults_beside(rt: &HostRuntime) -> Result<(u64, u64), DiskErr> {
+    let mut first = DirDisk::new(rt, "held")?;
+    let mut second = DirDisk::new(rt, "held")?;
+    let made = first.append(FileNo(3), b"abc");
+    let beside = second.mount();
+    let faults = second.faults();
+    drop(first);
+    let alone = second.mount();
+    let faults_after = second.faults();
+    drop(second);
+    made?;
+    alone?;
+    match beside {
+        Ok(()) => Err(DiskErr::Failed),
+        Err(_) => Ok((faults, faults_after)),
+    }
+}
+
+#[test]
+fn keeps_its_folder(rt: HostRuntime) -> Result<(), Fail> {
+    assert!(rt; matches!(faults_beside(&rt), Ok((1, 1))));
+    Ok(())
+}
+
 // A sync whose job runs while the disk is free for others.
 fn sync_by_job(rt: &impl Wait, disk: &Mutex<DirDisk<HostRuntime>>) -> Result<(), DiskErr> {
     let job = disk.lock(rt).begin_sync()?;
