@@ -87,30 +87,6 @@ cancelled t Q N p at told some n r = ⊎_elim
     there : (r : RecordId) → has_lock t (Q r).1 ≡ true → at ≡ r
     there r k = let e = told r k in cc
 
--- ---- a release, record by record
--- a record was released, or it is as it was and is still on the list
-abbrev pub IsUnderWay : TxnId → List (RecordId × Queue) → List (RecordId × Queue) → List RecordId → Type 0
-IsUnderWay t old now list = (r : RecordId) → (queue_at r now ≡ after_release t (queue_at r old)) ⊎ ((queue_at r now ≡ queue_at r old) × (list_any (is_record r) list ≡ true))
-
-pub release_begins : (t : TxnId) (old : List (RecordId × Queue)) (list : List RecordId) → ((r : RecordId) → IsSettled (queue_at r old)) → ((r : RecordId) → list_any (is_record r) list ≡ false → IsOut t (queue_at r old)) → IsUnderWay t old old list
-release_begins t old list s l r = ⊎_elim (λ h. inr (refl, h)) (λ h. inl (sym (release_nothing t (queue_at r old) (s r) (l r h)))) (cases_Bool (list_any (is_record r) list))
-
--- a record that the list has twice is released twice, and the second time changes nothing
-pub release_step : (t : TxnId) (old now next : List (RecordId × Queue)) (list less : List RecordId) (at : RecordId) → ((r : RecordId) → IsSettled (queue_at r old)) → IsUnderWay t old now list → list ≡ at ∷ less
-    → ((r : RecordId) → queue_at r next ≡ cond (is_record at r) (after_release t (queue_at r now)) (queue_at r now)) → IsUnderWay t old next less
-release_step t old now next list less at s u is n r = ⊎_elim
-    (λ h. let q = n r ∙ cond-true (is_record at r) (after_release t (queue_at r now)) (queue_at r now) h in
-    ⊎_elim (λ d. inl (q ∙ (ap (after_release t) d ∙ release_nothing t (after_release t (queue_at r old)) (settled_release t (queue_at r old) (s r)) (out_released t (queue_at r old))))) (λ d. inl (q ∙ ap (after_release t) d.0)) (u r))
-    (λ h. let q = n r ∙ cond-false (is_record at r) (after_release t (queue_at r now)) (queue_at r now) h in
-    ⊎_elim (λ d. inl (q ∙ d)) (λ d. inr (q ∙ d.0, still r h (sym (ap (list_any (is_record r)) is) ∙ d.1))) (u r))
-    (cases_Bool (is_record at r))
-  where
-    still : (r : RecordId) → is_record at r ≡ false → list_any (is_record r) (at ∷ less) ≡ true → list_any (is_record r) less ≡ true
-    still r h k = ⊎_elim (λ i. absurd (both_ways (is_record r at) (record_either r at ∙ h) i)) (λ i. i) (or_cases (is_record r at) (list_any (is_record r) less) k)
-
-pub release_ends : (t : TxnId) (old now : List (RecordId × Queue)) (list : List RecordId) → IsUnderWay t old now list → list ≡ [] → (r : RecordId) → queue_at r now ≡ after_release t (queue_at r old)
-release_ends t old now list u e r = ⊎_elim (λ d. d) (λ d. absurd (both_ways (list_any (is_record r) list) (ap (list_any (is_record r)) e) d.1)) (u r)
-
 -- ---- what is given back
 pub given_out : (t : TxnId) (r at : RecordId) (u : TxnId) (Q : RecordId → Queue) (old : Bool) → has_lock u (Q at).0 ≡ false → has_lock u (Q at).1 ≡ false → (old ≡ false) ⊎ ((is_same_txn u t && is_record at r) ≡ true) → (old ≡ false) ⊎ (IsOut t (Q r))
 given_out t r at u Q old a b n = ⊎_elim

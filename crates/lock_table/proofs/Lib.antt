@@ -16,6 +16,8 @@ pub mod QueueReads
 pub mod WholeTable
 -- A change of one transaction's list of records, read at every transaction and record.
 pub mod RecordLists
+-- A walk over the records of a transaction that changes each: what was done so far.
+pub mod RecordWalks
 -- Locks of a range type are those of transactions that asked for one: what each call keeps of it.
 pub mod RangeLocks
 -- What is noted of the transactions that may have a lock of READ: what each call keeps of it.

@@ -35,27 +35,3 @@ more_stays Q at t held is more r = ⊎_elim
     sym (cond-true (is_record at r) (after_read t (Q r)) (Q r) h ∙ (ap (λ o. read_given_back t o (Q r)) (sym e) ∙ more t (Q r))))
     (λ h. sym (cond-false (is_record at r) (after_read t (Q r)) (Q r) h))
     (cases_Bool (is_record at r))
-
--- ---- all records of a transaction
--- READ is gone from a record, or it is as it was and is still to come
-abbrev pub IsReadUnderWay : TxnId → List (RecordId × Queue) → List (RecordId × Queue) → List RecordId → Type 0
-IsReadUnderWay t old now rest = (r : RecordId) → (queue_at r now ≡ after_read t (queue_at r old)) ⊎ ((queue_at r now ≡ queue_at r old) × (list_any (is_record r) rest ≡ true))
-
-pub read_begins : (t : TxnId) (old : List (RecordId × Queue)) (list : List RecordId) → ((r : RecordId) → list_any (is_record r) list ≡ false → IsOut t (queue_at r old)) → IsReadUnderWay t old old list
-read_begins t old list out r = ⊎_elim (λ h. inr (refl, h)) (λ h. inl (sym (read_nothing t (queue_at r old) (out r h).0))) (cases_Bool (list_any (is_record r) list))
-
--- one record more; a record that comes twice is as after the first time
-pub read_step : (t : TxnId) (old now next : List (RecordId × Queue)) (at : RecordId) (left rest : List RecordId) → ((r : RecordId) → IsSettled (queue_at r old)) → left ≡ at ∷ rest → IsReadUnderWay t old now left
-    → ((r : RecordId) → queue_at r next ≡ cond (is_record at r) (after_read t (queue_at r now)) (queue_at r now)) → IsReadUnderWay t old next rest
-read_step t old now next at left rest s is u n r = ⊎_elim
-    (λ h. let q = n r ∙ cond-true (is_record at r) (after_read t (queue_at r now)) (queue_at r now) h in
-    ⊎_elim (λ d. inl (q ∙ (ap (after_read t) d ∙ read_twice t (queue_at r old) (s r)))) (λ d. inl (q ∙ ap (after_read t) d.0)) (u r))
-    (λ h. let q = n r ∙ cond-false (is_record at r) (after_read t (queue_at r now)) (queue_at r now) h in
-    ⊎_elim (λ d. inl (q ∙ d)) (λ d. inr (q ∙ d.0, still r h (sym (ap (list_any (is_record r)) is) ∙ d.1))) (u r))
-    (cases_Bool (is_record at r))
-  where
-    still : (r : RecordId) → is_record at r ≡ false → list_any (is_record r) (at ∷ rest) ≡ true → list_any (is_record r) rest ≡ true
-    still r h k = ⊎_elim (λ i. absurd (both_ways (is_record r at) (record_either r at ∙ h) i)) (λ i. i) (or_cases (is_record r at) (list_any (is_record r) rest) k)
-
-pub read_ends : (t : TxnId) (old now : List (RecordId × Queue)) (rest : List RecordId) → rest ≡ [] → IsReadUnderWay t old now rest → (r : RecordId) → queue_at r now ≡ after_read t (queue_at r old)
-read_ends t old now rest is u r = ⊎_elim (λ d. d) (λ d. absurd (both_ways (list_any (is_record r) rest) (ap (list_any (is_record r)) is) d.1)) (u r)

@@ -81,6 +81,10 @@ out_released t q = out_granted t (without_txn t q.0) (without_txn t q.1) (none_o
 pub release_nothing : (t : TxnId) (q : List Lock × List Lock) → IsSettled q → IsOut t q → after_release t q ≡ q
 release_nothing t q s o = rw (filter_all (is_of t) q.0 o.0, filter_all (is_of t) q.1 o.1) (granted_none q.1 q.0 s.waits)
 
+-- a release that comes twice
+pub release_twice : (t : TxnId) (q : List Lock × List Lock) → IsSettled q → after_release t (after_release t q) ≡ after_release t q
+release_twice t q s = release_nothing t (after_release t q) (settled_release t q s) (out_released t q)
+
 pub cancel_nothing : (t : TxnId) (q : List Lock × List Lock) → has_lock t q.1 ≡ false → after_cancel t q ≡ q
 cancel_nothing t q n = ap (λ ws. (q.0, ws)) (filter_all (is_of t) q.1 n)
 

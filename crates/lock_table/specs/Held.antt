@@ -11,7 +11,7 @@ locks_held (One owner) = (owner ∷ [], [])
 locks_held (Many owners waits) = (owners.items, waits.items)
 
 -- there is room for each wait among the owners
-abbrev pub HasRoom : Held → Type 0
-HasRoom Empty = Unit {0}
-HasRoom (One owner) = Unit {0}
-HasRoom (Many owners waits) = vec_len owners + vec_len waits ≤ vec_capacity owners
+abbrev pub HasGrantRoom : Held → Type 0
+HasGrantRoom Empty = Unit {0}
+HasGrantRoom (One owner) = Unit {0}
+HasGrantRoom (Many owners waits) = vec_len owners + vec_len waits ≤ vec_capacity owners

@@ -7,6 +7,7 @@ use Rattle.std.specs.declared.option.Option.TheVariants.{None, Some}
 use Rattle.std.specs.Option.{option_map_or}
 use Rattle.std.specs.Ordering.{nat_cmp, is_eq}
 use Rattle.std.specs.Map.{lookup}
+use Rattle.std.specs.BTreeMap.{BTreeMap}
 use Rattle.std.specs.BTreeSet.{BTreeSet, contains}
 use Rattle.je_order.specs.declared.txn_id.TxnId.{TxnId}
 use Rattle.je_order.specs.Transactions.{txn_cmp}
@@ -83,9 +84,21 @@ owner_in Granted = None
 owner_in (Blocked owner) = Some owner
 
 -- ---- inside
--- the transaction's records list this one; the list may have more than those where it has a lock or a wait, and a record twice
-abbrev pub is_listed : List (TxnId × Vec RecordId Global) → TxnId → RecordId → Bool
-is_listed lists t r = option_map_or (λ s. list_any (is_record r) s.items) (at_txn t lists) false
+-- what stands at a database's number in a list
+abbrev pub at_db : {X : Type 0} → ℕ → List (ℕ × X) → Option X
+at_db d xs = lookup (λ k. is_eq (nat_cmp d k)) xs
+
+-- one transaction's records, by database, have this one
+abbrev pub has_record : List (ℕ × Vec RecordId Global) → RecordId → Bool
+has_record dbs r = option_map_or (λ s. list_any (is_record r) s.items) (at_db r.db dbs) false
+
+-- one of these lists of records has this one
+abbrev pub is_in_one : List (ℕ × Vec RecordId Global) → RecordId → Bool
+is_in_one dbs r = list_any (λ e. list_any (is_record r) e.1.items) dbs
+
+-- the transaction's records have this one; they may be more than those where it has a lock or a wait, and have a record twice
+abbrev pub is_listed : List (TxnId × BTreeMap ℕ (Vec RecordId Global)) → TxnId → RecordId → Bool
+is_listed lists t r = option_map_or (λ m. has_record m.entries r) (at_txn t lists) false
 
 -- the transaction is neither an owner nor waits
 abbrev pub IsOut : TxnId → List Lock × List Lock → Type 0
@@ -98,7 +111,7 @@ pub record IsSound (Q : RecordId → List Lock × List Lock) (L : TxnId → Reco
   pub listed : (t : TxnId) (r : RecordId) → L t r ≡ false → IsOut t (Q r)
 
 -- the same of what the table keeps
-abbrev pub IsTable : List (RecordId × (List Lock × List Lock)) → List (TxnId × Vec RecordId Global) → List (TxnId × RecordId) → Type 0
+abbrev pub IsTable : List (RecordId × (List Lock × List Lock)) → List (TxnId × BTreeMap ℕ (Vec RecordId Global)) → List (TxnId × RecordId) → Type 0
 IsTable records lists pending = IsSound (λ r. queue_at r records) (is_listed lists) (λ t. at_txn t pending)
 
 -- the transaction is in the set

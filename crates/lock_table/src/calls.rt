@@ -9,7 +9,7 @@ ghost use Rattle.lock_table.specs.declared.record_id.RecordId.{RecordId};
 ghost use Rattle.lock_table.specs.Locks.{has_lock, held_by, blocker, is_blocked, after_ask, after_cancel, after_read, after_release, after_give_back, WasHeld, IsSettled};
 ghost use Rattle.je_order.specs.Transactions.{is_same_txn};
 ghost use Rattle.lock_table.specs.Records.{is_record, queue_at};
-ghost use Rattle.lock_table.specs.Table.{at_txn, owner_in, is_listed, IsOut, IsSameTable, IsTable};
+ghost use Rattle.lock_table.specs.Table.{at_txn, owner_in, is_in_one, is_listed, IsOut, IsSameTable, IsTable};
 
 use crate::listed::{list_at, list_new, list_wait, unlist_at};
 use crate::queue::Queue;
@@ -26,7 +26,7 @@ use std::collections::{BTreeMap, HashMap};
 // nothing.
 pub(crate) fn ask_in(
     queues: &mut HashMap<RecordId, Queue>,
-    lists: &mut BTreeMap<TxnId, Vec<RecordId>>,
+    lists: &mut BTreeMap<TxnId, BTreeMap<u32, Vec<RecordId>>>,
     pending: &mut BTreeMap<TxnId, RecordId>,
     alloc: Global,
     at: &RecordId,
@@ -52,7 +52,7 @@ pub(crate) fn ask_in(
 // A request for a record that has owners or waits. Running out of memory changes neither.
 fn ask_there(
     queue: &mut Queue,
-    lists: &mut BTreeMap<TxnId, Vec<RecordId>>,
+    lists: &mut BTreeMap<TxnId, BTreeMap<u32, Vec<RecordId>>>,
     pending: &mut BTreeMap<TxnId, RecordId>,
     alloc: Global,
     at: &RecordId,
@@ -79,7 +79,7 @@ fn ask_there(
 // A request that conflicts with no other owner. A type that is never held is not listed.
 fn grant_there(
     queue: &mut Queue,
-    lists: &mut BTreeMap<TxnId, Vec<RecordId>>,
+    lists: &mut BTreeMap<TxnId, BTreeMap<u32, Vec<RecordId>>>,
     alloc: Global,
     at: &RecordId,
     lock: Lock,
@@ -101,7 +101,7 @@ fn grant_there(
 // A request that conflicts with another owner.
 fn wait_there(
     queue: &mut Queue,
-    lists: &mut BTreeMap<TxnId, Vec<RecordId>>,
+    lists: &mut BTreeMap<TxnId, BTreeMap<u32, Vec<RecordId>>>,
     pending: &mut BTreeMap<TxnId, RecordId>,
     alloc: Global,
     at: &RecordId,
@@ -130,7 +130,7 @@ fn wait_there(
 // A request for a record that has neither owner nor wait: it is granted.
 fn ask_first(
     queues: &mut HashMap<RecordId, Queue>,
-    lists: &mut BTreeMap<TxnId, Vec<RecordId>>,
+    lists: &mut BTreeMap<TxnId, BTreeMap<u32, Vec<RecordId>>>,
     alloc: Global,
     at: &RecordId,
     lock: Lock,
@@ -240,24 +240,37 @@ pub(crate) fn forget_in(
 // The locks of a transaction that are no more than READ go. It takes no memory.
 pub(crate) fn read_back_in(
     queues: &mut HashMap<RecordId, Queue>,
-    lists: &BTreeMap<TxnId, Vec<RecordId>>,
+    lists: &BTreeMap<TxnId, BTreeMap<u32, Vec<RecordId>>>,
     txn: TxnId,
 )
     requires settled { (r : RecordId) → IsSettled (queue_at r queues.old.entries) }
     requires listed { (r : RecordId) → is_listed lists.now.entries txn r ≡ false → IsOut txn (queue_at r queues.old.entries) }
     ensures { (r : RecordId) → queue_at r queues.new.entries ≡ after_read txn (queue_at r queues.old.entries) }
 {
-    let Some(list) = lists.get(&txn) else {
+    let Some(dbs) = lists.get(&txn) else {
         return;
     };
-    read_back_each(queues, list.as_slice(), txn);
+    read_back_all(queues, dbs, txn);
+}
+
+// The transaction's locks on the records of these databases go, where they are no more than READ.
+fn read_back_all(
+    queues: &mut HashMap<RecordId, Queue>,
+    dbs: &BTreeMap<u32, Vec<RecordId>>,
+    txn: TxnId,
+)
+    requires { (r : RecordId) → IsSettled (queue_at r queues.old.entries) }
+    ensures { (r : RecordId) → queue_at r queues.new.entries ≡ (if is_in_one dbs.now.entries r then after_read txn (queue_at r queues.old.entries) else queue_at r queues.old.entries) }
+{
+    for (_, list) in dbs.iter() {
+        read_back_each(queues, list.as_slice(), txn);
+    }
 }
 
 // The transaction's locks on these records go, where they are no more than READ.
 fn read_back_each(queues: &mut HashMap<RecordId, Queue>, list: &[RecordId], txn: TxnId)
-    requires settled { (r : RecordId) → IsSettled (queue_at r queues.old.entries) }
-    requires listed { (r : RecordId) → list_any (is_record r) list.now ≡ false → IsOut txn (queue_at r queues.old.entries) }
-    ensures { (r : RecordId) → queue_at r queues.new.entries ≡ after_read txn (queue_at r queues.old.entries) }
+    requires { (r : RecordId) → IsSettled (queue_at r queues.old.entries) }
+    ensures { (r : RecordId) → queue_at r queues.new.entries ≡ (if list_any (is_record r) list.now then after_read txn (queue_at r queues.old.entries) else queue_at r queues.old.entries) }
 {
     for at in list {
         read_back_at(queues, at, txn);
@@ -267,7 +280,7 @@ fn read_back_each(queues: &mut HashMap<RecordId, Queue>, list: &[RecordId], txn:
 // All locks and the wait of a transaction go. It takes no memory.
 pub(crate) fn release_in(
     queues: &mut HashMap<RecordId, Queue>,
-    lists: &mut BTreeMap<TxnId, Vec<RecordId>>,
+    lists: &mut BTreeMap<TxnId, BTreeMap<u32, Vec<RecordId>>>,
     txn: TxnId,
 )
     requires settled { (r : RecordId) → IsSettled (queue_at r queues.old.entries) }
@@ -275,17 +288,30 @@ pub(crate) fn release_in(
     ensures queues { (r : RecordId) → queue_at r queues.new.entries ≡ after_release txn (queue_at r queues.old.entries) }
     ensures lists { (t : TxnId) (r : RecordId) → is_same_txn txn t ≡ false → is_listed lists.new.entries t r ≡ is_listed lists.old.entries t r }
 {
-    let Some(list) = lists.remove(&txn) else {
+    let Some(dbs) = lists.remove(&txn) else {
         return;
     };
-    release_each(queues, list.as_slice(), txn);
+    release_all(queues, &dbs, txn);
+}
+
+// The transaction's locks and waits on the records of these databases go.
+fn release_all(
+    queues: &mut HashMap<RecordId, Queue>,
+    dbs: &BTreeMap<u32, Vec<RecordId>>,
+    txn: TxnId,
+)
+    requires { (r : RecordId) → IsSettled (queue_at r queues.old.entries) }
+    ensures { (r : RecordId) → queue_at r queues.new.entries ≡ (if is_in_one dbs.now.entries r then after_release txn (queue_at r queues.old.entries) else queue_at r queues.old.entries) }
+{
+    for (_, list) in dbs.iter() {
+        release_each(queues, list.as_slice(), txn);
+    }
 }
 
 // The transaction's locks and waits on these records go.
 fn release_each(queues: &mut HashMap<RecordId, Queue>, list: &[RecordId], txn: TxnId)
-    requires settled { (r : RecordId) → IsSettled (queue_at r queues.old.entries) }
-    requires listed { (r : RecordId) → list_any (is_record r) list.now ≡ false → IsOut txn (queue_at r queues.old.entries) }
-    ensures { (r : RecordId) → queue_at r queues.new.entries ≡ after_release txn (queue_at r queues.old.entries) }
+    requires { (r : RecordId) → IsSettled (queue_at r queues.old.entries) }
+    ensures { (r : RecordId) → queue_at r queues.new.entries ≡ (if list_any (is_record r) list.now then after_release txn (queue_at r queues.old.entries) else queue_at r queues.old.entries) }
 {
     for at in list {
         release_at(queues, at, txn);
@@ -295,7 +321,7 @@ fn release_each(queues: &mut HashMap<RecordId, Queue>, list: &[RecordId], txn: T
 // The transaction's lock on a record is what it was before. It takes no memory.
 pub(crate) fn give_back_in(
     queues: &mut HashMap<RecordId, Queue>,
-    lists: &mut BTreeMap<TxnId, Vec<RecordId>>,
+    lists: &mut BTreeMap<TxnId, BTreeMap<u32, Vec<RecordId>>>,
     txn: TxnId,
     at: &RecordId,
     was: Option<LockType>,

@@ -1,6 +1,6 @@
 // How one record's owners and waits are held in memory.
 ghost use Rattle.std.specs.Prelude.{◌≡◌, ◌∷◌, [], IfOk};
-ghost use Rattle.lock_table.specs.Held.{locks_held, HasRoom};
+ghost use Rattle.lock_table.specs.Held.{locks_held, HasGrantRoom};
 ghost use Rattle.lock_table.specs.Locks.{with_lock, with_type};
 
 use crate::Lock;
@@ -23,7 +23,7 @@ pub(crate) enum Held {
 // One owner and another.
 fn pair(alloc: Global, owner: Lock, other: Lock) -> Result<Held, AllocError>
     ensures held { IfOk result (λ held. locks_held held ≡ (owner ∷ other ∷ [], [])) }
-    ensures room { IfOk result HasRoom }
+    ensures room { IfOk result HasGrantRoom }
 {
     let mut owners = Vec::with_capacity(alloc, 2)?;
     owners.push(owner)?;
@@ -34,7 +34,7 @@ fn pair(alloc: Global, owner: Lock, other: Lock) -> Result<Held, AllocError>
 // One owner and a wait behind it.
 pub(crate) fn behind(alloc: Global, owner: Lock, wait: Lock) -> Result<Held, AllocError>
     ensures held { IfOk result (λ held. locks_held held ≡ (owner ∷ [], wait ∷ [])) }
-    ensures room { IfOk result HasRoom }
+    ensures room { IfOk result HasGrantRoom }
 {
     let mut owners = Vec::with_capacity(alloc, 2)?;
     owners.push(owner)?;
@@ -46,7 +46,7 @@ pub(crate) fn behind(alloc: Global, owner: Lock, wait: Lock) -> Result<Held, All
 // A lock that is granted where there was no owner. A type that is never held changes nothing.
 pub(crate) fn first(lock: Lock) -> Held
     ensures held { locks_held result ≡ (with_lock lock [], []) }
-    ensures room { HasRoom result }
+    ensures room { HasGrantRoom result }
 {
     if matches!(lock.mode, LockType::RangeInsert) {
         return Held::Empty;
@@ -57,7 +57,7 @@ pub(crate) fn first(lock: Lock) -> Held
 // A lock that is granted beside one owner.
 pub(crate) fn beside(alloc: Global, owner: Lock, lock: Lock) -> Result<Held, AllocError>
     ensures held { IfOk result (λ held. locks_held held ≡ (with_lock lock (owner ∷ []), [])) }
-    ensures room { IfOk result HasRoom }
+    ensures room { IfOk result HasGrantRoom }
 {
     if matches!(lock.mode, LockType::RangeInsert) {
         return Ok(Held::One(owner));
@@ -71,7 +71,7 @@ pub(crate) fn beside(alloc: Global, owner: Lock, lock: Lock) -> Result<Held, All
 // One owner's lock, as it was before.
 pub(crate) fn restored(owner: Lock, txn: TxnId, was: Option<LockType>) -> Held
     ensures held { locks_held result ≡ (with_type txn was (owner ∷ []), []) }
-    ensures room { HasRoom result }
+    ensures room { HasGrantRoom result }
 {
     if let Some(mode) = was {
         return Held::One(set_lock(owner, txn, mode));

@@ -6,7 +6,7 @@ ghost use Rattle.lock_table.specs.declared.record_id.RecordId.{RecordId};
 ghost use Rattle.je_order.specs.Transactions.{is_same_txn};
 ghost use Rattle.lock_table.specs.Locks.{has_lock};
 ghost use Rattle.lock_table.specs.Records.{is_record};
-ghost use Rattle.lock_table.specs.Table.{is_listed};
+ghost use Rattle.lock_table.specs.Table.{has_record, is_listed};
 
 use crate::{Lock, RecordId, lists};
 use je_order::{TxnId, copy_of};
@@ -22,9 +22,37 @@ fn list_of(alloc: Global, key: RecordId) -> Result<Vec<RecordId>, AllocError>
     Ok(list)
 }
 
+// Puts a record behind the others of its database. Running out of memory changes nothing.
+fn push_in(
+    dbs: &mut BTreeMap<u32, Vec<RecordId>>,
+    alloc: Global,
+    key: RecordId,
+) -> Result<(), AllocError>
+    ensures ok { OnOk result ((r : RecordId) → has_record dbs.new.entries r ≡ (if is_record key r then true else has_record dbs.old.entries r)) }
+    ensures err { OnErr result ((r : RecordId) → has_record dbs.new.entries r ≡ has_record dbs.old.entries r) }
+{
+    let db = key.db;
+    if let Some(list) = dbs.get_mut(&db) {
+        list.push(key)?;
+        return Ok(());
+    }
+    let list = list_of(alloc, key)?;
+    dbs.insert(db, list)?;
+    Ok(())
+}
+
+// The records of a transaction that has one.
+fn dbs_of(alloc: Global, key: RecordId) -> Result<BTreeMap<u32, Vec<RecordId>>, AllocError>
+    ensures { IfOk result (λ dbs. (r : RecordId) → has_record dbs.entries r ≡ is_record key r) }
+{
+    let mut dbs = BTreeMap::new(alloc);
+    push_in(&mut dbs, alloc, key)?;
+    Ok(dbs)
+}
+
 // Lists a record at a transaction. Running out of memory changes nothing.
 pub(crate) fn list_at(
-    lists: &mut BTreeMap<TxnId, Vec<RecordId>>,
+    lists: &mut BTreeMap<TxnId, BTreeMap<u32, Vec<RecordId>>>,
     alloc: Global,
     txn: TxnId,
     at: &RecordId,
@@ -33,18 +61,18 @@ pub(crate) fn list_at(
     ensures err { OnErr result ((t : TxnId) (r : RecordId) → is_listed lists.new.entries t r ≡ is_listed lists.old.entries t r) }
 {
     let key = copy_of(at)?;
-    if let Some(list) = lists.get_mut(&txn) {
-        list.push(key)?;
+    if let Some(dbs) = lists.get_mut(&txn) {
+        push_in(dbs, alloc, key)?;
         return Ok(());
     }
-    let list = list_of(alloc, key)?;
-    lists.insert(txn, list)?;
+    let dbs = dbs_of(alloc, key)?;
+    lists.insert(txn, dbs)?;
     Ok(())
 }
 
 // Lists a record at a transaction that is no owner there yet: where it is one, the record is listed.
 pub(crate) fn list_new(
-    lists: &mut BTreeMap<TxnId, Vec<RecordId>>,
+    lists: &mut BTreeMap<TxnId, BTreeMap<u32, Vec<RecordId>>>,
     alloc: Global,
     txn: TxnId,
     at: &RecordId,
@@ -84,19 +112,33 @@ fn last_place(list: &[RecordId], at: &RecordId) -> Option<usize>
     None
 }
 
-// Whether a record stands among the last of a transaction's list.
-fn is_listed_lately(lists: &BTreeMap<TxnId, Vec<RecordId>>, txn: TxnId, at: &RecordId) -> bool
-    ensures { result ≡ true → is_listed lists.now.entries txn at.now ≡ true }
+// Whether a record stands among the last of its database.
+fn has_lately(dbs: &BTreeMap<u32, Vec<RecordId>>, at: &RecordId) -> bool
+    ensures { result ≡ true → has_record dbs.now.entries at.now ≡ true }
 {
-    let Some(list) = lists.get(&txn) else {
+    let Some(list) = dbs.get(&at.db) else {
         return false;
     };
     last_place(list.as_slice(), at).is_some()
 }
 
+// Whether a record was listed lately at a transaction.
+fn is_listed_lately(
+    lists: &BTreeMap<TxnId, BTreeMap<u32, Vec<RecordId>>>,
+    txn: TxnId,
+    at: &RecordId,
+) -> bool
+    ensures { result ≡ true → is_listed lists.now.entries txn at.now ≡ true }
+{
+    match lists.get(&txn) {
+        Some(dbs) => has_lately(dbs, at),
+        None => false,
+    }
+}
+
 // The same for a record that is to be waited for: who asks in vain again and again lists it once.
 pub(crate) fn list_wait(
-    lists: &mut BTreeMap<TxnId, Vec<RecordId>>,
+    lists: &mut BTreeMap<TxnId, BTreeMap<u32, Vec<RecordId>>>,
     alloc: Global,
     txn: TxnId,
     at: &RecordId,
@@ -112,14 +154,27 @@ pub(crate) fn list_wait(
     Ok(())
 }
 
-// Takes a record out of a transaction's list, if it stands near its end. It takes no memory.
-pub(crate) fn unlist_at(lists: &mut BTreeMap<TxnId, Vec<RecordId>>, txn: TxnId, at: &RecordId)
-    ensures { (t : TxnId) (r : RecordId) → is_listed lists.new.entries t r ≡ false → (is_listed lists.old.entries t r ≡ false) ⊎ ((is_same_txn txn t && is_record at.now r) ≡ true) }
+// Takes a record out, if it stands among the last of its database. It takes no memory.
+fn unlist_in(dbs: &mut BTreeMap<u32, Vec<RecordId>>, at: &RecordId)
+    ensures { (r : RecordId) → has_record dbs.new.entries r ≡ false → (has_record dbs.old.entries r ≡ false) ⊎ (is_record at.now r ≡ true) }
 {
-    let Some(list) = lists.get_mut(&txn) else {
+    let Some(list) = dbs.get_mut(&at.db) else {
         return;
     };
     if let Some(i) = last_place(list.as_slice(), at) {
         let _ = list.swap_remove(i);
+    }
+}
+
+// Takes a record out of a transaction's, if it was listed lately. It takes no memory.
+pub(crate) fn unlist_at(
+    lists: &mut BTreeMap<TxnId, BTreeMap<u32, Vec<RecordId>>>,
+    txn: TxnId,
+    at: &RecordId,
+)
+    ensures { (t : TxnId) (r : RecordId) → is_listed lists.new.entries t r ≡ false → (is_listed lists.old.entries t r ≡ false) ⊎ ((is_same_txn txn t && is_record at.now r) ≡ true) }
+{
+    if let Some(dbs) = lists.get_mut(&txn) {
+        unlist_in(dbs, at);
     }
 }

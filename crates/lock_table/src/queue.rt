@@ -20,13 +20,13 @@ pub(crate) struct Queue {
 impl Model for Queue {
     ghost use Rattle.std.specs.Prelude.{List};
     ghost use Rattle.lock_table.specs.declared.lock.Lock.{Lock};
-    ghost use Rattle.lock_table.specs.Held.{locks_held, HasRoom};
+    ghost use Rattle.lock_table.specs.Held.{locks_held, HasGrantRoom};
 
     ghost Value = { List Lock × List Lock };
 
     ghost view = { λ a. locks_held a.held };
 
-    ghost invariant = { λ a. HasRoom a.held };
+    ghost invariant = { λ a. HasGrantRoom a.held };
 }
 
 // The lock is granted, among many.

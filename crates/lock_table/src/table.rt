@@ -37,9 +37,9 @@ pub struct LockTable {
     queues: HashMap<RecordId, Queue>,
     // The databases where a lock was asked for since no record had an owner or a wait.
     dbs: BTreeSet<u32>,
-    // Of each transaction the records where it has a lock or a wait, and maybe others: a list is cheap to
-    // add to.
-    lists: BTreeMap<TxnId, Vec<RecordId>>,
+    // Of each transaction, by database, the records where it has a lock or a wait, and maybe others: a list is
+    // cheap to add to.
+    lists: BTreeMap<TxnId, BTreeMap<u32, Vec<RecordId>>>,
     pending: BTreeMap<TxnId, RecordId>,
     // Those that asked for a lock of a range type since they began.
     ranging: BTreeSet<TxnId>,
@@ -235,13 +235,15 @@ impl LockTable {
         !owners_at(&self.queues, at).is_empty()
     }
 
-    /// The least owner of the records of a database. It looks at every record that is locked, but at none where
-    /// no lock was asked for in the database since no record was locked.
+    /// The least owner of the records of a database. It costs one look-up where no lock was asked for in the
+    /// database since no record was locked, and else a look-up for each transaction that has locks, and one for
+    /// each record of the database that such a transaction was granted, waits for or gave back, up to the first
+    /// that it owns.
     pub fn holder_in(&self, db: u32) -> Option<TxnId>
         ensures least { result ≡ holder_of db self.now }
         ensures owns { IfSome result (λ t. OwnsIn db t self.now.records) }
     {
-        least_in(&self.queues, &self.dbs, db)
+        least_in(&self.queues, &self.lists, &self.dbs, db)
     }
 
     /// A transaction that was last told to wait on a record of the database; the least one. It looks at

@@ -1,6 +1,10 @@
 use Rattle.std.proofs.Common.{drop}
-use Rattle.lock_table.proofs.CallSteps.{IsUnderWay}
+use Rattle.std.specs.List.{list_any}
+use Rattle.lock_table.specs.Locks.{after_release}
+use Rattle.lock_table.specs.Records.{is_record, queue_at}
+use Rattle.lock_table.specs.declared.record_id.RecordId.{RecordId}
+use Rattle.lock_table.proofs.RecordWalks.{IsDone}
 use Rattle.lock_table.proofs.calls.release_each.Given as goal
 
 abbrev pub invariant-loop-at : goal.invariant-loop-at
-invariant-loop-at l = IsUnderWay l.txn l.initial.queues.entries l.queues.entries (drop l.at-index l.list)
+invariant-loop-at l = (r : RecordId) → IsDone (after_release l.txn) (queue_at r l.initial.queues.entries) (queue_at r l.queues.entries) (list_any (is_record r) l.list) (list_any (is_record r) (drop l.at-index l.list))

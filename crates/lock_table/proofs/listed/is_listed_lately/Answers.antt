@@ -1,6 +1,7 @@
-use Rattle.std.proofs.Common.{sym, ◌∙◌}
-use Rattle.lock_table.proofs.RecordLists.{stands}
+use Rattle.std.proofs.Common.{ap, sym, false, ◌∙◌}
+use Rattle.std.specs.Option.{option_map_or}
+use Rattle.lock_table.specs.Table.{has_record}
 use Rattle.lock_table.proofs.listed.is_listed_lately.Goals as goal
 
-pub returns : goal.returns
-returns c = λ h. stands c.args.lists.now.entries c.args.txn c.args.at.now c.in-Some.list.now c.in-Some.ensures.value c.as_slice.result.now c.as_slice.ensures.value c.last_place.result c.last_place.ensures.within c.last_place.ensures.there (sym c.is_some.ensures ∙ h)
+pub returns-in-Some : goal.returns-in-Some
+returns-in-Some c = λ h. sym (ap (λ o. option_map_or (λ m. has_record m.entries c.args.at.now) o false) c.in-Some.ensures.value) ∙ c.has_lately.ensures h
