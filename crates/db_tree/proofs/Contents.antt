@@ -21,7 +21,7 @@ use Rattle.tree_nodes.specs.declared.node.Node.{Node}
 use Rattle.tree_nodes.specs.Nodes.{NodeRow, IsUpTo, IsOver, low_behind}
 use Rattle.tree_nodes.specs.Levels.{row_of}
 use Rattle.tree_nodes.proofs.RisingLists.{none_behind}
-use Rattle.db_tree.specs.Images.{slot_version, version_in, IsBin}
+use Rattle.db_tree.specs.Images.{slot_version, version_imaged, IsBin}
 use Rattle.db_tree.specs.Content.{held_under, kept_by, slot_for, record_slots}
 use Rattle.db_tree.specs.Laws.{BinImagesShowCells}
 use Rattle.db_tree.proofs.Order.{up_cases, less_not_up, up_trans}
@@ -179,6 +179,6 @@ shows_held p (e ∷ cells) x up h = by_name (same_or_other x e.0) (shows_held p 
 pub bins_show : BinImagesShowCells
 bins_show es rows cells db number at low n up touched is = record {
   reads = λ x over. subst IsBin (sym is) tt;
-  shows = λ x over. (ap (λ (o : Option Entry). version_in o x) is ∙ shows_held (is_between (At low) (upper_edge (low_behind low (row_of rows 0)))) cells x up (within (row_of rows 0) x (low, n) over), touched x);
+  shows = λ x over. (ap (λ (o : Option Entry). version_imaged o x) is ∙ shows_held (is_between (At low) (upper_edge (low_behind low (row_of rows 0)))) cells x up (within (row_of rows 0) x (low, n) over), touched x);
   names = λ x over. tt;
 }

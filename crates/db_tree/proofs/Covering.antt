@@ -6,7 +6,7 @@ use Rattle.tree_nodes.specs.Nodes.{IsOver}
 use Rattle.tree_nodes.specs.Levels.{row_of}
 use Rattle.node_core.specs.declared.slot.Version.{Version}
 use Rattle.db_tree.specs.Content.{lsn_held, lsn_of}
-use Rattle.db_tree.specs.Images.{says, shown}
+use Rattle.db_tree.specs.Images.{last_says, shown}
 use Rattle.db_tree.specs.Trees.{IsBehind}
 use Rattle.db_tree.specs.Laws.{TreesAreCovered}
 use Rattle.db_tree.proofs.Over.{there_is}
@@ -24,7 +24,7 @@ behind_redo base redo newest n x le marks behind = let high : redo ≤ behind.0 
 pub covered : TreesAreCovered
 covered es base redo newest rows held are le marks tree zero x e over = by_side (tree.leaf x e over)
   where
-    by_side : (says es e.1.last x ≡ (held x).version) ⊎ IsBehind base newest e.1 x → (shown es 0 e.1.last x ≡ lsn_held held x) ⊎ (redo ≤ newest x)
+    by_side : (last_says es e.1.last x ≡ (held x).version) ⊎ IsBehind base newest e.1 x → (shown es 0 e.1.last x ≡ lsn_held held x) ⊎ (redo ≤ newest x)
     by_side (inl h) = inl (sym (says_shown es e.1.last x) ∙ ap (λ (v : Version). lsn_of v) h)
     by_side (inr h) = inr (behind_redo base redo newest e.1 x le (marks 0 x e over) h)
 covered es base redo newest rows held are le marks tree (suc level) x e over =

@@ -17,7 +17,7 @@ use Rattle.tree_nodes.specs.Nodes.{NodeRow, low_behind}
 use Rattle.tree_nodes.specs.Levels.{row_of}
 use Rattle.tree_nodes.proofs.RisingLists.{none_behind}
 use Rattle.db_tree.specs.declared.node_at.NodeAt.{NodeAt}
-use Rattle.db_tree.specs.Content.{Held, held_under, kept_by, shown_held}
+use Rattle.db_tree.specs.Content.{NameState, held_under, kept_by, shown_held}
 use Rattle.db_tree.specs.Dirty.{AreExact, is_as_shown, is_same_version}
 use Rattle.db_tree.proofs.Contents.{passed_found}
 use Rattle.db_tree.proofs.DirtyExact.{passed_none, passed_rises}
@@ -70,11 +70,11 @@ all_same p q old new up_old up_new same =
 
 -- ---- what is held
 
-abbrev pub says_of : Option ℕ → Held → Version
+abbrev pub says_of : Option ℕ → NameState → Version
 says_of None h = h.shown
 says_of (Some at) h = shown_held at h
 
-abbrev pub fits : Option ℕ → Held → Bool
+abbrev pub fits : Option ℕ → NameState → Bool
 fits last h = is_same_version (says_of last h) h.version
 
 pub passes_held : (last : Option ℕ) (o : Option Cell) → passes (is_as_shown last) o ≡ fits last (held_under o)

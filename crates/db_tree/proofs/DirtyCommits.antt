@@ -15,9 +15,9 @@ use Rattle.record_map.proofs.NameLaws.{same_or_other, same_gets}
 use Rattle.tree_nodes.specs.declared.node.Node.{Node}
 use Rattle.tree_nodes.specs.Nodes.{NodeRow, IsOver}
 use Rattle.tree_nodes.specs.Levels.{row_of}
-use Rattle.db_tree.specs.Content.{Held, held_of, held_under, kept_by, shown_held}
+use Rattle.db_tree.specs.Content.{NameState, name_state, held_under, kept_by, shown_held}
 use Rattle.db_tree.specs.Dirty.{IsCommitAt, IsRedoneAt}
-use Rattle.db_tree.specs.Images.{Placed, IsBin, entry_at, version_in}
+use Rattle.db_tree.specs.Images.{Placed, IsBin, entry_at, version_imaged}
 use Rattle.db_tree.specs.Stored.{with_logged}
 use Rattle.db_tree.specs.Trees.{HasCell, KnowImages, cell_or_fresh}
 use Rattle.db_tree.proofs.Over.{over_once}
@@ -41,7 +41,7 @@ committed_shown at last cell less = by_write (option_map (λ w. w.value) cell.wr
     by_write None = refl
     by_write (Some w) = by_value w.at w.value
 
-committed_unset : (at : ℕ) (last : Option ℕ) (cell : Cell) → (cell.version ≡ Unset → held_of cell ≡ held_of fresh) → (committed at last cell).version ≡ Unset → held_of (committed at last cell) ≡ held_of fresh
+committed_unset : (at : ℕ) (last : Option ℕ) (cell : Cell) → (cell.version ≡ Unset → name_state cell ≡ name_state fresh) → (committed at last cell).version ≡ Unset → name_state (committed at last cell) ≡ name_state fresh
 committed_unset at last cell unset is = by_write (option_map (λ w. w.value) cell.write) is
   where
     is_set : Version → Bool
@@ -53,7 +53,7 @@ committed_unset at last cell unset is = by_write (option_map (λ w. w.value) cel
     by_value lsn None h = absurd (true≢false (ap is_set h))
     by_value lsn (Some value) h = absurd (true≢false (ap is_set h))
 
-    by_write : (o : Option Write) → (committed_by o at last cell).version ≡ Unset → held_of (committed_by o at last cell) ≡ held_of fresh
+    by_write : (o : Option Write) → (committed_by o at last cell).version ≡ Unset → name_state (committed_by o at last cell) ≡ name_state fresh
     by_write None h = unset h
     by_write (Some w) h = by_value w.at w.value h
 
@@ -72,15 +72,15 @@ committed_touched at last cell next old new = by_write (option_map (λ w. w.valu
 
 -- one cell changed, of the BIN over its name, and an image that was there says of it what it said
 pub changed_know : (es : Placed) (base : ℕ) (rows : List NodeRow) (old new : List (Name × Cell)) (name : Name) (e : Name × Node) (now : Cell) → IsOver (row_of rows 0) name e →
-    ((x : Name) → value_at x new ≡ cond (is_eq (name_cmp name x)) (Some now) (value_at x old)) → ((at : ℕ) → e.1.last ≡ Some at → shown_held at (held_of now) ≡ shown_held at (kept_by old name)) →
-    (now.version ≡ Unset → held_of now ≡ held_of fresh) → ((next : ℕ) → base ≤ next → AllByRecursion (λ p. p.0 < next) es → now.touched ≤ next) → KnowImages es base rows (kept_by old) → KnowImages es base rows (kept_by new)
+    ((x : Name) → value_at x new ≡ cond (is_eq (name_cmp name x)) (Some now) (value_at x old)) → ((at : ℕ) → e.1.last ≡ Some at → shown_held at (name_state now) ≡ shown_held at (kept_by old name)) →
+    (now.version ≡ Unset → name_state now ≡ name_state fresh) → ((next : ℕ) → base ≤ next → AllByRecursion (λ p. p.0 < next) es → now.touched ≤ next) → KnowImages es base rows (kept_by old) → KnowImages es base rows (kept_by new)
 changed_know es base rows old new name e now over changed shows unset touched know = record {
   shown = λ x f at above last. shown x f at above last (same_or_other name x);
   unset = λ x. unset_at x (same_or_other name x);
   touched = λ x next low behind. touched_at x next low behind (same_or_other name x);
 }
   where
-    here : kept_by new name ≡ held_of now
+    here : kept_by new name ≡ name_state now
     here = ap held_under (changed name ∙ same_gets name (Some now) (value_at name old))
 
     elsewhere : (x : Name) → is_eq (name_cmp name x) ≡ false → kept_by new x ≡ kept_by old x
@@ -89,21 +89,21 @@ changed_know es base rows old new name e now over changed shows unset touched kn
     same_last : (f : Name × Node) → IsOver (row_of rows 0) name f → f.1 ≡ e.1
     same_last f above = same_Some f.1 e.1 (sym above.there ∙ ap (λ (y : Name). value_at y (row_of rows 0)) (over_once (row_of rows 0) name f e above over) ∙ over.there)
 
-    shown : (x : Name) (f : Name × Node) (at : ℕ) → IsOver (row_of rows 0) x f → f.1.last ≡ Some at → (name ≡ x) ⊎ (is_eq (name_cmp name x) ≡ false) → version_in (entry_at es at) x ≡ shown_held at (kept_by new x)
-    shown x f at above last (inr apart) = know.shown x f at above last ∙ ap (λ (h : Held). shown_held at h) (sym (elsewhere x apart))
+    shown : (x : Name) (f : Name × Node) (at : ℕ) → IsOver (row_of rows 0) x f → f.1.last ≡ Some at → (name ≡ x) ⊎ (is_eq (name_cmp name x) ≡ false) → version_imaged (entry_at es at) x ≡ shown_held at (kept_by new x)
+    shown x f at above last (inr apart) = know.shown x f at above last ∙ ap (λ (h : NameState). shown_held at h) (sym (elsewhere x apart))
     shown x f at above last (inl same) =
         let at_name : IsOver (row_of rows 0) name f = subst (λ (y : Name). IsOver (row_of rows 0) y f) (sym same) above in
-        subst (λ (y : Name). version_in (entry_at es at) y ≡ shown_held at (kept_by new y)) same
-        (know.shown name f at at_name last ∙ sym (shows at (sym (ap (λ (n : Node). n.last) (same_last f at_name)) ∙ last)) ∙ ap (λ (h : Held). shown_held at h) (sym here))
+        subst (λ (y : Name). version_imaged (entry_at es at) y ≡ shown_held at (kept_by new y)) same
+        (know.shown name f at at_name last ∙ sym (shows at (sym (ap (λ (n : Node). n.last) (same_last f at_name)) ∙ last)) ∙ ap (λ (h : NameState). shown_held at h) (sym here))
 
-    unset_at : (x : Name) → (name ≡ x) ⊎ (is_eq (name_cmp name x) ≡ false) → (kept_by new x).version ≡ Unset → kept_by new x ≡ held_of fresh
-    unset_at x (inr apart) is = elsewhere x apart ∙ know.unset x (sym (ap (λ (h : Held). h.version) (elsewhere x apart)) ∙ is)
+    unset_at : (x : Name) → (name ≡ x) ⊎ (is_eq (name_cmp name x) ≡ false) → (kept_by new x).version ≡ Unset → kept_by new x ≡ name_state fresh
+    unset_at x (inr apart) is = elsewhere x apart ∙ know.unset x (sym (ap (λ (h : NameState). h.version) (elsewhere x apart)) ∙ is)
     unset_at x (inl same) is =
-        subst (λ (y : Name). (kept_by new y).version ≡ Unset → kept_by new y ≡ held_of fresh) same (λ (h : (kept_by new name).version ≡ Unset). here ∙ unset (sym (ap (λ (k : Held). k.version) here) ∙ h)) is
+        subst (λ (y : Name). (kept_by new y).version ≡ Unset → kept_by new y ≡ name_state fresh) same (λ (h : (kept_by new name).version ≡ Unset). here ∙ unset (sym (ap (λ (k : NameState). k.version) here) ∙ h)) is
 
     touched_at : (x : Name) (next : ℕ) → base ≤ next → AllByRecursion (λ p. p.0 < next) es → (name ≡ x) ⊎ (is_eq (name_cmp name x) ≡ false) → (kept_by new x).touched ≤ next
-    touched_at x next low behind (inr apart) = subst (λ (h : Held). h.touched ≤ next) (sym (elsewhere x apart)) (know.touched x next low behind)
-    touched_at x next low behind (inl same) = subst (λ (y : Name). (kept_by new y).touched ≤ next) same (subst (λ (h : Held). h.touched ≤ next) (sym here) (touched next low behind))
+    touched_at x next low behind (inr apart) = subst (λ (h : NameState). h.touched ≤ next) (sym (elsewhere x apart)) (know.touched x next low behind)
+    touched_at x next low behind (inl same) = subst (λ (y : Name). (kept_by new y).touched ≤ next) same (subst (λ (h : NameState). h.touched ≤ next) (sym here) (touched next low behind))
 
 -- a name's change is committed
 pub commit_know : (es : Placed) (base : ℕ) (rows : List NodeRow) (old new : List (Name × Cell)) (name : Name) (at : ℕ) (e : Name × Node) → IsCommitAt es at → IsOver (row_of rows 0) name e →
@@ -119,7 +119,7 @@ commit_know es base rows old new name at e commit over reads some changed know =
         (λ lsn last.
         subst (λ (o : Option ℕ). shown_by (Some lsn) (committed at o cell) ≡ shown_by (Some lsn) cell) (sym last) (committed_shown at lsn cell (commit.behind lsn (reads lsn last)))
         ∙ ap (λ (o : Option Cell). shown_held lsn (held_under o)) (sym there))
-        (committed_unset at e.1.last cell (subst (λ (o : Option Cell). (held_under o).version ≡ Unset → held_under o ≡ held_of fresh) there (know.unset name)))
+        (committed_unset at e.1.last cell (subst (λ (o : Option Cell). (held_under o).version ≡ Unset → held_under o ≡ name_state fresh) there (know.unset name)))
         (λ next low behind. committed_touched at e.1.last cell next (subst (λ (o : Option Cell). (held_under o).touched ≤ next) there (know.touched name next low behind)) (commit.before next behind)) know
 
 -- ---- changes that are redone
@@ -153,7 +153,7 @@ redo_know es base rows old new name value at commit e over less before has know 
     changed_know es base rows old new name e (with_logged value at commit e.1.last cell) over has
     (λ lsn last.
     subst (λ (o : Option ℕ). shown_by (Some lsn) (with_logged value at commit o cell) ≡ shown_by (Some lsn) cell) (sym last) (logged_shown value at commit lsn cell (less lsn last))
-    ∙ ap (λ (h : Held). shown_held lsn h) (fresh_holds (value_at name old)))
+    ∙ ap (λ (h : NameState). shown_held lsn h) (fresh_holds (value_at name old)))
     (λ is. logged_unset value at commit e.1.last cell is) (λ next low behind. subst (λ (n : ℕ). n ≤ next) (sym (logged_touched value at commit e.1.last cell)) (before next low behind)) know
 
 -- the Commit that a redone change counts as

@@ -14,7 +14,7 @@ use Rattle.record_map.specs.declared.cell.Cell.{Cell}
 use Rattle.record_map.specs.Cells.{value_at, between_edges, upper_edge, IsRising}
 use Rattle.record_map.proofs.NameLaws.{name_same, same_or_other, other_stays, same_gets}
 use Rattle.tree_nodes.specs.declared.node.Node.{Node}
-use Rattle.tree_nodes.specs.Nodes.{NodeRow, IsOver, earlier, is_dirty, low_behind, marked, unmarked}
+use Rattle.tree_nodes.specs.Nodes.{NodeRow, IsOver, earlier, is_dirty, low_behind, marked, without_mark}
 use Rattle.tree_nodes.specs.Levels.{row_of, AreParts, HasMarkedAt}
 use Rattle.tree_nodes.proofs.LowLaws.{keys_passed, low_after_is}
 use Rattle.tree_nodes.specs.Lows.{low_after, lows_of}
@@ -77,7 +77,7 @@ settled_exact mid new cells x from s is same n there = by_test (is_as_imaged (ro
   where
     by_test : (t : Bool) → is_as_imaged (row_of mid 0) cells s.e ≡ t → is_dirty n ≡ not (is_as_imaged (row_of new 0) cells (s.e.0, n))
     by_test true imaged =
-        let node : n ≡ unmarked s.e.1 = same_Some n (unmarked s.e.1) (sym there ∙ (s.cleared imaged).here s.e.0 ∙ same_gets s.e.0 (Some (unmarked s.e.1)) (value_at s.e.0 (row_of mid 0))) in
+        let node : n ≡ without_mark s.e.1 = same_Some n (without_mark s.e.1) (sym there ∙ (s.cleared imaged).here s.e.0 ∙ same_gets s.e.0 (Some (without_mark s.e.1)) (value_at s.e.0 (row_of mid 0))) in
         ap is_dirty node ∙ clean s.e.1.forced (is_some s.e.1.last) (are_as_shown s.e.1.last s.e.0 (row_of mid 0) cells) imaged
         ∙ sym (ap not (ap (λ (k : Node). is_as_imaged (row_of new 0) cells (s.e.0, k)) node
         ∙ ap (λ (h : Option Name). not s.e.1.forced && (is_some s.e.1.last && list_all (λ e. is_as_shown s.e.1.last e.1) (between_edges (At s.e.0) (upper_edge h) cells))) (behind_same mid new s.e.0 same) ∙ imaged))
@@ -104,7 +104,7 @@ settled_elsewhere : (mid new : List NodeRow) (cells : List (Name × Cell)) (x lo
 settled_elsewhere mid new cells x low s apart = by_test (is_as_imaged (row_of mid 0) cells s.e) refl
   where
     by_test : (t : Bool) → is_as_imaged (row_of mid 0) cells s.e ≡ t → value_at low (row_of new 0) ≡ value_at low (row_of mid 0)
-    by_test true is = (s.cleared is).here low ∙ other_stays s.e.0 low (Some (unmarked s.e.1)) (value_at low (row_of mid 0)) apart
+    by_test true is = (s.cleared is).here low ∙ other_stays s.e.0 low (Some (without_mark s.e.1)) (value_at low (row_of mid 0)) apart
     by_test false is = ap (λ (r : List NodeRow). value_at low (row_of r 0)) (s.kept is)
 
 -- a name's change is committed

@@ -14,11 +14,11 @@ use Rattle.node_core.specs.declared.slot.Version.TheVariants.{There, Deleted, Un
 use Rattle.record_map.specs.declared.cell.Cell.{Cell}
 use Rattle.record_map.specs.Cells.{value_at, between_edges, fresh, upper_edge, shown_by}
 use Rattle.tree_nodes.specs.declared.node.Node.{Node}
-use Rattle.tree_nodes.specs.Nodes.{NodeRow, IsOver, low_behind, unmarked}
+use Rattle.tree_nodes.specs.Nodes.{NodeRow, IsOver, low_behind, without_mark}
 use Rattle.tree_nodes.specs.Levels.{row_of, HasPutAt, HasUnmarkedAt}
-use Rattle.db_tree.specs.Content.{Held, held_of, held_under, kept_by, shown_held}
+use Rattle.db_tree.specs.Content.{NameState, name_state, held_under, kept_by, shown_held}
 use Rattle.db_tree.specs.Dirty.{are_as_shown, is_as_imaged, is_as_shown, is_same_version, is_unlike}
-use Rattle.db_tree.specs.Images.{Placed, IsRead, child_in, entry_at, says, shown, version_in}
+use Rattle.db_tree.specs.Images.{Placed, IsRead, child_in, entry_at, last_says, shown, version_imaged}
 use Rattle.db_tree.specs.Trees.{IsBehind, IsMarked, IsTree, IsTreeOf, KnowImages}
 use Rattle.db_tree.proofs.Contents.{passed_found, within}
 use Rattle.db_tree.proofs.Over.{over_low, over_once, over_put}
@@ -61,7 +61,7 @@ all_pass p (e ∷ cells) x cell all there = by_test (is_at (name_cmp x) e.0) the
     by_test true here true is all_is later = ap p (sym (same_cell e.1 cell here)) ∙ is
     by_test false here true is all_is later = later all_is here
 
-fresh_shown : (at : ℕ) → shown_held at (held_of fresh) ≡ Unset
+fresh_shown : (at : ℕ) → shown_held at (name_state fresh) ≡ Unset
 fresh_shown at = by_test (nat_lt at 0)
   where
     by_test : (t : Bool) → cond t Unset Unset ≡ Unset
@@ -70,7 +70,7 @@ fresh_shown at = by_test (nat_lt at 0)
 
 -- what the image of a BIN says of a name is committed, where so it is with each of the BIN's cells
 pub held_shown : (es : Placed) (base : ℕ) (rows : List NodeRow) (cells : List (Name × Cell)) (e : Name × Node) (at : ℕ) (x : Name) → KnowImages es base rows (kept_by cells) → e.1.last ≡ Some at →
-    are_as_shown (Some at) e.0 (row_of rows 0) cells ≡ true → IsOver (row_of rows 0) x e → version_in (entry_at es at) x ≡ (kept_by cells x).version
+    are_as_shown (Some at) e.0 (row_of rows 0) cells ≡ true → IsOver (row_of rows 0) x e → version_imaged (entry_at es at) x ≡ (kept_by cells x).version
 held_shown es base rows cells e at x know is all over = know.shown x e at over is ∙ by_cell (value_at x cells) refl
   where
     by_cell : (o : Option Cell) → value_at x cells ≡ o → shown_held at (held_under o) ≡ (held_under o).version
@@ -99,7 +99,7 @@ comes_put old new m n l x e there put over = by_level (cases_eq l 0)
         by_place (inr was) = inr (subst (λ (k : ℕ). IsOver (row_of old k) x e) (sym same) was)
 
 -- what images say is known where a node of a BIN was put that has the same last image
-pub put_know : (es : Placed) (base : ℕ) (old new : List NodeRow) (held : Name → Held) (m : Name × Node) (n : Node) → value_at m.0 (row_of old 0) ≡ Some m.1 → n.last ≡ m.1.last → HasPutAt old new 0 m.0 n →
+pub put_know : (es : Placed) (base : ℕ) (old new : List NodeRow) (held : Name → NameState) (m : Name × Node) (n : Node) → value_at m.0 (row_of old 0) ≡ Some m.1 → n.last ≡ m.1.last → HasPutAt old new 0 m.0 n →
     KnowImages es base old held → KnowImages es base new held
 put_know es base old new held m n there same put know = know_come es base old new held (λ x e over. from x e (comes_put old new m n 0 x e there put over)) know
   where
@@ -108,34 +108,34 @@ put_know es base old new held m n there same put know = know_come es base old ne
     from x e (inr over) = (e, over, refl)
 
 -- a tree fits its log still
-pub unmarked_tree : (es : Placed) (base : ℕ) (newest : Name → ℕ) (old new : List NodeRow) (held : Name → Held) (m : Name × Node) → value_at m.0 (row_of old 0) ≡ Some m.1 → HasPutAt old new 0 m.0 (unmarked m.1) →
-    ((x : Name) → IsOver (row_of old 0) x m → says es m.1.last x ≡ (held x).version) → IsTreeOf es base newest old held → IsTreeOf es base newest new held
+pub unmarked_tree : (es : Placed) (base : ℕ) (newest : Name → ℕ) (old new : List NodeRow) (held : Name → NameState) (m : Name × Node) → value_at m.0 (row_of old 0) ≡ Some m.1 → HasPutAt old new 0 m.0 (without_mark m.1) →
+    ((x : Name) → IsOver (row_of old 0) x m → last_says es m.1.last x ≡ (held x).version) → IsTreeOf es base newest old held → IsTreeOf es base newest new held
 unmarked_tree es base newest old new held m there put shows tree = record {
   reads = λ l x e at over is. reads l x e at is (from l x e over);
   leaf = λ x e over. leaf x e (from 0 x e over);
   inner = λ l x e c upper lower. inner l x e c (from (suc l) x e upper) (from l x c lower);
   names = λ l x e c at upper lower is. names l x e c at is (from (suc l) x e upper) (from l x c lower);
-  know = put_know es base old new held m (unmarked m.1) there refl put tree.know;
+  know = put_know es base old new held m (without_mark m.1) there refl put tree.know;
 }
   where
-    from : (l : ℕ) (x : Name) (e : Name × Node) → IsOver (row_of new l) x e → ComesPut old m (unmarked m.1) l x e
-    from l x e over = comes_put old new m (unmarked m.1) l x e there put over
+    from : (l : ℕ) (x : Name) (e : Name × Node) → IsOver (row_of new l) x e → ComesPut old m (without_mark m.1) l x e
+    from l x e over = comes_put old new m (without_mark m.1) l x e there put over
 
-    last_of : (e : Name × Node) → e.1 ≡ unmarked m.1 → e.1.last ≡ m.1.last
+    last_of : (e : Name × Node) → e.1 ≡ without_mark m.1 → e.1.last ≡ m.1.last
     last_of e is = ap (λ (n : Node). n.last) is
 
-    reads : (l : ℕ) (x : Name) (e : Name × Node) (at : ℕ) → e.1.last ≡ Some at → ComesPut old m (unmarked m.1) l x e → IsRead es l at x
+    reads : (l : ℕ) (x : Name) (e : Name × Node) (at : ℕ) → e.1.last ≡ Some at → ComesPut old m (without_mark m.1) l x e → IsRead es l at x
     reads l x e at is (inl c) = subst (λ (k : ℕ). IsRead es k at x) (sym c.0) (tree.reads 0 x m at c.2 (sym (last_of e c.1) ∙ is))
     reads l x e at is (inr over) = tree.reads l x e at over is
 
-    leaf : (x : Name) (e : Name × Node) → ComesPut old m (unmarked m.1) 0 x e → (says es e.1.last x ≡ (held x).version) ⊎ IsBehind base newest e.1 x
-    leaf x e (inl c) = inl (ap (λ (last : Option ℕ). says es last x) (last_of e c.1) ∙ shows x c.2)
+    leaf : (x : Name) (e : Name × Node) → ComesPut old m (without_mark m.1) 0 x e → (last_says es e.1.last x ≡ (held x).version) ⊎ IsBehind base newest e.1 x
+    leaf x e (inl c) = inl (ap (λ (last : Option ℕ). last_says es last x) (last_of e c.1) ∙ shows x c.2)
     leaf x e (inr over) = tree.leaf x e over
 
     none : {A : Type 0} (l : ℕ) → suc l ≡ 0 → A
     none l is = absurd (omega (arith, is))
 
-    inner : (l : ℕ) (x : Name) (e c : Name × Node) → ComesPut old m (unmarked m.1) (suc l) x e → ComesPut old m (unmarked m.1) l x c → (shown es (suc l) e.1.last x ≡ shown es l c.1.last x) ⊎ IsBehind base newest e.1 x
+    inner : (l : ℕ) (x : Name) (e c : Name × Node) → ComesPut old m (without_mark m.1) (suc l) x e → ComesPut old m (without_mark m.1) l x c → (shown es (suc l) e.1.last x ≡ shown es l c.1.last x) ⊎ IsBehind base newest e.1 x
     inner l x e c (inl up) low = none l up.0
     inner l x e c (inr up) (inr low) = tree.inner l x e c up low
     inner l x e c (inr up) (inl low) = by_side (tree.inner l x e m up (subst (λ (k : ℕ). IsOver (row_of old k) x m) (sym low.0) low.2))
@@ -144,7 +144,7 @@ unmarked_tree es base newest old new held m there put shows tree = record {
         by_side (inl h) = inl (h ∙ sym (ap (λ (last : Option ℕ). shown es l last x) (last_of c low.1)))
         by_side (inr h) = inr h
 
-    names : (l : ℕ) (x : Name) (e c : Name × Node) (at : ℕ) → e.1.last ≡ Some at → ComesPut old m (unmarked m.1) (suc l) x e → ComesPut old m (unmarked m.1) l x c → (child_in (entry_at es at) x ≡ c.1.last) ⊎ IsMarked e.1
+    names : (l : ℕ) (x : Name) (e c : Name × Node) (at : ℕ) → e.1.last ≡ Some at → ComesPut old m (without_mark m.1) (suc l) x e → ComesPut old m (without_mark m.1) l x c → (child_in (entry_at es at) x ≡ c.1.last) ⊎ IsMarked e.1
     names l x e c at is (inl up) low = none l up.0
     names l x e c at is (inr up) (inr low) = tree.names l x e c at up low is
     names l x e c at is (inr up) (inl low) = by_side (tree.names l x e m at up (subst (λ (k : ℕ). IsOver (row_of old k) x m) (sym low.0) low.2) is)
@@ -154,17 +154,17 @@ unmarked_tree es base newest old new held m there put shows tree = record {
         by_side (inr h) = inr h
 
 -- a BIN with its last image's content needs no mark
-pub settled_tree : (es : Placed) (base : ℕ) (newest : Name → ℕ) (old new : List NodeRow) (cells : List (Name × Cell)) (m : Name × Node) → value_at m.0 (row_of old 0) ≡ Some m.1 → HasPutAt old new 0 m.0 (unmarked m.1) →
+pub settled_tree : (es : Placed) (base : ℕ) (newest : Name → ℕ) (old new : List NodeRow) (cells : List (Name × Cell)) (m : Name × Node) → value_at m.0 (row_of old 0) ≡ Some m.1 → HasPutAt old new 0 m.0 (without_mark m.1) →
     is_some m.1.last ≡ true → are_as_shown m.1.last m.0 (row_of old 0) cells ≡ true → IsTree es base newest old cells → IsTree es base newest new cells
 settled_tree es base newest old new cells m there put some all tree = unmarked_tree es base newest old new (kept_by cells) m there put (λ x over. by_last m.1.last refl some all x over) tree
   where
-    by_last : (o : Option ℕ) → m.1.last ≡ o → is_some o ≡ true → are_as_shown o m.0 (row_of old 0) cells ≡ true → (x : Name) → IsOver (row_of old 0) x m → says es o x ≡ (kept_by cells x).version
+    by_last : (o : Option ℕ) → m.1.last ≡ o → is_some o ≡ true → are_as_shown o m.0 (row_of old 0) cells ≡ true → (x : Name) → IsOver (row_of old 0) x m → last_says es o x ≡ (kept_by cells x).version
     by_last None is has are x over = absurd (true≢false (sym has))
     by_last (Some at) is has are x over = held_shown es base old cells m at x tree.know is are over
 
 -- the node over a name got no mark
-pub unmarked_at : (old new : List NodeRow) (x : Name) (e : Name × Node) → HasUnmarkedAt old new 0 x → IsOver (row_of old 0) x e → HasPutAt old new 0 e.0 (unmarked e.1)
-unmarked_at old new x e m over = subst (λ (n : Node). HasPutAt old new 0 e.0 (unmarked n)) node (subst (λ (y : Name). HasPutAt old new 0 y (unmarked m.e.1)) name m.put)
+pub unmarked_at : (old new : List NodeRow) (x : Name) (e : Name × Node) → HasUnmarkedAt old new 0 x → IsOver (row_of old 0) x e → HasPutAt old new 0 e.0 (without_mark e.1)
+unmarked_at old new x e m over = subst (λ (n : Node). HasPutAt old new 0 e.0 (without_mark n)) node (subst (λ (y : Name). HasPutAt old new 0 y (without_mark m.e.1)) name m.put)
   where
     name : m.e.0 ≡ e.0
     name = over_once (row_of old 0) x m.e e m.over over

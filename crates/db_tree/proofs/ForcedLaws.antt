@@ -23,7 +23,7 @@ use Rattle.db_tree.specs.declared.node_image.NodeImage.{NodeImage}
 use Rattle.db_tree.specs.Images.{Placed}
 use Rattle.db_tree.specs.NodeImages.{node_of}
 use Rattle.db_tree.specs.Shapes.{AreForced, with_forced, forced_if}
-use Rattle.db_tree.specs.Content.{Held}
+use Rattle.db_tree.specs.Content.{NameState}
 use Rattle.db_tree.specs.Trees.{IsTreeOf}
 use Rattle.db_tree.specs.Waiting.{is_same_name, is_forced, is_among, waits_in, waits_at, waiting_in, waiting_of, still_waiting}
 use Rattle.db_tree.proofs.BackLaws.{same_levels}
@@ -107,7 +107,7 @@ pub force_past : (b : Bool) (rows : List NodeRow) (level : ℕ) (low : Name) →
 force_past b rows level low are past = force_none b rows level low are (past_none rows level low past)
 
 -- the tree fits its log as before
-pub force_tree : (b : Bool) (es : Placed) (base : ℕ) (newest : Name → ℕ) (old new : List NodeRow) (held : Name → Held) (level : ℕ) (low : Name) (m : Node) → value_at low (row_of old level) ≡ Some m → HasPutAt old new level low (with_forced b m) →
+pub force_tree : (b : Bool) (es : Placed) (base : ℕ) (newest : Name → ℕ) (old new : List NodeRow) (held : Name → NameState) (level : ℕ) (low : Name) (m : Node) → value_at low (row_of old level) ≡ Some m → HasPutAt old new level low (with_forced b m) →
     IsTreeOf es base newest old held → IsTreeOf es base newest new held
 force_tree b es base newest old new held level low m there put tree =
     marked_or_split es base newest old new held level low low m (with_forced b m) (over_low (row_of old level) low m there) put (record { last = refl; from = λ f own. (f, own, le_refl f) }) tree

@@ -10,8 +10,8 @@ use Rattle.tree_nodes.specs.declared.node.Node.{Node}
 use Rattle.tree_nodes.specs.Nodes.{NodeRow, least, IsOver}
 use Rattle.tree_nodes.specs.Levels.{row_of, AreParts}
 use Rattle.node_core.specs.declared.slot.Version.{Version}
-use Rattle.db_tree.specs.Content.{Held, lsn_of, shown_held}
-use Rattle.db_tree.specs.Images.{Placed, entry_at, child_in, says, shown, shows, version_in, IsRead}
+use Rattle.db_tree.specs.Content.{NameState, lsn_of, shown_held}
+use Rattle.db_tree.specs.Images.{Placed, entry_at, child_in, last_says, shown, shows, version_imaged, IsRead}
 use Rattle.db_tree.specs.Trees.{IsTreeOf, IsBehind, IsMarked, ShowsContent, NamesChildren}
 use Rattle.db_tree.specs.Laws.{TreesAreLogged, TreesAreRaised}
 use Rattle.db_tree.proofs.Order.{up_trans}
@@ -37,12 +37,12 @@ child_is_over rows level x low are there =
 -- ---- a node is logged
 
 -- what an image shows is what the node's last one showed, but for names that the node is behind for
-image_same : (es : Placed) (base : ℕ) (newest : Name → ℕ) (rows : List NodeRow) (held : Name → Held) (level : ℕ) (x : Name) (e : Name × Node) (at : ℕ) →
+image_same : (es : Placed) (base : ℕ) (newest : Name → ℕ) (rows : List NodeRow) (held : Name → NameState) (level : ℕ) (x : Name) (e : Name × Node) (at : ℕ) →
     AreParts rows → IsTreeOf es base newest rows held → IsOver (row_of rows level) x e → ShowsContent es rows held level at x →
     (shown es level e.1.last x ≡ shows es level at x) ⊎ IsBehind base newest e.1 x
 image_same es base newest rows held zero x e at are tree over content = by_side (tree.leaf x e over)
   where
-    by_side : (says es e.1.last x ≡ (held x).version) ⊎ IsBehind base newest e.1 x → (shown es 0 e.1.last x ≡ shows es 0 at x) ⊎ IsBehind base newest e.1 x
+    by_side : (last_says es e.1.last x ≡ (held x).version) ⊎ IsBehind base newest e.1 x → (shown es 0 e.1.last x ≡ shows es 0 at x) ⊎ IsBehind base newest e.1 x
     by_side (inl h) = inl (sym (says_shown es e.1.last x) ∙ ap (λ (v : Version). lsn_of v) (h ∙ sym content.0) ∙ image_says (entry_at es at) x)
     by_side (inr h) = inr h
 image_same es base newest rows held (suc level) x e at are tree over content =
@@ -86,16 +86,16 @@ logged es base newest old new held level low n m at are there has last image han
         subst (λ k. IsRead es k lsn x) (sym new_.0) (subst (λ k. IsRead es level k x) (same_Some at lsn (sym (last_is e new_.1) ∙ is)) (image.reads x new_.2))
     at_reads l x e lsn is (inr over) = tree.reads l x e lsn over is
 
-    at_leaf : (x : Name) (e : Name × Node) → ((0 ≡ level) × (e.1 ≡ m) × IsOver (row_of old level) x (low, n)) ⊎ IsOver (row_of old 0) x e → (says es e.1.last x ≡ (held x).version) ⊎ IsBehind base newest e.1 x
+    at_leaf : (x : Name) (e : Name × Node) → ((0 ≡ level) × (e.1 ≡ m) × IsOver (row_of old level) x (low, n)) ⊎ IsOver (row_of old 0) x e → (last_says es e.1.last x ≡ (held x).version) ⊎ IsBehind base newest e.1 x
     at_leaf x e (inl new_) =
         let content : ShowsContent es old held 0 at x = subst (λ k. ShowsContent es old held k at x) (sym new_.0) (image.shows x new_.2) in
-        inl (ap (λ k. says es k x) (last_is e new_.1) ∙ content.0)
+        inl (ap (λ k. last_says es k x) (last_is e new_.1) ∙ content.0)
     at_leaf x e (inr over) = tree.leaf x e over
 
-    at_shown : (x : Name) (e : Name × Node) (lsn : ℕ) → e.1.last ≡ Some lsn → ((0 ≡ level) × (e.1 ≡ m) × IsOver (row_of old level) x (low, n)) ⊎ IsOver (row_of old 0) x e → version_in (entry_at es lsn) x ≡ shown_held lsn (held x)
+    at_shown : (x : Name) (e : Name × Node) (lsn : ℕ) → e.1.last ≡ Some lsn → ((0 ≡ level) × (e.1 ≡ m) × IsOver (row_of old level) x (low, n)) ⊎ IsOver (row_of old 0) x e → version_imaged (entry_at es lsn) x ≡ shown_held lsn (held x)
     at_shown x e lsn is (inl new_) =
         let content : ShowsContent es old held 0 at x = subst (λ k. ShowsContent es old held k at x) (sym new_.0) (image.shows x new_.2) in
-        subst (λ (k : ℕ). version_in (entry_at es k) x ≡ shown_held k (held x)) (same_Some at lsn (sym (last_is e new_.1) ∙ is)) (content.0 ∙ sym (shown_behind at (held x) content.1))
+        subst (λ (k : ℕ). version_imaged (entry_at es k) x ≡ shown_held k (held x)) (same_Some at lsn (sym (last_is e new_.1) ∙ is)) (content.0 ∙ sym (shown_behind at (held x) content.1))
     at_shown x e lsn is (inr over) = tree.know.shown x e lsn over is
 
     -- the node above the one that was logged
@@ -176,11 +176,11 @@ raised es base newest old new held top root at height has last reads content nam
         subst (λ k. IsRead es k lsn x) (sym new_.0) (subst (λ k. IsRead es (suc top) k x) (same_Some at lsn (sym (last_is e new_.1) ∙ is)) (reads x))
     at_reads l x e lsn is (inr over) = tree.reads l x e lsn over.1 is
 
-    at_leaf : (x : Name) (e : Name × Node) → ((0 ≡ suc top) × (e.1 ≡ root)) ⊎ ((0 ≤ top) × IsOver (row_of old 0) x e) → (says es e.1.last x ≡ (held x).version) ⊎ IsBehind base newest e.1 x
+    at_leaf : (x : Name) (e : Name × Node) → ((0 ≡ suc top) × (e.1 ≡ root)) ⊎ ((0 ≤ top) × IsOver (row_of old 0) x e) → (last_says es e.1.last x ≡ (held x).version) ⊎ IsBehind base newest e.1 x
     at_leaf x e (inl new_) = let none : 0 ≡ suc top = new_.0 in absurd (omega arith)
     at_leaf x e (inr over) = tree.leaf x e over.1
 
-    at_shown : (x : Name) (e : Name × Node) (lsn : ℕ) → e.1.last ≡ Some lsn → ((0 ≡ suc top) × (e.1 ≡ root)) ⊎ ((0 ≤ top) × IsOver (row_of old 0) x e) → version_in (entry_at es lsn) x ≡ shown_held lsn (held x)
+    at_shown : (x : Name) (e : Name × Node) (lsn : ℕ) → e.1.last ≡ Some lsn → ((0 ≡ suc top) × (e.1 ≡ root)) ⊎ ((0 ≤ top) × IsOver (row_of old 0) x e) → version_imaged (entry_at es lsn) x ≡ shown_held lsn (held x)
     at_shown x e lsn is (inl new_) = let none : 0 ≡ suc top = new_.0 in absurd (omega arith)
     at_shown x e lsn is (inr over) = tree.know.shown x e lsn over.1 is
 

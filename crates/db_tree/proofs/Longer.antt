@@ -7,7 +7,7 @@ use Rattle.log_entry.specs.declared.entry.Entry.{Entry}
 use Rattle.tree_nodes.specs.declared.node.Node.{Node}
 use Rattle.tree_nodes.specs.Nodes.{IsOver}
 use Rattle.tree_nodes.specs.Levels.{row_of}
-use Rattle.db_tree.specs.Images.{Placed, entry_at, record_in, child_in, says, shows, shown, version_in, IsBin, IsRead}
+use Rattle.db_tree.specs.Images.{Placed, entry_at, record_in, child_in, last_says, shows, shown, version_imaged, IsBin, IsRead}
 use Rattle.db_tree.specs.Trees.{IsBehind, IsMarked}
 use Rattle.db_tree.specs.Laws.{TreesStayInLongerLogs}
 use Rattle.db_tree.proofs.Says.{all_front}
@@ -63,7 +63,7 @@ longer es more base newest newer rows held le tree = record {
   inner = λ level x e c upper lower. at_inner level x e c (same_shown (suc level) x e upper e.1.last refl) (same_shown level x c lower c.1.last refl) (tree.inner level x e c upper lower);
   names = λ level x e c at upper lower is. at_names level x e c at (tree.reads (suc level) x e at upper is) (tree.names level x e c at upper lower is);
   know = record {
-    shown = λ x e at over is. ap (λ (o : Option Entry). version_in o x) (bin_stays es more at (tree.reads 0 x e at over is)) ∙ tree.know.shown x e at over is;
+    shown = λ x e at over is. ap (λ (o : Option Entry). version_imaged o x) (bin_stays es more at (tree.reads 0 x e at over is)) ∙ tree.know.shown x e at over is;
     unset = tree.know.unset;
     touched = λ x next low all. tree.know.touched x next low (all_front next es more all);
   };
@@ -73,12 +73,12 @@ longer es more base newest newer rows held le tree = record {
     same_shown level x e over None is = refl
     same_shown level x e over (Some at) is = shows_stays es more level at x (tree.reads level x e at over is)
 
-    same_says : (x : Name) (e : Name × Node) → IsOver (row_of rows 0) x e → (last : Option ℕ) → e.1.last ≡ last → says (es ++ more) last x ≡ says es last x
+    same_says : (x : Name) (e : Name × Node) → IsOver (row_of rows 0) x e → (last : Option ℕ) → e.1.last ≡ last → last_says (es ++ more) last x ≡ last_says es last x
     same_says x e over None is = refl
-    same_says x e over (Some at) is = ap (λ (o : Option Entry). version_in o x) (bin_stays es more at (tree.reads 0 x e at over is))
+    same_says x e over (Some at) is = ap (λ (o : Option Entry). version_imaged o x) (bin_stays es more at (tree.reads 0 x e at over is))
 
-    at_leaf : (x : Name) (e : Name × Node) → says (es ++ more) e.1.last x ≡ says es e.1.last x → (says es e.1.last x ≡ (held x).version) ⊎ IsBehind base newest e.1 x →
-        (says (es ++ more) e.1.last x ≡ (held x).version) ⊎ IsBehind base newer e.1 x
+    at_leaf : (x : Name) (e : Name × Node) → last_says (es ++ more) e.1.last x ≡ last_says es e.1.last x → (last_says es e.1.last x ≡ (held x).version) ⊎ IsBehind base newest e.1 x →
+        (last_says (es ++ more) e.1.last x ≡ (held x).version) ⊎ IsBehind base newer e.1 x
     at_leaf x e same (inl h) = inl (same ∙ h)
     at_leaf x e same (inr h) = inr (behind_stays base newest newer e.1 x (le x) h)
 

@@ -5,8 +5,8 @@ use Rattle.je_order.specs.declared.name.Name.{Name}
 use Rattle.tree_nodes.specs.declared.node.Node.{Node}
 use Rattle.tree_nodes.specs.Nodes.{NodeRow, IsOver}
 use Rattle.tree_nodes.specs.Levels.{row_of}
-use Rattle.db_tree.specs.Content.{Held}
-use Rattle.db_tree.specs.Images.{Placed, entry_at, child_in, says, shown}
+use Rattle.db_tree.specs.Content.{NameState}
+use Rattle.db_tree.specs.Images.{Placed, entry_at, child_in, last_says, shown}
 use Rattle.db_tree.specs.Trees.{IsTreeOf, IsBehind, IsMark, IsMarked}
 use Rattle.db_tree.specs.Laws.{TreesAreSplitAndMarked, TreesAreCommitted}
 use Rattle.db_tree.proofs.Over.{over_put}
@@ -34,7 +34,7 @@ behind_marked base newest m n x mark behind =
     by_side g le (inr h) = inr (omega arith)
 
 -- a tree of nodes that come from those of a tree of the log
-pub come : (es : Placed) (base : ℕ) (newest : Name → ℕ) (old new : List NodeRow) (held : Name → Held) →
+pub come : (es : Placed) (base : ℕ) (newest : Name → ℕ) (old new : List NodeRow) (held : Name → NameState) →
     ((level : ℕ) (x : Name) (e : Name × Node) → IsOver (row_of new level) x e → Comes base newest (row_of old level) x e) →
     IsTreeOf es base newest old held → IsTreeOf es base newest new held
 come es base newest old new held from tree = record {
@@ -45,11 +45,11 @@ come es base newest old new held from tree = record {
   know = know_come es base old new held (λ x e over. let c = from 0 x e over in (c.was, c.over, c.last)) tree.know;
 }
   where
-    at_leaf : (x : Name) (e : Name × Node) → Comes base newest (row_of old 0) x e → (says es e.1.last x ≡ (held x).version) ⊎ IsBehind base newest e.1 x
+    at_leaf : (x : Name) (e : Name × Node) → Comes base newest (row_of old 0) x e → (last_says es e.1.last x ≡ (held x).version) ⊎ IsBehind base newest e.1 x
     at_leaf x e c = by_side (tree.leaf x c.was c.over)
       where
-        by_side : (says es c.was.1.last x ≡ (held x).version) ⊎ IsBehind base newest c.was.1 x → (says es e.1.last x ≡ (held x).version) ⊎ IsBehind base newest e.1 x
-        by_side (inl h) = inl (ap (λ last. says es last x) c.last ∙ h)
+        by_side : (last_says es c.was.1.last x ≡ (held x).version) ⊎ IsBehind base newest c.was.1 x → (last_says es e.1.last x ≡ (held x).version) ⊎ IsBehind base newest e.1 x
+        by_side (inl h) = inl (ap (λ last. last_says es last x) c.last ∙ h)
         by_side (inr h) = inr (c.behind h)
 
     at_inner : (level : ℕ) (x : Name) (e c : Name × Node) → Comes base newest (row_of old (suc level)) x e → Comes base newest (row_of old level) x c →
@@ -98,13 +98,13 @@ committed es base newest rows held next changes know tree = record {
   know = know;
 }
   where
-    by_side : (x : Name) (e : Name × Node) → (says es e.1.last x ≡ (held x).version) ⊎ IsBehind base newest e.1 x → ((next x).version ≡ (held x).version) ⊎ IsBehind base newest e.1 x →
-        (says es e.1.last x ≡ (next x).version) ⊎ IsBehind base newest e.1 x
+    by_side : (x : Name) (e : Name × Node) → (last_says es e.1.last x ≡ (held x).version) ⊎ IsBehind base newest e.1 x → ((next x).version ≡ (held x).version) ⊎ IsBehind base newest e.1 x →
+        (last_says es e.1.last x ≡ (next x).version) ⊎ IsBehind base newest e.1 x
     by_side x e (inl h) (inl same) = inl (h ∙ sym same)
     by_side x e (inl h) (inr behind) = inr behind
     by_side x e (inr behind) change = inr behind
 
 -- what is held stays
-pub same_held : (es : Placed) (base : ℕ) (newest : Name → ℕ) (rows : List NodeRow) (held next : Name → Held) → ((x : Name) → next x ≡ held x) → IsTreeOf es base newest rows held → IsTreeOf es base newest rows next
+pub same_held : (es : Placed) (base : ℕ) (newest : Name → ℕ) (rows : List NodeRow) (held next : Name → NameState) → ((x : Name) → next x ≡ held x) → IsTreeOf es base newest rows held → IsTreeOf es base newest rows next
 same_held es base newest rows held next same tree =
-    committed es base newest rows held next (λ x e over. inl (ap (λ (h : Held). h.version) (same x))) (know_same es base rows held next same tree.know) tree
+    committed es base newest rows held next (λ x e over. inl (ap (λ (h : NameState). h.version) (same x))) (know_same es base rows held next same tree.know) tree

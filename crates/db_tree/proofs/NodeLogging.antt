@@ -11,7 +11,7 @@ use Rattle.tree_nodes.specs.declared.node.Node.{Node}
 use Rattle.tree_nodes.specs.Nodes.{NodeRow, IsOver, earlier, logged}
 use Rattle.tree_nodes.specs.Levels.{row_of, AreParts, HasPutAt, HasMarkedAt}
 use Rattle.db_tree.specs.Images.{Placed, entry_at, IsRead}
-use Rattle.db_tree.specs.Content.{Held, bin_image, in_image, kept_by}
+use Rattle.db_tree.specs.Content.{NameState, bin_image, in_image, kept_by}
 use Rattle.db_tree.specs.NodeSteps.{mark_above}
 use Rattle.db_tree.specs.Trees.{IsTreeOf, IsTree, IsImageOf, IsHandedOn}
 use Rattle.db_tree.proofs.Longer.{longer}
@@ -47,7 +47,7 @@ entry_is_last (p ∷ es) at e none = by_test (p.0 == at) (entry_is_last es at e)
 pub bin_logged : (es : Placed) (base : ℕ) (newest : Name → ℕ) (old handed new : List NodeRow) (cells : List (Name × Cell)) (low : Name) (n : Node) (at db number : ℕ) (entry : Entry) →
     IsRising cells → base ≤ at → AllByRecursion (λ p. p.0 < at) es → entry_at es at ≡ None → entry ≡ bin_image db number low (row_of old 0) cells → AreParts handed → row_of handed 0 ≡ row_of old 0 → value_at low (row_of handed 0) ≡ Some n →
     IsHandedOn handed 0 low n → HasPutAt handed new 0 low (logged at n) →
-    ((es : Placed) (base : ℕ) (newest : Name → ℕ) (held : Name → Held) → IsTreeOf es base newest old held → IsTreeOf es base newest handed held) →
+    ((es : Placed) (base : ℕ) (newest : Name → ℕ) (held : Name → NameState) → IsTreeOf es base newest old held → IsTreeOf es base newest handed held) →
     IsTree es base newest old cells → IsTree (es ++ (at, entry) ∷ []) base newest new cells
 bin_logged es base newest old handed new cells low n at db number entry up begun before fresh_ is are same there hand put kept tree =
     is_logged (es ++ (at, entry) ∷ []) base newest handed new (kept_by cells) 0 low n (logged at n) at are there put refl
@@ -58,10 +58,10 @@ bin_logged es base newest old handed new cells low n at db number entry up begun
 
 -- an IN is logged: the log gets its image, its mark is handed on, and the image is its last one
 abbrev pub LogsIn : ℕ → ℕ → Type 0
-LogsIn level k = (es : Placed) (base : ℕ) (newest : Name → ℕ) (old handed new : List NodeRow) (held : Name → Held) (low : Name) (n : Node) (at : ℕ) (entry : Entry) →
+LogsIn level k = (es : Placed) (base : ℕ) (newest : Name → ℕ) (old handed new : List NodeRow) (held : Name → NameState) (low : Name) (n : Node) (at : ℕ) (entry : Entry) →
     entry_at es at ≡ None → ImagedBelow old level k low → IsInImage old level k low entry → AreParts handed → row_of handed level ≡ row_of old level → row_of handed k ≡ row_of old k → value_at low (row_of handed level) ≡ Some n →
     IsHandedOn handed level low n → HasPutAt handed new level low (logged at n) →
-    ((es : Placed) (base : ℕ) (newest : Name → ℕ) (held : Name → Held) → IsTreeOf es base newest old held → IsTreeOf es base newest handed held) →
+    ((es : Placed) (base : ℕ) (newest : Name → ℕ) (held : Name → NameState) → IsTreeOf es base newest old held → IsTreeOf es base newest handed held) →
     IsTreeOf es base newest old held → IsTreeOf (es ++ (at, entry) ∷ []) base newest new held
 
 in_logged_above : (k : ℕ) → LogsIn (suc k) k
@@ -82,7 +82,7 @@ pub not_above : (level k : ℕ) → level ≡ suc k → k ≡ suc level → ⊥
 not_above level k is above = absurd (omega (arith, is, above))
 
 -- an image of a node is one where the mark was handed on
-pub image_handed : (es : Placed) (old handed : List NodeRow) (held : Name → Held) (level : ℕ) (e : Name × Node) (at : ℕ) → row_of handed level ≡ row_of old level →
+pub image_handed : (es : Placed) (old handed : List NodeRow) (held : Name → NameState) (level : ℕ) (e : Name × Node) (at : ℕ) → row_of handed level ≡ row_of old level →
     ((k : ℕ) → (k ≡ suc level → ⊥) → row_of handed k ≡ row_of old k) → IsImageOf es old held level e at → IsImageOf es handed held level e at
 image_handed es old handed held zero e at same others image = record {
   reads = λ x over. image.reads x (subst (λ (row : NodeRow). IsOver row x e) same over);
@@ -95,7 +95,7 @@ image_handed es old handed held (suc k) e at same others image = record {
   names = λ x over c lower. image.names x (subst (λ (row : NodeRow). IsOver row x e) same over) c (subst (λ (row : NodeRow). IsOver row x c) (others k (λ (h : k ≡ suc (suc k)). absurd (omega (arith, h)))) lower);
 }
 
-pub image_noted : (es : Placed) (base : ℕ) (newest : Name → ℕ) (old handed new : List NodeRow) (held : Name → Held) (level : ℕ) (low : Name) (n : Node) (at : ℕ) → AreParts handed →
+pub image_noted : (es : Placed) (base : ℕ) (newest : Name → ℕ) (old handed new : List NodeRow) (held : Name → NameState) (level : ℕ) (low : Name) (n : Node) (at : ℕ) → AreParts handed →
     row_of handed level ≡ row_of old level → ((k : ℕ) → (k ≡ suc level → ⊥) → row_of handed k ≡ row_of old k) → value_at low (row_of old level) ≡ Some n → IsHandedOn handed level low n →
     HasPutAt handed new level low (logged at n) → IsImageOf es old held level (low, n) at → IsTreeOf es base newest handed held → IsTreeOf es base newest new held
 image_noted es base newest old handed new held level low n at are same others there hand put image tree =

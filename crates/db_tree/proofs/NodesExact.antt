@@ -13,7 +13,7 @@ use Rattle.tree_nodes.specs.Nodes.{NodeRow, is_dirty, logged, low_behind}
 use Rattle.tree_nodes.specs.Levels.{row_of, AreParts, HasPutAt}
 use Rattle.tree_nodes.specs.Lows.{lows_of}
 use Rattle.db_tree.specs.declared.node_at.NodeAt.{NodeAt}
-use Rattle.db_tree.specs.Content.{Held, kept_by, shown_held}
+use Rattle.db_tree.specs.Content.{NameState, kept_by, shown_held}
 use Rattle.db_tree.specs.Dirty.{AreExact, are_as_shown, is_as_imaged, is_as_shown}
 use Rattle.db_tree.specs.Images.{Placed}
 use Rattle.db_tree.specs.Trees.{IsImageOf}
@@ -48,7 +48,7 @@ shown_as_logged row cells low at up before =
     inside : Name → Bool
     inside = is_between (At low) (upper_edge (low_behind low row))
 
-    behind : (h : Held) → h.touched ≤ at → fits (Some at) h ≡ true
+    behind : (h : NameState) → h.touched ≤ at → fits (Some at) h ≡ true
     behind h le = is_same (shown_held at h) h.version (shown_behind at h le)
 
     by_test : (x : Name) (t : Bool) → inside x ≡ t → passes (is_as_shown (Some at)) (value_at x (filter (λ (e : Name × Cell). inside e.0) cells)) ≡ true

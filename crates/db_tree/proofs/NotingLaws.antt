@@ -17,7 +17,7 @@ use Rattle.db_tree.specs.NodeSteps.{AreSameNodes, WasThere}
 use Rattle.db_tree.specs.Notes.{AreNotesKept, is_noted_at, is_noted_one, note_of}
 use Rattle.db_tree.specs.Shapes.{AreAlike}
 use Rattle.db_tree.specs.Splitting.{IsRaisedFrom}
-use Rattle.db_tree.specs.Content.{Held}
+use Rattle.db_tree.specs.Content.{NameState}
 use Rattle.db_tree.specs.Trees.{IsTreeOf}
 use Rattle.db_tree.specs.Waiting.{is_forced, waiting_in, waits_in}
 use Rattle.db_tree.proofs.Marking.{Comes, come}
@@ -105,7 +105,7 @@ module _ (old new : List NodeRow) (are : AreNoted old new) where
           let w = noted_was (is_to_note old level) (row_of old level) x n (sym (ap (value_at x) (are.each level)) ∙ there) in
           (w.0, w.1, record { number = ap (λ (m : Node). m.number) w.2; last = ap (λ (m : Node). m.last) w.2; forced = ap (λ (m : Node). m.forced) w.2 })
 
-  pub noted_tree : (es : Placed) (base : ℕ) (newest : Name → ℕ) (held : Name → Held) → IsTreeOf es base newest old held → IsTreeOf es base newest new held
+  pub noted_tree : (es : Placed) (base : ℕ) (newest : Name → ℕ) (held : Name → NameState) → IsTreeOf es base newest old held → IsTreeOf es base newest new held
   noted_tree es base newest held tree = come es base newest old new held comes tree
     where
       comes : (level : ℕ) (x : Name) (e : Name × Node) → IsOver (row_of new level) x e → Comes base newest (row_of old level) x e

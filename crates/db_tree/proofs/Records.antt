@@ -14,7 +14,7 @@ use Rattle.tree_nodes.specs.declared.node.Node.{Node}
 use Rattle.tree_nodes.specs.Nodes.{NodeRow, IsUpTo, IsOver, earlier, marked}
 use Rattle.tree_nodes.specs.Levels.{row_of, HasMarkedAt, HasPutAt}
 use Rattle.db_tree.specs.Images.{Placed}
-use Rattle.db_tree.specs.Content.{Held, held_of, held_under, kept_by}
+use Rattle.db_tree.specs.Content.{NameState, name_state, held_under, kept_by}
 use Rattle.db_tree.specs.Stored.{with_logged, version_logged}
 use Rattle.db_tree.specs.Trees.{IsTreeOf, IsBehind, IsMark, IsTree, HasCell, KnowImages, cell_or_fresh, given_up}
 use Rattle.db_tree.proofs.Order.{same_up}
@@ -33,13 +33,13 @@ earlier_below (Some f) from = omega arith
 is_mark : (n : Node) (from : ℕ) → IsMark n (marked from n)
 is_mark n from = record { last = refl; from = λ f is. (earlier n.from from, refl, earlier_up n.from f from is) }
 
-pub marks : (es : Placed) (base : ℕ) (newest : Name → ℕ) (old new : List NodeRow) (held : Name → Held) (level : ℕ) (x : Name) (from : ℕ) →
+pub marks : (es : Placed) (base : ℕ) (newest : Name → ℕ) (old new : List NodeRow) (held : Name → NameState) (level : ℕ) (x : Name) (from : ℕ) →
     HasMarkedAt old new level x from → IsTreeOf es base newest old held → IsTreeOf es base newest new held
 marks es base newest old new held level x from m tree =
     marked_or_split es base newest old new held level m.e.0 m.e.0 m.e.1 (marked from m.e.1) (over_low (row_of old level) m.e.0 m.e.1 m.over.there) m.put (is_mark m.e.1 from) tree
 
 -- a node waits to be logged
-pub waits : (es : Placed) (base : ℕ) (newest : Name → ℕ) (old new : List NodeRow) (held : Name → Held) (level : ℕ) (low : Name) (m n : Node) (from : ℕ) → value_at low (row_of old level) ≡ Some m →
+pub waits : (es : Placed) (base : ℕ) (newest : Name → ℕ) (old new : List NodeRow) (held : Name → NameState) (level : ℕ) (low : Name) (m n : Node) (from : ℕ) → value_at low (row_of old level) ≡ Some m →
     HasPutAt old new level low n → n.last ≡ m.last → n.from ≡ Some (earlier m.from from) → IsTreeOf es base newest old held → IsTreeOf es base newest new held
 waits es base newest old new held level low m n from there put last is tree =
     marked_or_split es base newest old new held level low low m n (over_low (row_of old level) low m there) put
@@ -68,7 +68,7 @@ over_marked old new level x from e m over =
 -- ---- commits
 
 -- a name's BIN is marked, and the name has other data
-pub changes : (es : Placed) (base : ℕ) (newest : Name → ℕ) (old new : List NodeRow) (held next : Name → Held) (name : Name) (from : ℕ) →
+pub changes : (es : Placed) (base : ℕ) (newest : Name → ℕ) (old new : List NodeRow) (held next : Name → NameState) (name : Name) (from : ℕ) →
     HasMarkedAt old new 0 name from → (from ≤ newest name) ⊎ (from < base) → ((x : Name) → is_eq (name_cmp name x) ≡ false → next x ≡ held x) →
     KnowImages es base new next → IsTreeOf es base newest old held → IsTreeOf es base newest new next
 changes es base newest old new held next name from m marked others know tree =
@@ -83,9 +83,9 @@ changes es base newest old new held next name from m marked others know tree =
 
     by_name : (x : Name) (e : Name × Node) → IsOver (row_of new 0) x e → (name ≡ x) ⊎ (is_eq (name_cmp name x) ≡ false) → ((next x).version ≡ (held x).version) ⊎ IsBehind base newest e.1 x
     by_name x e over (inl same) = inr (subst (λ (y : Name). IsBehind base newest e.1 y) same (behind e (subst (λ (y : Name). IsOver (row_of new 0) y e) (sym same) over)))
-    by_name x e over (inr apart) = inl (ap (λ (h : Held). h.version) (others x apart))
+    by_name x e over (inr apart) = inl (ap (λ (h : NameState). h.version) (others x apart))
 
-pub commits : (es : Placed) (base : ℕ) (newest : Name → ℕ) (old new : List NodeRow) (held next : Name → Held) (name : Name) (from : ℕ) →
+pub commits : (es : Placed) (base : ℕ) (newest : Name → ℕ) (old new : List NodeRow) (held next : Name → NameState) (name : Name) (from : ℕ) →
     HasMarkedAt old new 0 name from → from ≤ newest name → ((x : Name) → is_eq (name_cmp name x) ≡ false → next x ≡ held x) →
     KnowImages es base new next → IsTreeOf es base newest old held → IsTreeOf es base newest new next
 commits es base newest old new held next name from m le others know tree = changes es base newest old new held next name from m (inl le) others know tree
@@ -97,12 +97,12 @@ held_apart old new name o has x apart = ap held_under (has x ∙ other_stays nam
 
 -- ---- changes that are not committed
 
-pub fresh_holds : (o : Option Cell) → held_of (cell_or_fresh o) ≡ held_under o
+pub fresh_holds : (o : Option Cell) → name_state (cell_or_fresh o) ≡ held_under o
 fresh_holds None = refl
 fresh_holds (Some cell) = refl
 
 -- what is held stays where the one name that changed has what it had
-pub same_kept : (old new : List (Name × Cell)) (name : Name) (cell : Cell) → HasCell old new name cell → held_of cell ≡ held_of (cell_or_fresh (value_at name old)) → (x : Name) → kept_by new x ≡ kept_by old x
+pub same_kept : (old new : List (Name × Cell)) (name : Name) (cell : Cell) → HasCell old new name cell → name_state cell ≡ name_state (cell_or_fresh (value_at name old)) → (x : Name) → kept_by new x ≡ kept_by old x
 same_kept old new name cell has same x = by_name (same_or_other name x)
   where
     by_name : (name ≡ x) ⊎ (is_eq (name_cmp name x) ≡ false) → kept_by new x ≡ kept_by old x
@@ -112,7 +112,7 @@ same_kept old new name cell has same x = by_name (same_or_other name x)
     by_name (inr apart) = held_apart old new name (Some cell) has x apart
 
 pub holds : (es : Placed) (base : ℕ) (newest : Name → ℕ) (rows : List NodeRow) (old new : List (Name × Cell)) (name : Name) (cell : Cell) →
-    HasCell old new name cell → held_of cell ≡ held_of (cell_or_fresh (value_at name old)) → IsTree es base newest rows old → IsTree es base newest rows new
+    HasCell old new name cell → name_state cell ≡ name_state (cell_or_fresh (value_at name old)) → IsTree es base newest rows old → IsTree es base newest rows new
 holds es base newest rows old new name cell has same tree = same_held es base newest rows (kept_by old) (kept_by new) (same_kept old new name cell has same) tree
 
 -- a cell that is there
@@ -141,16 +141,16 @@ logged_version None at commit last cell = refl
 logged_version (Some value) at commit last cell = refl
 
 -- what is committed of a cell, logged again
-abbrev held_with : Version → Version → ℕ → Held
+abbrev held_with : Version → Version → ℕ → NameState
 held_with version shown touched = record { version = version; shown = shown; touched = touched }
 
-pub again_holds : (value : Option (List ℕ)) (at commit : ℕ) (cell : Cell) → version_logged at value ≡ cell.version → commit ≡ cell.touched → held_of (with_logged value at commit None cell) ≡ held_of cell
+pub again_holds : (value : Option (List ℕ)) (at commit : ℕ) (cell : Cell) → version_logged at value ≡ cell.version → commit ≡ cell.touched → name_state (with_logged value at commit None cell) ≡ name_state cell
 again_holds value at commit cell version touched = by_value value version
   where
     whole : (v : Version) → v ≡ cell.version → held_with v cell.shown commit ≡ held_with cell.version cell.shown cell.touched
     whole v is = ap₂ (λ (k : Version) (t : ℕ). held_with k cell.shown t) is touched
 
-    by_value : (v : Option (List ℕ)) → version_logged at v ≡ cell.version → held_of (with_logged v at commit None cell) ≡ held_of cell
+    by_value : (v : Option (List ℕ)) → version_logged at v ≡ cell.version → name_state (with_logged v at commit None cell) ≡ name_state cell
     by_value None is = whole Deleted is
     by_value (Some bytes) is = whole (There at) is
 
@@ -191,18 +191,18 @@ nothing_given cells name none x = by_name (same_or_other name x)
         (sym here ∙ sym (same_gets name (given_up (value_at name cells)) (value_at name cells)))
     by_name (inr apart) = sym (other_stays name x (given_up (value_at name cells)) (value_at x cells) apart)
 
-given_holds : (o : Option Cell) → ((held_under o).version ≡ Unset → held_under o ≡ held_of fresh) → held_under (given_up o) ≡ held_under o
+given_holds : (o : Option Cell) → ((held_under o).version ≡ Unset → held_under o ≡ name_state fresh) → held_under (given_up o) ≡ held_under o
 given_holds None unset = refl
 given_holds (Some cell) unset = by_version cell.version refl
   where
-    by_version : (v : Version) → cell.version ≡ v → held_under (cond (is_committed cell.version) (Some (with_write None cell)) None) ≡ held_of cell
+    by_version : (v : Version) → cell.version ≡ v → held_under (cond (is_committed cell.version) (Some (with_write None cell)) None) ≡ name_state cell
     by_version (There lsn) is = ap (λ (k : Version). held_under (cond (is_committed k) (Some (with_write None cell)) None)) is
     by_version Deleted is = ap (λ (k : Version). held_under (cond (is_committed k) (Some (with_write None cell)) None)) is
     by_version Unset is = ap (λ (k : Version). held_under (cond (is_committed k) (Some (with_write None cell)) None)) is ∙ sym (unset is)
 
 -- what is held stays where of a name of which nothing is committed no image says anything
 pub given_kept : (old new : List (Name × Cell)) (name : Name) → ((x : Name) → value_at x new ≡ cond (is_eq (name_cmp name x)) (given_up (value_at name old)) (value_at x old)) →
-    ((kept_by old name).version ≡ Unset → kept_by old name ≡ held_of fresh) → (x : Name) → kept_by new x ≡ kept_by old x
+    ((kept_by old name).version ≡ Unset → kept_by old name ≡ name_state fresh) → (x : Name) → kept_by new x ≡ kept_by old x
 given_kept old new name has unset x = by_name (same_or_other name x)
   where
     by_name : (name ≡ x) ⊎ (is_eq (name_cmp name x) ≡ false) → kept_by new x ≡ kept_by old x

@@ -10,11 +10,11 @@ use Rattle.tree_nodes.specs.declared.node.Node.{Node}
 use Rattle.tree_nodes.specs.Nodes.{NodeRow, HasPut, least, IsOver}
 use Rattle.tree_nodes.specs.Levels.{row_of, HasRaised}
 use Rattle.record_map.specs.declared.cell.Cell.{Cell}
-use Rattle.db_tree.specs.Content.{Held, kept_by, shown_held}
-use Rattle.db_tree.specs.Images.{Placed, entry_at, child_in, says, shown, version_in, IsRead}
+use Rattle.db_tree.specs.Content.{NameState, kept_by, shown_held}
+use Rattle.db_tree.specs.Images.{Placed, entry_at, child_in, last_says, shown, version_imaged, IsRead}
 use Rattle.db_tree.specs.Trees.{IsTree, IsTreeOf, IsBehind, IsMarked}
 
-pub root_put : (es : Placed) (base : ℕ) (newest : Name → ℕ) (old new : List NodeRow) (held : Name → Held) (root : Node) (mark : ℕ) →
+pub root_put : (es : Placed) (base : ℕ) (newest : Name → ℕ) (old new : List NodeRow) (held : Name → NameState) (root : Node) (mark : ℕ) →
     HasRaised old new root → root.last ≡ None → root.from ≡ Some mark → ((x : Name) → (mark ≤ newest x) ⊎ (mark < base)) → IsTreeOf es base newest old held → IsTreeOf es base newest new held
 root_put es base newest old new held root mark has last from behind tree = record {
   reads = λ l x e lsn over is. at_reads l x e lsn is (kind l x e over);
@@ -48,11 +48,11 @@ root_put es base newest old new held root mark has last from behind tree = recor
     at_reads l x e lsn is (inl new_) = absurd (none-some lsn (sym (ap (λ (k : Node). k.last) new_.1 ∙ last) ∙ is))
     at_reads l x e lsn is (inr over) = tree.reads l x e lsn over.1 is
 
-    at_leaf : (x : Name) (e : Name × Node) → ((0 ≡ length old) × (e.1 ≡ root)) ⊎ ((0 < length old) × IsOver (row_of old 0) x e) → (says es e.1.last x ≡ (held x).version) ⊎ IsBehind base newest e.1 x
+    at_leaf : (x : Name) (e : Name × Node) → ((0 ≡ length old) × (e.1 ≡ root)) ⊎ ((0 < length old) × IsOver (row_of old 0) x e) → (last_says es e.1.last x ≡ (held x).version) ⊎ IsBehind base newest e.1 x
     at_leaf x e (inl new_) = inr (marked x e new_.1)
     at_leaf x e (inr over) = tree.leaf x e over.1
 
-    at_shown : (x : Name) (e : Name × Node) (lsn : ℕ) → e.1.last ≡ Some lsn → ((0 ≡ length old) × (e.1 ≡ root)) ⊎ ((0 < length old) × IsOver (row_of old 0) x e) → version_in (entry_at es lsn) x ≡ shown_held lsn (held x)
+    at_shown : (x : Name) (e : Name × Node) (lsn : ℕ) → e.1.last ≡ Some lsn → ((0 ≡ length old) × (e.1 ≡ root)) ⊎ ((0 < length old) × IsOver (row_of old 0) x e) → version_imaged (entry_at es lsn) x ≡ shown_held lsn (held x)
     at_shown x e lsn is (inl new_) = absurd (none-some lsn (sym (ap (λ (k : Node). k.last) new_.1 ∙ last) ∙ is))
     at_shown x e lsn is (inr over) = tree.know.shown x e lsn over.1 is
 
@@ -72,7 +72,7 @@ root_put es base newest old new held root mark has last from behind tree = recor
 pub first_fits : (es : Placed) (base : ℕ) (newest : Name → ℕ) (rows : List NodeRow) (root : Node) (cells : List (Name × Cell)) → length rows ≡ 1 → HasPut [] (row_of rows 0) least root → root.last ≡ None → cells ≡ [] → IsTree es base newest rows cells
 first_fits es base newest rows root cells height put last empty = record {
   reads = λ l x e lsn over is. absurd (none-some lsn (sym (no_image x e (kind l x e over)) ∙ is));
-  leaf = λ x e over. inl (ap (λ (o : Option ℕ). says es o x) (no_image x e (kind 0 x e over)) ∙ sym (ap (λ (l : List (Name × Cell)). (kept_by l x).version) empty));
+  leaf = λ x e over. inl (ap (λ (o : Option ℕ). last_says es o x) (no_image x e (kind 0 x e over)) ∙ sym (ap (λ (l : List (Name × Cell)). (kept_by l x).version) empty));
   inner = λ l x e c upper lower. none l (kind (suc l) x e upper).0;
   names = λ l x e c lsn upper lower is. none l (kind (suc l) x e upper).0;
   know = record {

@@ -10,8 +10,8 @@ use Rattle.log_entry.specs.declared.entry.Entry.TheVariants.{Bin}
 use Rattle.tree_nodes.specs.declared.node.Node.{Node}
 use Rattle.tree_nodes.specs.Nodes.{NodeRow, IsOver}
 use Rattle.tree_nodes.specs.Levels.{row_of}
-use Rattle.db_tree.specs.Content.{Held, lsn_of, shown_held}
-use Rattle.db_tree.specs.Images.{Placed, IsBin, entry_at, lsn_in, record_in, says, shown, slot_version, version_in, version_of_slot}
+use Rattle.db_tree.specs.Content.{NameState, lsn_of, shown_held}
+use Rattle.db_tree.specs.Images.{Placed, IsBin, entry_at, lsn_in, record_in, last_says, shown, slot_version, version_imaged, version_of_slot}
 use Rattle.db_tree.specs.Trees.{KnowImages}
 
 -- ---- what an image says
@@ -25,29 +25,29 @@ slot_says (Some slot) = by_lsn slot.lsn
     by_lsn (Some at) = refl
 
 -- a record stands in an image where the image says
-pub image_says : (o : Option Entry) (x : Name) → lsn_of (version_in o x) ≡ record_in o x
+pub image_says : (o : Option Entry) (x : Name) → lsn_of (version_imaged o x) ≡ record_in o x
 image_says (Some (Bin db node slots)) x = slot_says (find (λ slot. is_eq (name_cmp x slot.name)) slots)
 image_says o x = refl
 
-pub says_shown : (es : Placed) (last : Option ℕ) (x : Name) → lsn_of (says es last x) ≡ shown es 0 last x
+pub says_shown : (es : Placed) (last : Option ℕ) (x : Name) → lsn_of (last_says es last x) ≡ shown es 0 last x
 says_shown es None x = refl
 says_shown es (Some at) x = image_says (entry_at es at) x
 
 -- an image behind the Commit of a name shows what is committed
-pub shown_behind : (at : ℕ) (h : Held) → h.touched ≤ at → shown_held at h ≡ h.version
+pub shown_behind : (at : ℕ) (h : NameState) → h.touched ≤ at → shown_held at h ≡ h.version
 shown_behind at h le = ap (λ (t : Bool). cond t h.shown h.version) (le-ltb at h.touched le)
 
 -- ---- what is known of images
 
-pub know_same : (es : Placed) (base : ℕ) (rows : List NodeRow) (held next : Name → Held) → ((x : Name) → next x ≡ held x) → KnowImages es base rows held → KnowImages es base rows next
+pub know_same : (es : Placed) (base : ℕ) (rows : List NodeRow) (held next : Name → NameState) → ((x : Name) → next x ≡ held x) → KnowImages es base rows held → KnowImages es base rows next
 know_same es base rows held next same know = record {
-  shown = λ x e at over is. know.shown x e at over is ∙ ap (λ (h : Held). shown_held at h) (sym (same x));
-  unset = λ x is. same x ∙ know.unset x (sym (ap (λ (h : Held). h.version) (same x)) ∙ is);
-  touched = λ x at low all. subst (λ (h : Held). h.touched ≤ at) (sym (same x)) (know.touched x at low all);
+  shown = λ x e at over is. know.shown x e at over is ∙ ap (λ (h : NameState). shown_held at h) (sym (same x));
+  unset = λ x is. same x ∙ know.unset x (sym (ap (λ (h : NameState). h.version) (same x)) ∙ is);
+  touched = λ x at low all. subst (λ (h : NameState). h.touched ≤ at) (sym (same x)) (know.touched x at low all);
 }
 
 -- so it is where each BIN's last image is that of a BIN that was over the name
-pub know_come : (es : Placed) (base : ℕ) (old new : List NodeRow) (held : Name → Held) →
+pub know_come : (es : Placed) (base : ℕ) (old new : List NodeRow) (held : Name → NameState) →
     ((x : Name) (e : Name × Node) → IsOver (row_of new 0) x e → (w : Name × Node) × IsOver (row_of old 0) x w × (e.1.last ≡ w.1.last)) → KnowImages es base old held → KnowImages es base new held
 know_come es base old new held from know = record {
   shown = λ x e at over is. let w = from x e over in know.shown x w.0 at w.1 (sym w.2 ∙ is);

@@ -21,24 +21,24 @@ lsn_of Unset = None
 
 -- what is held of a name: what is committed of it, by which Commit, and what the last image of its BIN says of it if that stands before
 -- this Commit
-pub record Held : Type 0 where
+pub record NameState : Type 0 where
   pub version : Version
   pub shown : Version
   pub touched : ℕ
 
 -- so it is in a cell; of a name without a cell nothing is committed
-abbrev pub held_of : Cell → Held
-held_of cell = record { version = cell.version; shown = cell.shown; touched = cell.touched }
+abbrev pub name_state : Cell → NameState
+name_state cell = record { version = cell.version; shown = cell.shown; touched = cell.touched }
 
-abbrev pub held_under : Option Cell → Held
-held_under None = held_of fresh
-held_under (Some cell) = held_of cell
+abbrev pub held_under : Option Cell → NameState
+held_under None = name_state fresh
+held_under (Some cell) = name_state cell
 
-abbrev pub kept_by : List (Name × Cell) → Name → Held
+abbrev pub kept_by : List (Name × Cell) → Name → NameState
 kept_by cells x = held_under (value_at x cells)
 
 -- what the last image of a name's BIN says of it, by the image's LSN
-abbrev pub shown_held : ℕ → Held → Version
+abbrev pub shown_held : ℕ → NameState → Version
 shown_held last held = if nat_lt last held.touched then held.shown else held.version
 
 abbrev pub lsn_under : Option Cell → Option ℕ
@@ -48,7 +48,7 @@ lsn_under o = lsn_of (held_under o).version
 abbrev pub held_by : List (Name × Cell) → Name → Option ℕ
 held_by cells x = lsn_under (value_at x cells)
 
-abbrev pub lsn_held : (Name → Held) → Name → Option ℕ
+abbrev pub lsn_held : (Name → NameState) → Name → Option ℕ
 lsn_held held x = lsn_of (held x).version
 
 -- the slot of a cell in its BIN's image; a cell of which nothing is committed has none

@@ -8,11 +8,11 @@ use Rattle.node_core.specs.declared.slot.Version.TheVariants.{There, Deleted, Un
 use Rattle.record_map.specs.declared.cell.Cell.{Cell}
 use Rattle.record_map.specs.Cells.{value_at, between_edges, upper_edge, shown_by}
 use Rattle.tree_nodes.specs.declared.node.Node.{Node}
-use Rattle.tree_nodes.specs.Nodes.{NodeRow, IsOver, is_dirty, low_behind, unmarked}
+use Rattle.tree_nodes.specs.Nodes.{NodeRow, IsOver, is_dirty, low_behind, without_mark}
 use Rattle.tree_nodes.specs.Levels.{row_of, HasPutAt, HasMarkedAt}
 use Rattle.db_tree.specs.declared.node_at.NodeAt.{NodeAt}
 use Rattle.db_tree.specs.Content.{kept_by}
-use Rattle.db_tree.specs.Images.{Placed, IsBin, entry_at, version_in}
+use Rattle.db_tree.specs.Images.{Placed, IsBin, entry_at, version_imaged}
 use Rattle.db_tree.specs.Waiting.{is_among}
 
 -- ---- versions
@@ -64,7 +64,7 @@ is_as_imaged row cells e = not e.1.forced && (is_some e.1.last && are_as_shown e
 pub record HasSettled (cells : List (Name × Cell)) (old new : List NodeRow) (x : Name) : Type 0 where
   pub e : Name × Node
   pub over : IsOver (row_of old 0) x e
-  pub cleared : is_as_imaged (row_of old 0) cells e ≡ true → HasPutAt old new 0 e.0 (unmarked e.1)
+  pub cleared : is_as_imaged (row_of old 0) cells e ≡ true → HasPutAt old new 0 e.0 (without_mark e.1)
   pub kept : is_as_imaged (row_of old 0) cells e ≡ false → new ≡ old
 
 -- the BIN over a name is marked, and has no mark where it has its last image's content then
@@ -84,4 +84,4 @@ AreExact due rows cells = (low : Name) (n : Node) → value_at low (row_of rows 
 pub record HasContent (es : Placed) (row : NodeRow) (cells : List (Name × Cell)) (e : Name × Node) : Type 0 where
   pub at : ℕ
   pub image : e.1.last ≡ Some at
-  pub says : (x : Name) → IsOver row x e → version_in (entry_at es at) x ≡ (kept_by cells x).version
+  pub says : (x : Name) → IsOver row x e → version_imaged (entry_at es at) x ≡ (kept_by cells x).version

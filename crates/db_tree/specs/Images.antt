@@ -39,9 +39,9 @@ slot_version None = Unset
 slot_version (Some slot) = version_of_slot slot.lsn
 
 -- what the image of a BIN says of a name; of another entry nothing
-abbrev pub version_in : Option Entry → Name → Version
-version_in (Some (Bin db node slots)) x = slot_version (find (λ slot. is_eq (name_cmp x slot.name)) slots)
-version_in entry x = Unset
+abbrev pub version_imaged : Option Entry → Name → Version
+version_imaged (Some (Bin db node slots)) x = slot_version (find (λ slot. is_eq (name_cmp x slot.name)) slots)
+version_imaged entry x = Unset
 
 -- the image of the child over a name: that of the last slot up to it, which is the first slot where no other is
 abbrev pub child_behind : Name → ℕ → List ChildSlot → ℕ
@@ -68,9 +68,9 @@ shown es level None x = None
 shown es level (Some at) x = shows es level at x
 
 -- what a BIN's last image says of a name; a BIN without an image says nothing
-abbrev pub says : Placed → Option ℕ → Name → Version
-says es None x = Unset
-says es (Some at) x = version_in (entry_at es at) x
+abbrev pub last_says : Placed → Option ℕ → Name → Version
+last_says es None x = Unset
+last_says es (Some at) x = version_imaged (entry_at es at) x
 
 -- the entry is an image of a BIN
 abbrev pub IsBin : Option Entry → Type 0

@@ -11,8 +11,8 @@ use Rattle.record_map.specs.declared.cell.Cell.{Cell}
 use Rattle.node_core.specs.Changes.{is_committed}
 use Rattle.node_core.specs.declared.slot.Version.TheVariants.{Unset}
 use Rattle.record_map.specs.Cells.{value_at, fresh, with_write}
-use Rattle.db_tree.specs.Images.{Placed, entry_at, child_in, says, shown, shows, version_in, IsRead}
-use Rattle.db_tree.specs.Content.{Held, held_of, kept_by, shown_held}
+use Rattle.db_tree.specs.Images.{Placed, entry_at, child_in, last_says, shown, shows, version_imaged, IsRead}
+use Rattle.db_tree.specs.Content.{NameState, name_state, kept_by, shown_held}
 
 -- a node is marked for a name: the log has a committed change of the name at the mark or behind it, or the
 -- mark is older than this life of the environment, which begins at `base`
@@ -25,18 +25,18 @@ IsMarked node = (from : ℕ) × (node.from ≡ Some from)
 
 -- what is held of names knows what the last images of their BINs say of them, and was committed before all that is logged next in this life of the
 -- environment, which begins at `base`
-pub record KnowImages (es : Placed) (base : ℕ) (rows : List NodeRow) (held : Name → Held) : Type 0 where
-  pub shown : (x : Name) (e : Name × Node) (at : ℕ) → IsOver (row_of rows 0) x e → e.1.last ≡ Some at → version_in (entry_at es at) x ≡ shown_held at (held x)
+pub record KnowImages (es : Placed) (base : ℕ) (rows : List NodeRow) (held : Name → NameState) : Type 0 where
+  pub shown : (x : Name) (e : Name × Node) (at : ℕ) → IsOver (row_of rows 0) x e → e.1.last ≡ Some at → version_imaged (entry_at es at) x ≡ shown_held at (held x)
   -- of a name of which nothing is committed no image says anything
-  pub unset : (x : Name) → (held x).version ≡ Unset → held x ≡ held_of fresh
+  pub unset : (x : Name) → (held x).version ≡ Unset → held x ≡ name_state fresh
   pub touched : (x : Name) (next : ℕ) → base ≤ next → AllByRecursion (λ p. p.0 < next) es → (held x).touched ≤ next
 
 -- a tree of a log: `newest` has the LSN of each name's newest committed change, `held` what is held of it
-pub record IsTreeOf (es : Placed) (base : ℕ) (newest : Name → ℕ) (rows : List NodeRow) (held : Name → Held) : Type 0 where
+pub record IsTreeOf (es : Placed) (base : ℕ) (newest : Name → ℕ) (rows : List NodeRow) (held : Name → NameState) : Type 0 where
   -- the images that a node's last image leads to are there
   pub reads : (level : ℕ) (x : Name) (e : Name × Node) (at : ℕ) → IsOver (row_of rows level) x e → e.1.last ≡ Some at → IsRead es level at x
   -- a BIN's last image says what is committed, or the BIN is marked
-  pub leaf : (x : Name) (e : Name × Node) → IsOver (row_of rows 0) x e → (says es e.1.last x ≡ (held x).version) ⊎ IsBehind base newest e.1 x
+  pub leaf : (x : Name) (e : Name × Node) → IsOver (row_of rows 0) x e → (last_says es e.1.last x ≡ (held x).version) ⊎ IsBehind base newest e.1 x
   -- an IN's last image shows what its child's does, or the IN is marked
   pub inner : (level : ℕ) (x : Name) (e c : Name × Node) → IsOver (row_of rows (suc level)) x e → IsOver (row_of rows level) x c →
       (shown es (suc level) e.1.last x ≡ shown es level c.1.last x) ⊎ IsBehind base newest e.1 x
@@ -52,8 +52,8 @@ pub record IsMark (old new : Node) : Type 0 where
 
 -- the image at an LSN has the content of the node of a level with a low: what is committed, by Commits before the image, or what its
 -- children's last images show
-abbrev pub ShowsContent : Placed → List NodeRow → (Name → Held) → ℕ → ℕ → Name → Type 0
-ShowsContent es rows held zero at x = (version_in (entry_at es at) x ≡ (held x).version) × ((held x).touched ≤ at)
+abbrev pub ShowsContent : Placed → List NodeRow → (Name → NameState) → ℕ → ℕ → Name → Type 0
+ShowsContent es rows held zero at x = (version_imaged (entry_at es at) x ≡ (held x).version) × ((held x).touched ≤ at)
 ShowsContent es rows held (suc level) at x = (c : Name × Node) → IsOver (row_of rows level) x c → shows es (suc level) at x ≡ shown es level c.1.last x
 
 -- the image at an LSN names the last images of the children of the node of a level with a low; a BIN has none
@@ -61,7 +61,7 @@ abbrev pub NamesChildren : Placed → List NodeRow → ℕ → ℕ → Name → 
 NamesChildren es rows zero at x = Unit {0}
 NamesChildren es rows (suc level) at x = (c : Name × Node) → IsOver (row_of rows level) x c → child_in (entry_at es at) x ≡ c.1.last
 
-pub record IsImageOf (es : Placed) (rows : List NodeRow) (held : Name → Held) (level : ℕ) (e : Name × Node) (at : ℕ) : Type 0 where
+pub record IsImageOf (es : Placed) (rows : List NodeRow) (held : Name → NameState) (level : ℕ) (e : Name × Node) (at : ℕ) : Type 0 where
   pub reads : (x : Name) → IsOver (row_of rows level) x e → IsRead es level at x
   pub shows : (x : Name) → IsOver (row_of rows level) x e → ShowsContent es rows held level at x
   pub names : (x : Name) → IsOver (row_of rows level) x e → NamesChildren es rows level at x

@@ -12,7 +12,7 @@ ghost use Rattle.db_tree.specs.Notes.{AreNotesKept};
 ghost use Rattle.db_tree.specs.Shapes.{count_in, AreAlike};
 ghost use Rattle.db_tree.specs.Waiting.{waiting_of, still_waiting};
 ghost use Rattle.tree_nodes.specs.Lows.{lows_of};
-ghost use Rattle.db_tree.specs.Content.{Held, bin_image, kept_by};
+ghost use Rattle.db_tree.specs.Content.{NameState, bin_image, kept_by};
 ghost use Rattle.db_tree.specs.Splitting.{ImagedBelow, IsInImage};
 ghost use Rattle.tree_nodes.specs.declared.node.Node.{Node as Kept};
 ghost use Rattle.db_tree.specs.Trees.{IsTreeOf, IsTree, IsImageOf, IsHandedOn};
@@ -52,7 +52,7 @@ fn hand_on(levels: &mut Levels, level: usize, low: &SortKey, node: &Node, at: Ls
     requires { level < length levels.old }
     ensures handed { IsHandedOn levels.new level low.now node.now }
     ensures up { IsHandedUp levels.old levels.new level low.now (mark_above node.now.from at) }
-    ensures tree { (es : Placed) (base : ℕ) (newest : Name → ℕ) (held : Name → Held) → IsTreeOf es base newest levels.old held → IsTreeOf es base newest levels.new held }
+    ensures tree { (es : Placed) (base : ℕ) (newest : Name → ℕ) (held : Name → NameState) → IsTreeOf es base newest levels.old held → IsTreeOf es base newest levels.new held }
     ensures row { row_of levels.new level ≡ row_of levels.old level }
     ensures others { (k : ℕ) → (k ≡ suc level → ⊥) → row_of levels.new k ≡ row_of levels.old k }
     ensures height { length levels.new ≡ length levels.old }

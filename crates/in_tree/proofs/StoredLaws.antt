@@ -18,7 +18,7 @@ use Rattle.record_map.specs.declared.write.Write.{Write}
 use Rattle.record_map.specs.Cells.{value_at, IsRising, from_edge}
 use Rattle.record_map.proofs.NameLaws.{same_or_other, name_same, other_stays, same_gets}
 use Rattle.record_tree.specs.Occupied.{Occupied, is_occupied, committed_value}
-use Rattle.record_tree.specs.LoadedSlots.{AllRead, AllSlots, AreSlotsStill, HasGone, HasMoreSlots, HasPutSlot, IsReadStill, has_slot, slot_gone, slot_put}
+use Rattle.record_tree.specs.LoadedSlots.{AllRead, AllSlots, AreSlotsStill, HasGone, HasMoreSlots, HasPutSlot, IsReadStill, has_committed_slot, slot_gone, slot_put}
 use Rattle.record_tree.specs.Stored.{Stored, stored_at, HasStored, AreStoredStill}
 use Rattle.node_core.specs.Changes.{is_committed}
 use Rattle.db_tree.specs.Loading.{deleted_cell, has_version, slot_read, GetsDeletions}
@@ -434,7 +434,7 @@ slots_then a b c db got first next d x = next d x ∙ ap (λ (t : Bool). t || ((
 
 -- ---- what is read of names
 
-read_slot : (o : Option Cell) → has_slot (option_map slot_read o) ≡ has_version o
+read_slot : (o : Option Cell) → has_committed_slot (option_map slot_read o) ≡ has_version o
 read_slot None = refl
 read_slot (Some cell) = refl
 
@@ -447,21 +447,21 @@ read_gone old new db before after got at there has gets d x = by_number (apart_c
     by_test true o = refl
     by_test false o = refl
 
-    here : read_of new db x ≡ cond (got x && not (has_slot (read_of old db x))) (Some (slot_gone at)) (read_of old db x)
+    here : read_of new db x ≡ cond (got x && not (has_committed_slot (read_of old db x))) (Some (slot_gone at)) (read_of old db x)
     here =
         ap (λ (t : Option DbTree). option_map slot_read (value_at x (cells_of t))) (replaced old new db (Some after) has)
         ∙ ap (option_map slot_read) (gets x)
         ∙ by_test (got x && not (has_version (value_at x before.cells))) (value_at x before.cells)
         ∙ sym (ap (λ (t : Bool). cond (got x && not t) (Some (slot_gone at)) (option_map slot_read (value_at x before.cells))) (read_slot (value_at x before.cells)))
-        ∙ ap (λ (t : Option DbTree). cond (got x && not (has_slot (option_map slot_read (value_at x (cells_of t))))) (Some (slot_gone at)) (option_map slot_read (value_at x (cells_of t)))) there
+        ∙ ap (λ (t : Option DbTree). cond (got x && not (has_committed_slot (option_map slot_read (value_at x (cells_of t))))) (Some (slot_gone at)) (option_map slot_read (value_at x (cells_of t)))) there
 
-    by_number : (db ≡ d) ⊎ ((db == d ≡ false) × (is_eq (nat_cmp db d) ≡ false)) → read_of new d x ≡ cond ((db == d) && (got x && not (has_slot (read_of old d x)))) (Some (slot_gone at)) (read_of old d x)
+    by_number : (db ≡ d) ⊎ ((db == d ≡ false) × (is_eq (nat_cmp db d) ≡ false)) → read_of new d x ≡ cond ((db == d) && (got x && not (has_committed_slot (read_of old d x)))) (Some (slot_gone at)) (read_of old d x)
     by_number (inl same) =
-        subst (λ (e : ℕ). read_of new e x ≡ cond ((db == e) && (got x && not (has_slot (read_of old e x)))) (Some (slot_gone at)) (read_of old e x)) same
-        (here ∙ sym (ap (λ (t : Bool). cond (t && (got x && not (has_slot (read_of old db x)))) (Some (slot_gone at)) (read_of old db x)) (eq-eqb db db refl)))
+        subst (λ (e : ℕ). read_of new e x ≡ cond ((db == e) && (got x && not (has_committed_slot (read_of old e x)))) (Some (slot_gone at)) (read_of old e x)) same
+        (here ∙ sym (ap (λ (t : Bool). cond (t && (got x && not (has_committed_slot (read_of old db x)))) (Some (slot_gone at)) (read_of old db x)) (eq-eqb db db refl)))
     by_number (inr apart) =
         ap (λ (t : Option DbTree). option_map slot_read (value_at x (cells_of t))) (others old new db (Some after) has d apart.1)
-        ∙ sym (ap (λ (t : Bool). cond (t && (got x && not (has_slot (read_of old d x)))) (Some (slot_gone at)) (read_of old d x)) apart.0)
+        ∙ sym (ap (λ (t : Bool). cond (t && (got x && not (has_committed_slot (read_of old d x)))) (Some (slot_gone at)) (read_of old d x)) apart.0)
 
 -- a name of a database gets the slot of a record
 pub read_put : (old new : Forest) (db : ℕ) (before after : DbTree) (name : Name) (at : ℕ) (value : List ℕ) → Some before ≡ get nat_cmp old db → Replaces old new db (Some after) → HasCell before.cells after.cells name (loaded_cell at value) →
@@ -499,7 +499,7 @@ read_still old new db o has same d x = by_number (number_cases db d)
 
 -- a tree is made first
 pub read_then : (a b c : AllRead) (db : ℕ) (got : Name → Bool) (at : ℕ) → IsReadStill a b → HasGone b c db got at → HasGone a c db got at
-read_then a b c db got at first next d x = next d x ∙ ap (λ r. cond ((db == d) && (got x && not (has_slot r))) (Some (slot_gone at)) r) (first d x)
+read_then a b c db got at first next d x = next d x ∙ ap (λ r. cond ((db == d) && (got x && not (has_committed_slot r))) (Some (slot_gone at)) r) (first d x)
 
 -- ---- a change that is redone
 

@@ -45,6 +45,10 @@ below_edge edge entries = filter (λ e. is_below edge e.0) entries
 abbrev pub between_edges : {V : Type 0} → Edge → Edge → List (Name × V) → List (Name × V)
 between_edges from upto entries = filter (λ e. is_between from upto e.0) entries
 
+-- a count, where it is not below the least one that is wanted
+abbrev pub count_if : ℕ → ℕ → Option ℕ
+count_if least count = if nat_lt count least then None else Some count
+
 -- the edge that a search is given
 abbrev pub edge_of : EdgeRef → Edge
 edge_of FirstRef = First

@@ -7,8 +7,9 @@ ghost use Rattle.std.specs.BTreeMap.{is_at, insert_entry};
 ghost use Rattle.je_order.specs.Order.{name_cmp};
 ghost use Rattle.je_order.specs.Edges.Edge.{At};
 ghost use Rattle.je_order.specs.declared.name.Name.{Name};
-ghost use Rattle.record_map.specs.Cells.{value_at, IsRising, first_of, last_of, from_edge, below_edge, between_edges, edge_of, upper_edge, with_version, with_write, committed};
+ghost use Rattle.record_map.specs.Cells.{value_at, IsRising, first_of, last_of, from_edge, below_edge, between_edges, count_if, edge_of, upper_edge, with_version, with_write, committed};
 
+use crate::runs::Runs;
 use crate::{Cell, Data, EdgeRef, SortKey, Write};
 use je_lsn::Lsn;
 use node_core::Version;
@@ -22,6 +23,7 @@ use std::ops::Bound;
 #[derive(Drop)]
 pub struct Cells {
     cells: BTreeMap<SortKey, Cell>,
+    runs: Runs,
 }
 
 impl Model for Cells {
@@ -29,12 +31,71 @@ impl Model for Cells {
     ghost use Rattle.je_order.specs.declared.name.Name.{Name};
     ghost use Rattle.record_map.specs.declared.cell.Cell.{Cell as Held};
     ghost use Rattle.record_map.specs.Cells.{IsRising};
+    ghost use Rattle.record_map.specs.Runs.{AreRuns};
 
     ghost Value = { List (Name × Held) };
 
     ghost view = { λ a. a.cells.entries };
 
-    ghost invariant = { λ a. IsRising a.cells.entries };
+    ghost invariant = { λ a. IsRising a.cells.entries × AreRuns a.runs.lows.entries a.runs.bounds.items a.cells.entries };
+}
+
+// How many cells there are from a name on and below another one, or to the end.
+fn count_in(cells: &BTreeMap<SortKey, Cell>, low: &SortKey, high: Option<&SortKey>) -> usize
+    requires { IfSome high (λ h. name_cmp low.now h.now ≡ Less) }
+    ensures { result ≡ length (between_edges (At low.now) (upper_edge (option_copied high.entry)) cells.now.entries) }
+{
+    let end = match high {
+        Some(name) => Bound::Excluded(name),
+        None => Bound::Unbounded,
+    };
+    cells.range((Bound::Included(low), end)).count()
+}
+
+// Gives the name's cell another change, or none.
+fn write_in(cells: &mut BTreeMap<SortKey, Cell>, name: &SortKey, write: Option<Box<Write>>)
+    requires { IsSome (value_at name.now cells.old.entries) }
+    ensures list { (c : _) → value_at name.now cells.old.entries ≡ Some c → cells.new.entries ≡ set_value (is_at (name_cmp name.now)) cells.old.entries (with_write write c) }
+    ensures others { (x : Name) → value_at x cells.new.entries ≡ (if is_eq (name_cmp name.now x) then option_map (with_write write) (value_at name.now cells.old.entries) else value_at x cells.old.entries) }
+    ensures rising { IsRising cells.new.entries }
+{
+    match cells.get_mut(name) {
+        Some(cell) => cell.write = write,
+        None => drop(write),
+    }
+}
+
+// Commits a version with its data for the name's cell.
+fn set_version_in(
+    cells: &mut BTreeMap<SortKey, Cell>,
+    name: &SortKey,
+    version: Version,
+    data: Data,
+    at: Lsn,
+    last: &Option<Lsn>,
+)
+    requires { IsSome (value_at name.now cells.old.entries) }
+    ensures list { (c : _) → value_at name.now cells.old.entries ≡ Some c → cells.new.entries ≡ set_value (is_at (name_cmp name.now)) cells.old.entries (with_version version «data» at last.now c) }
+    ensures others { (x : Name) → value_at x cells.new.entries ≡ (if is_eq (name_cmp name.now x) then option_map (with_version version «data» at last.now) (value_at name.now cells.old.entries) else value_at x cells.old.entries) }
+    ensures rising { IsRising cells.new.entries }
+{
+    match cells.get_mut(name) {
+        Some(cell) => cell.set_version(version, data, at, last),
+        None => drop(data),
+    }
+}
+
+// Commits the change of the name's cell.
+fn commit_in(cells: &mut BTreeMap<SortKey, Cell>, name: &SortKey, at: Lsn, last: &Option<Lsn>)
+    requires { IsSome (value_at name.now cells.old.entries) }
+    ensures list { (c : _) → value_at name.now cells.old.entries ≡ Some c → cells.new.entries ≡ set_value (is_at (name_cmp name.now)) cells.old.entries (committed at last.now c) }
+    ensures others { (x : Name) → value_at x cells.new.entries ≡ (if is_eq (name_cmp name.now x) then option_map (committed at last.now) (value_at name.now cells.old.entries) else value_at x cells.old.entries) }
+    ensures rising { IsRising cells.new.entries }
+{
+    match cells.get_mut(name) {
+        Some(cell) => cell.commit(at, last),
+        None => {}
+    }
 }
 
 impl Cells {
@@ -44,6 +105,7 @@ impl Cells {
     {
         Cells {
             cells: BTreeMap::new(alloc),
+            runs: Runs::new(alloc),
         }
     }
 
@@ -67,7 +129,7 @@ impl Cells {
         ensures found { option_map (λ p. (p.0.now, p.1.now)) result ≡ first_of (from_edge (edge_of from.entry) self.now) }
         ensures rising { IsRising self.now }
     {
-        let Cells { cells } = self;
+        let Cells { cells, runs: _ } = self;
         let start = match from {
             EdgeRef::First => Bound::Unbounded,
             EdgeRef::At(name) => Bound::Included(name),
@@ -83,7 +145,7 @@ impl Cells {
         ensures found { option_map (λ p. (p.0.now, p.1.now)) result ≡ last_of (below_edge (edge_of upto.entry) self.now) }
         ensures rising { IsRising self.now }
     {
-        let Cells { cells } = self;
+        let Cells { cells, runs: _ } = self;
         let end = match upto {
             EdgeRef::First => return None,
             EdgeRef::At(name) => Bound::Excluded(name),
@@ -99,7 +161,7 @@ impl Cells {
         ensures cells { result ≡ between_edges (At low.now) (upper_edge (option_copied high.entry)) self.now }
         ensures rising { IsRising self.now }
     {
-        let Cells { cells } = self;
+        let Cells { cells, runs: _ } = self;
         let end = match high {
             Some(name) => Bound::Excluded(name),
             None => Bound::Unbounded,
@@ -114,7 +176,7 @@ impl Cells {
         ensures none { result ≡ None → from_edge (edge_of from.entry) self.now ≡ [] }
         ensures rising { IsRising self.now }
     {
-        let Cells { cells } = self;
+        let Cells { cells, runs: _ } = self;
         let start = match from {
             EdgeRef::First => Bound::Unbounded,
             EdgeRef::At(low) => Bound::Included(low),
@@ -131,7 +193,7 @@ impl Cells {
         ensures none { result ≡ None → below_edge (edge_of upto.entry) self.now ≡ [] }
         ensures rising { IsRising self.now }
     {
-        let Cells { cells } = self;
+        let Cells { cells, runs: _ } = self;
         let end = match upto {
             EdgeRef::First => return None,
             EdgeRef::At(high) => Bound::Excluded(high),
@@ -146,12 +208,38 @@ impl Cells {
         requires { IfSome high (λ h. name_cmp low.now h.now ≡ Less) }
         ensures { result ≡ length (between_edges (At low.now) (upper_edge (option_copied high.entry)) self.now) }
     {
-        let Cells { cells } = self;
-        let end = match high {
-            Some(name) => Bound::Excluded(name),
-            None => Bound::Unbounded,
-        };
-        cells.range((Bound::Included(low), end)).count()
+        let Cells { cells, runs: _ } = self;
+        count_in(cells, low, high)
+    }
+
+    /// How many cells there are from a name on and below another one, or to the end, where there are at least `least`. It goes over
+    /// these cells, unless a run was noted from the first name to the other one and has fewer for sure.
+    pub fn count_if(&self, low: &SortKey, high: Option<&SortKey>, least: usize) -> Option<usize>
+        requires { IfSome high (λ h. name_cmp low.now h.now ≡ Less) }
+        ensures { result ≡ count_if least (length (between_edges (At low.now) (upper_edge (option_copied high.entry)) self.now)) }
+    {
+        let Cells { cells, runs } = self;
+        if runs.is_below(low, high, least) {
+            return None;
+        }
+        let count = count_in(cells, low, high);
+        if count < least {
+            return None;
+        }
+        Some(count)
+    }
+
+    /// Notes a run of names, from the low on and below the next low that was noted, so that `count_if` need not go over its
+    /// cells. Running out of memory notes nothing.
+    pub fn note_run(&mut self, low: SortKey)
+        ensures { self.new ≡ self.old }
+    {
+        let Cells { cells, runs } = self;
+        let count = count_in(cells, &low, runs.end_of(&low));
+        match runs.put(low, count) {
+            Ok(()) => {}
+            Err(failed) => drop(failed),
+        }
     }
 
     /// Puts the cell under the name, in place of the one that is there. Running out of memory changes
@@ -163,7 +251,8 @@ impl Cells {
         ensures absent { OnErr result (value_at name self.old ≡ None) }
         ensures rising { IsRising self.new }
     {
-        let Cells { cells } = self;
+        let Cells { cells, runs } = self;
+        runs.count_name(&name);
         drop(cells.insert(name, cell)?);
         Ok(())
     }
@@ -174,7 +263,7 @@ impl Cells {
         ensures others { (x : Name) → value_at x self.new ≡ (if is_eq (name_cmp name.now x) then None else value_at x self.old) }
         ensures rising { IsRising self.new }
     {
-        let Cells { cells } = self;
+        let Cells { cells, runs: _ } = self;
         drop(cells.remove(name));
     }
 
@@ -185,11 +274,8 @@ impl Cells {
         ensures others { (x : Name) → value_at x self.new ≡ (if is_eq (name_cmp name.now x) then option_map (with_write write) (value_at name.now self.old) else value_at x self.old) }
         ensures rising { IsRising self.new }
     {
-        let Cells { cells } = self;
-        match cells.get_mut(name) {
-            Some(cell) => cell.write = write,
-            None => drop(write),
-        }
+        let Cells { cells, runs: _ } = self;
+        write_in(cells, name, write);
     }
 
     /// Commits a version with its data for the name's cell, by the Commit at `at`. The last image of the
@@ -207,11 +293,8 @@ impl Cells {
         ensures others { (x : Name) → value_at x self.new ≡ (if is_eq (name_cmp name.now x) then option_map (with_version version «data» at last.now) (value_at name.now self.old) else value_at x self.old) }
         ensures rising { IsRising self.new }
     {
-        let Cells { cells } = self;
-        match cells.get_mut(name) {
-            Some(cell) => cell.set_version(version, data, at, last),
-            None => drop(data),
-        }
+        let Cells { cells, runs: _ } = self;
+        set_version_in(cells, name, version, data, at, last);
     }
 
     /// Commits the change of the name's cell, by the Commit at `at`. The last image of the cell's BIN is
@@ -222,10 +305,7 @@ impl Cells {
         ensures others { (x : Name) → value_at x self.new ≡ (if is_eq (name_cmp name.now x) then option_map (committed at last.now) (value_at name.now self.old) else value_at x self.old) }
         ensures rising { IsRising self.new }
     {
-        let Cells { cells } = self;
-        match cells.get_mut(name) {
-            Some(cell) => cell.commit(at, last),
-            None => {}
-        }
+        let Cells { cells, runs: _ } = self;
+        commit_in(cells, name, at, last);
     }
 }

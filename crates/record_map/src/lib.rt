@@ -12,6 +12,7 @@ pub mod data;
 pub mod edge_ref;
 mod held_data;
 mod held_name;
+mod runs;
 pub mod sort_key;
 pub mod write;
 

@@ -64,13 +64,13 @@ abbrev pub slot_gone : ℕ → ReadSlot
 slot_gone at = record { version = Deleted; shown = Deleted; touched = at }
 
 -- whether a name has a slot that the next image of its BIN shows
-abbrev pub has_slot : Option ReadSlot → Bool
-has_slot None = false
-has_slot (Some s) = is_committed s.version
+abbrev pub has_committed_slot : Option ReadSlot → Bool
+has_committed_slot None = false
+has_committed_slot (Some s) = is_committed s.version
 
 -- of the names of a database that a test finds, each that has no slot got that of a record that was deleted
 abbrev pub HasGone : AllRead → AllRead → ℕ → (Name → Bool) → ℕ → Type 0
-HasGone old new db gone at = (d : ℕ) (x : Name) → new d x ≡ (if (db == d) && (gone x && not (has_slot (old d x))) then Some (slot_gone at) else old d x)
+HasGone old new db gone at = (d : ℕ) (x : Name) → new d x ≡ (if (db == d) && (gone x && not (has_committed_slot (old d x))) then Some (slot_gone at) else old d x)
 
 -- a name of a database got the slot of a record that was logged at an LSN
 abbrev pub HasPutSlot : AllRead → AllRead → ℕ → Name → ℕ → Type 0

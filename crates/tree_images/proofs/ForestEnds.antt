@@ -5,7 +5,7 @@ use Rattle.je_order.specs.declared.name.Name.{Name}
 use Rattle.tree_nodes.specs.declared.node.Node.{Node}
 use Rattle.tree_nodes.specs.Nodes.{NodeRow}
 use Rattle.db_tree.specs.Images.{Placed}
-use Rattle.db_tree.specs.Content.{Held, kept_by}
+use Rattle.db_tree.specs.Content.{NameState, kept_by}
 use Rattle.db_tree.specs.Trees.{IsBehind, IsTreeOf}
 use Rattle.tree_images.specs.EndLaws.{ForestsMayEnd}
 use Rattle.tree_images.specs.Forest.{latest_at}
@@ -23,7 +23,7 @@ or_behind : {A : Type 0} (base : ℕ) (newest newer : Name → ℕ) (n : Node) (
 or_behind base newest newer n x le (inl same) = inl same
 or_behind base newest newer n x le (inr behind) = inr (behind_more base newest newer n x le behind)
 
-tree_more : (es : Placed) (base : ℕ) (newest newer : Name → ℕ) (rows : List NodeRow) (held : Name → Held) → ((x : Name) → newest x ≤ newer x) → IsTreeOf es base newest rows held → IsTreeOf es base newer rows held
+tree_more : (es : Placed) (base : ℕ) (newest newer : Name → ℕ) (rows : List NodeRow) (held : Name → NameState) → ((x : Name) → newest x ≤ newer x) → IsTreeOf es base newest rows held → IsTreeOf es base newer rows held
 tree_more es base newest newer rows held le t = record {
   reads = t.reads;
   leaf = λ x e over. or_behind base newest newer e.1 x (le x) (t.leaf x e over);

@@ -6,7 +6,7 @@ use Rattle.std.proofs.lemmas.Option.{none-some, same_Some}
 use Rattle.je_order.specs.declared.name.Name.{Name}
 use Rattle.record_map.specs.Cells.{value_at}
 use Rattle.tree_nodes.specs.declared.node.Node.{Node}
-use Rattle.tree_nodes.specs.Nodes.{NodeRow, IsOver, earlier, logged, marked, unmarked}
+use Rattle.tree_nodes.specs.Nodes.{NodeRow, IsOver, earlier, logged, marked, without_mark}
 use Rattle.tree_nodes.specs.Levels.{row_of, HasMarkedAt, HasPutAt}
 use Rattle.tree_nodes.proofs.LevelLaws.{is_level}
 use Rattle.db_tree.specs.declared.node_at.NodeAt.{NodeAt}
@@ -110,7 +110,7 @@ pub notes_settled : (passes : ℕ → Name → ℕ → Bool) (cells : List (Name
 notes_settled passes cells old new x s notes = by_test (is_as_imaged (row_of old 0) cells s.e) refl
   where
     by_test : (t : Bool) → is_as_imaged (row_of old 0) cells s.e ≡ t → NotesHold passes new
-    by_test true is = notes_put passes old new 0 s.e.0 s.e.0 s.e.1 (unmarked s.e.1) (over_low (row_of old 0) s.e.0 s.e.1 s.over.there) (s.cleared is) refl (λ unnoted. tt) notes
+    by_test true is = notes_put passes old new 0 s.e.0 s.e.0 s.e.1 (without_mark s.e.1) (over_low (row_of old 0) s.e.0 s.e.1 s.over.there) (s.cleared is) refl (λ unnoted. tt) notes
     by_test false is = subst (NotesHold passes) (sym (s.kept is)) notes
 
 -- ---- an image is logged

@@ -20,8 +20,8 @@ use Rattle.log_trees.specs.Building.{child_shown}
 use Rattle.node_core.specs.declared.slot.Version.{Version}
 use Rattle.node_core.specs.declared.slot.Version.TheVariants.{Unset}
 use Rattle.record_map.specs.declared.cell.Cell.{Cell}
-use Rattle.db_tree.specs.Content.{held_of, held_under, kept_by, shown_held}
-use Rattle.db_tree.specs.Images.{Placed, entry_at, child_in, child_over, says, shows, shown, version_in, IsRead}
+use Rattle.db_tree.specs.Content.{name_state, held_under, kept_by, shown_held}
+use Rattle.db_tree.specs.Images.{Placed, entry_at, child_in, child_over, last_says, shows, shown, version_imaged, IsRead}
 use Rattle.db_tree.proofs.Contents.{within}
 use Rattle.db_tree.proofs.NodesExact.{forced_exact}
 use Rattle.db_tree.proofs.ReadExact.{read_exact}
@@ -91,7 +91,7 @@ module _ (es : Placed) (home : ℕ → Home) (last d : ℕ) (rows : List NodeRow
 
 -- what was read knows what the images say that it was read from
 know_read : (es : Placed) (base : ℕ) (rows : List NodeRow) (cells : List (Name × Cell)) → AreAsRead es cells →
-    ((x : Name) (e : Name × Node) (at : ℕ) → IsOver (row_of rows 0) x e → e.1.last ≡ Some at → version_in (entry_at es at) x ≡ (kept_by cells x).version) → KnowImages es base rows (kept_by cells)
+    ((x : Name) (e : Name × Node) (at : ℕ) → IsOver (row_of rows 0) x e → e.1.last ≡ Some at → version_imaged (entry_at es at) x ≡ (kept_by cells x).version) → KnowImages es base rows (kept_by cells)
 know_read es base rows cells read held = record {
   shown = λ x e at over is. held x e at over is ∙ sym (shown_at x at (value_at x cells) refl);
   unset = λ x is. unset_at x (value_at x cells) refl is;
@@ -106,7 +106,7 @@ know_read es base rows cells read held = record {
     shown_at x at None there = same_shown (nat_lt at 0) Unset Unset refl
     shown_at x at (Some cell) there = same_shown (nat_lt at cell.touched) cell.shown cell.version (read.shown x cell there)
 
-    unset_at : (x : Name) (o : Option Cell) → value_at x cells ≡ o → (held_under o).version ≡ Unset → held_under o ≡ held_of fresh
+    unset_at : (x : Name) (o : Option Cell) → value_at x cells ≡ o → (held_under o).version ≡ Unset → held_under o ≡ name_state fresh
     unset_at x None there is = refl
     unset_at x (Some cell) there is = absurd (read.committed x cell there is)
 
@@ -138,8 +138,8 @@ read_fit es base newest home last d rows cells parts top each up recorded as_rea
     reads level x e at over a is =
         subst (λ (i : ℕ). IsRead es level i x) (same_Some a.at at (sym a.image ∙ is)) (images_are_read es home last d level e.0 (low_behind e.0 (row_of rows level)) a.at x a.sound (same_within e.0 (low_behind e.0 (row_of rows level)) x ∙ within (row_of rows level) x e over))
 
-    leaf : (x : Name) (e : Name × Node) → IsOver (row_of rows 0) x e → IsAsRead es home last d rows 0 e.0 e.1 → (says es e.1.last x ≡ (kept_by cells x).version) ⊎ IsBehind base newest e.1 x
-    leaf x e over a = inl (ap (λ (o : Option ℕ). says es o x) a.image ∙ held x e a.at over a.image)
+    leaf : (x : Name) (e : Name × Node) → IsOver (row_of rows 0) x e → IsAsRead es home last d rows 0 e.0 e.1 → (last_says es e.1.last x ≡ (kept_by cells x).version) ⊎ IsBehind base newest e.1 x
+    leaf x e over a = inl (ap (λ (o : Option ℕ). last_says es o x) a.image ∙ held x e a.at over a.image)
 
 -- a tree whose nodes all wait
 pub unread_fit : UnreadTreesFit

@@ -23,12 +23,12 @@ use Rattle.log_trees.proofs.Bounds.{within_from, none_below_least}
 use Rattle.log_trees.proofs.Rooted.{RiseFrom, rise_of, roots_show_rows}
 use Rattle.log_meaning.specs.ReadNodes.{is_delta, stored_of, ArePutEach, IsRootPut, Loaded}
 use Rattle.log_meaning.proofs.Loading.{roots_nodes}
-use Rattle.record_tree.specs.LoadedSlots.{ReadSlot, has_slot}
+use Rattle.record_tree.specs.LoadedSlots.{ReadSlot, has_committed_slot}
 use Rattle.db_tree.specs.declared.tree.DbTree.{DbTree}
 use Rattle.node_core.specs.declared.slot.Version.{Version}
 use Rattle.node_core.specs.declared.slot.Version.TheVariants.{There, Deleted, Unset}
 use Rattle.db_tree.specs.Content.{held_by, kept_by, lsn_of}
-use Rattle.db_tree.specs.Images.{Placed, entry_at, shown, shows, version_in}
+use Rattle.db_tree.specs.Images.{Placed, entry_at, shown, shows, version_imaged}
 use Rattle.db_tree.specs.Loading.{loaded_in, slot_read}
 use Rattle.db_tree.specs.Stored.{stored_under}
 use Rattle.db_tree.proofs.Over.{over_once, is_over, there_is}
@@ -73,7 +73,7 @@ module _ (es : Placed) (home : ℕ → Home) (last d : ℕ) (rows : List NodeRow
 module _ (es : Placed) (keeps : Bool) (most : ℕ) (home : ℕ → Home) (last base d : ℕ) (tree : DbTree) (parts : AreParts tree.levels) (entries : AllByRecursion (λ p. IsEntry p.1) es) (below : AllByRecursion (λ p. p.0 < base) es) (le : most ≤ last)
     (top at : ℕ) (root : IsFound es keeps most home d tree.levels parts entries top least None at) (none : (j : ℕ) (q : Name) → top < j → loaded_in tree.levels j q ≡ None)
     (records : (x : Name) → stored_under (value_at x tree.cells) ≡ stored_of (written_at es d x (shows_slot es top at x))) (quiet : (x : Name) (cell : Cell) → value_at x tree.cells ≡ Some cell → cell.write ≡ None)
-    (rising : IsRising tree.cells) (slots : Name → Option ReadSlot) (slots_are : (x : Name) → slots x ≡ option_map slot_read (value_at x tree.cells)) (read_as : (x : Name) → IsReadAs es None (slots x) (IsGone es top least None at x)) (got : (x : Name) → IsGone es top least None at x → has_slot (slots x) ≡ true) (newest : Name → ℕ) where
+    (rising : IsRising tree.cells) (slots : Name → Option ReadSlot) (slots_are : (x : Name) → slots x ≡ option_map slot_read (value_at x tree.cells)) (read_as : (x : Name) → IsReadAs es None (slots x) (IsGone es top least None at x)) (got : (x : Name) → IsGone es top least None at x → has_committed_slot (slots x) ≡ true) (newest : Name → ℕ) where
   recorded : AreRecorded es d tree.cells
   recorded x cell there = recorded_is es d x cell (shows_slot es top at x) (sym (ap stored_under there) ∙ records x) (quiet x cell there)
 
@@ -111,15 +111,15 @@ module _ (es : Placed) (keeps : Bool) (most : ℕ) (home : ℕ → Home) (last b
           root_there : IsSome (value_at least (row_of tree.levels top))
           root_there = low_there es keeps most home d tree.levels parts entries top least None at root.shown
 
-      deleted : (x : Name) (e : Name × Node) (a : ℕ) → IsOver (row_of tree.levels 0) x e → e.1.last ≡ Some a → version_in (entry_at es a) x ≡ Deleted → (kept_by tree.cells x).version ≡ Deleted
+      deleted : (x : Name) (e : Name × Node) (a : ℕ) → IsOver (row_of tree.levels 0) x e → e.1.last ≡ Some a → version_imaged (entry_at es a) x ≡ Deleted → (kept_by tree.cells x).version ≡ Deleted
       deleted x e a over is says =
           deleted_is (value_at x tree.cells)
-          (sym (ap has_slot (slots_are x)) ∙ got x (says_gone es keeps most home d tree.levels parts entries last le kept whole top at root x e a over is (within_from least None x (none_below_least x) refl) says))
+          (sym (ap has_committed_slot (slots_are x)) ∙ got x (says_gone es keeps most home d tree.levels parts entries last le kept whole top at root x e a over is (within_from least None x (none_below_least x) refl) says))
           (sym (held x e a over is) ∙ sym (image_says (entry_at es a) x) ∙ ap lsn_of says)
 
-      says_it : (x : Name) (e : Name × Node) (a : ℕ) → IsOver (row_of tree.levels 0) x e → e.1.last ≡ Some a → version_in (entry_at es a) x ≡ (kept_by tree.cells x).version
+      says_it : (x : Name) (e : Name × Node) (a : ℕ) → IsOver (row_of tree.levels 0) x e → e.1.last ≡ Some a → version_imaged (entry_at es a) x ≡ (kept_by tree.cells x).version
       says_it x e a over is =
-          versions_same (version_in (entry_at es a) x) (kept_by tree.cells x).version (image_says (entry_at es a) x ∙ held x e a over is) (deleted x e a over is)
+          versions_same (version_imaged (entry_at es a) x) (kept_by tree.cells x).version (image_says (entry_at es a) x ∙ held x e a over is) (deleted x e a over is)
           (λ gone. gone_says es keeps most home d tree.levels parts entries last le kept whole top at root x e a over is (was_gone es (value_at x tree.cells) (slots x) (IsGone es top least None at x) (slots_are x) (read_as x) gone))
 
   unread_fits : keeps ≡ false → FitsTree es base newest home last d tree.levels tree.cells

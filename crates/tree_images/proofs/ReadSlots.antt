@@ -25,7 +25,7 @@ use Rattle.record_map.specs.Cells.{value_at}
 use Rattle.record_map.specs.declared.cell.Cell.{Cell}
 use Rattle.node_core.specs.Changes.{is_committed}
 use Rattle.record_tree.specs.LoadedNodes.{least}
-use Rattle.record_tree.specs.LoadedSlots.{ReadSlot, has_slot, is_deletion, is_inside, shows_deletion, shows_deletion_inside, slot_gone, slot_put}
+use Rattle.record_tree.specs.LoadedSlots.{ReadSlot, has_committed_slot, is_deletion, is_inside, shows_deletion, shows_deletion_inside, slot_gone, slot_put}
 use Rattle.tree_nodes.specs.declared.node.Node.{Node}
 use Rattle.tree_nodes.specs.Nodes.{NodeRow, IsOver, low_behind}
 use Rattle.tree_nodes.specs.Levels.{row_of, AreParts}
@@ -40,7 +40,7 @@ use Rattle.log_trees.proofs.Shown.{child_slots_of}
 use Rattle.log_meaning.specs.ReadNodes.{is_delta, Loaded, AreLoadedEach, AreRecordsPut, IsLoadedBelow, IsNodeLoaded, IsRootLoaded}
 use Rattle.db_tree.specs.Content.{held_under, lsn_of, lsn_under}
 use Rattle.db_tree.specs.Loading.{slot_read}
-use Rattle.db_tree.specs.Images.{Placed, entry_at, slot_version, version_in, version_of_slot}
+use Rattle.db_tree.specs.Images.{Placed, entry_at, slot_version, version_imaged, version_of_slot}
 use Rattle.db_tree.proofs.Over.{over_once}
 use Rattle.db_tree.proofs.Within.{over_within}
 use Rattle.tree_images.specs.Fits.{AreRecorded}
@@ -175,10 +175,10 @@ module _ (es : Placed) where
   read_so a b G H so (inr (inr gone)) = inr (inr (gone.0, gone.1, gone.2, so gone.3))
 
   -- a slot stays
-  slot_stays : (a b : Option ReadSlot) (G : Type 0) → IsReadAs a b G → has_slot a ≡ true → has_slot b ≡ true
-  slot_stays a b G (inl is) some = ap has_slot is ∙ some
-  slot_stays a b G (inr (inl put)) some = ap has_slot put.1
-  slot_stays a b G (inr (inr gone)) some = ap has_slot gone.1
+  slot_stays : (a b : Option ReadSlot) (G : Type 0) → IsReadAs a b G → has_committed_slot a ≡ true → has_committed_slot b ≡ true
+  slot_stays a b G (inl is) some = ap has_committed_slot is ∙ some
+  slot_stays a b G (inr (inl put)) some = ap has_committed_slot put.1
+  slot_stays a b G (inr (inr gone)) some = ap has_committed_slot gone.1
 
   records_read : (old new : Loaded) (b : ℕ) (x : Name) (G : Type 0) → AreRecordsPut old new → IsReadAs (old.slots b x) (new.slots b x) G
   records_read old new b x G put = by_side (put.slots b x)
@@ -197,7 +197,7 @@ module _ (es : Placed) where
   module _ (keeps : Bool) (most d : ℕ) where
     node_read_as : (k : ℕ) (low : Name) (high : Option Name) (at : ℕ) (node : Shown) (old new : Loaded) (b : ℕ) (x : Name) → IsNodeLoaded es keeps most d k low high at node old new →
         IsReadAs (old.slots b x) (new.slots b x) ((b ≡ d) × (shows_deletion_inside low high node.slots x ≡ true))
-    node_read_as k low high at node old new b x put = by_tests (d == b) (shows_deletion_inside low high node.slots x) (has_slot (old.slots b x)) refl refl (put.slots b x)
+    node_read_as k low high at node old new b x put = by_tests (d == b) (shows_deletion_inside low high node.slots x) (has_committed_slot (old.slots b x)) refl refl (put.slots b x)
       where
         entry : IsSome (entry_at es at)
         entry = let found = image_entry es at node put.put.image in subst IsSome (sym found.1) refl
@@ -211,15 +211,15 @@ module _ (es : Placed) where
 
     -- the name of such a slot has one then
     node_got : (k : ℕ) (low : Name) (high : Option Name) (at : ℕ) (node : Shown) (old new : Loaded) (x : Name) → IsNodeLoaded es keeps most d k low high at node old new → shows_deletion_inside low high node.slots x ≡ true →
-        has_slot (new.slots d x) ≡ true
+        has_committed_slot (new.slots d x) ≡ true
     node_got k low high at node old new x put shows =
-        by_test (has_slot (old.slots d x)) refl (put.slots d x
-        ∙ ap (λ (t : Bool). cond (t && (shows_deletion_inside low high node.slots x && not (has_slot (old.slots d x)))) (Some (slot_gone at)) (old.slots d x)) (eq-eqb d d refl)
-        ∙ ap (λ (t : Bool). cond (t && not (has_slot (old.slots d x))) (Some (slot_gone at)) (old.slots d x)) shows)
+        by_test (has_committed_slot (old.slots d x)) refl (put.slots d x
+        ∙ ap (λ (t : Bool). cond (t && (shows_deletion_inside low high node.slots x && not (has_committed_slot (old.slots d x)))) (Some (slot_gone at)) (old.slots d x)) (eq-eqb d d refl)
+        ∙ ap (λ (t : Bool). cond (t && not (has_committed_slot (old.slots d x))) (Some (slot_gone at)) (old.slots d x)) shows)
       where
-        by_test : (h : Bool) → has_slot (old.slots d x) ≡ h → new.slots d x ≡ cond (not (has_slot (old.slots d x))) (Some (slot_gone at)) (old.slots d x) → has_slot (new.slots d x) ≡ true
-        by_test true has is = ap has_slot (is ∙ ap (λ (t : Bool). cond (not t) (Some (slot_gone at)) (old.slots d x)) has) ∙ has
-        by_test false has is = ap has_slot (is ∙ ap (λ (t : Bool). cond (not t) (Some (slot_gone at)) (old.slots d x)) has)
+        by_test : (h : Bool) → has_committed_slot (old.slots d x) ≡ h → new.slots d x ≡ cond (not (has_committed_slot (old.slots d x))) (Some (slot_gone at)) (old.slots d x) → has_committed_slot (new.slots d x) ≡ true
+        by_test true has is = ap has_committed_slot (is ∙ ap (λ (t : Bool). cond (not t) (Some (slot_gone at)) (old.slots d x)) has) ∙ has
+        by_test false has is = ap has_committed_slot (is ∙ ap (λ (t : Bool). cond (not t) (Some (slot_gone at)) (old.slots d x)) has)
 
     module _ (home : ℕ → ℕ → Name → Type 0) (entries : AllByRecursion (λ p. IsEntry p.1) es) where
       -- ---- the tree below an image is put
@@ -273,10 +273,10 @@ module _ (es : Placed) where
       -- each name that an image below says is deleted has a slot
 
       abbrev Gets : ℕ → Type 0
-      Gets k = (low : Name) (high : Option Name) (at : ℕ) (old new : Loaded) (x : Name) → IsLoadedBelow es keeps most d k low high at old new → IsTreeAt es home d k low high at → IsGone k low high at x → has_slot (new.slots d x) ≡ true
+      Gets k = (low : Name) (high : Option Name) (at : ℕ) (old new : Loaded) (x : Name) → IsLoadedBelow es keeps most d k low high at old new → IsTreeAt es home d k low high at → IsGone k low high at x → has_committed_slot (new.slots d x) ≡ true
 
       each_got : (k top : ℕ) → Gets k → (cs : List Child) (old new : Loaded) (x : Name) → AreLoadedEach (λ (c : Child). IsLoadedBelow es keeps most d k c.low c.high c.at) cs old new →
-          AllByRecursion (λ (c : Child). (c.at < top) × IsTreeAt es home d k c.low c.high c.at) cs → AnyOf (λ (c : Child). IsGone k c.low c.high c.at x) cs → has_slot (new.slots d x) ≡ true
+          AllByRecursion (λ (c : Child). (c.at < top) × IsTreeAt es home d k c.low c.high c.at) cs → AnyOf (λ (c : Child). IsGone k c.low c.high c.at x) cs → has_committed_slot (new.slots d x) ≡ true
       each_got k top gets [] old new x put trees any = absurd any
       each_got k top gets (c ∷ cs) old new x put trees (inl gone) =
           let mid : Loaded = put.0 in
@@ -370,37 +370,37 @@ module _ (es : Placed) (keeps : Bool) (most : ℕ) (home : ℕ → Home) (d : �
             same_Some at a (sym (last_is es keeps most home d rows parts entries last le kept whole 0 low high at n f there) ∙ sym (ap (λ (m : Node). m.last) same_node) ∙ is)
 
     -- what its image says
-    leaf_says : (low : Name) (high : Option Name) (at : ℕ) (x : Name) (f : IsFound es keeps most home d rows parts entries 0 low high at) → IsGone es 0 low high at x → version_in (entry_at es at) x ≡ Deleted
+    leaf_says : (low : Name) (high : Option Name) (at : ℕ) (x : Name) (f : IsFound es keeps most home d rows parts entries 0 low high at) → IsGone es 0 low high at x → version_imaged (entry_at es at) x ≡ Deleted
     leaf_says low high at x f gone =
         let e : IsBinEntry es at f.tree.node = bin_entry es at f.tree.node entries whole f.tree.image f.tree.level_is in
         let is : gone.0 ≡ f.tree.node = same_Some gone.0 f.tree.node (sym gone.1 ∙ f.tree.image) in
-        ap (λ (o : Option Entry). version_in o x) e.image
+        ap (λ (o : Option Entry). version_imaged o x) e.image
         ∙ deletion_found x e.slots e.entry.2.rise
         (subst (λ (l : List Marked). shows_deletion l x ≡ true) e.slots_are
         (subst (λ (n : Shown). shows_deletion n.slots x ≡ true) is (and_parts (is_inside low high x) (shows_deletion gone.0.slots x) gone.2).1))
 
-    leaf_shows : (low : Name) (high : Option Name) (at : ℕ) (x : Name) (f : IsFound es keeps most home d rows parts entries 0 low high at) → is_within low high x ≡ true → version_in (entry_at es at) x ≡ Deleted → IsGone es 0 low high at x
+    leaf_shows : (low : Name) (high : Option Name) (at : ℕ) (x : Name) (f : IsFound es keeps most home d rows parts entries 0 low high at) → is_within low high x ≡ true → version_imaged (entry_at es at) x ≡ Deleted → IsGone es 0 low high at x
     leaf_shows low high at x f inside says =
         let e : IsBinEntry es at f.tree.node = bin_entry es at f.tree.node entries whole f.tree.image f.tree.level_is in (
           f.tree.node,
           f.tree.image,
           and_from (is_inside low high x) (shows_deletion f.tree.node.slots x) (inside_within low high x ∙ inside)
-              (subst (λ (l : List Marked). shows_deletion l x ≡ true) (sym e.slots_are) (deletion_shown x e.slots (sym (ap (λ (o : Option Entry). version_in o x) e.image) ∙ says))),
+              (subst (λ (l : List Marked). shows_deletion l x ≡ true) (sym e.slots_are) (deletion_shown x e.slots (sym (ap (λ (o : Option Entry). version_imaged o x) e.image) ∙ says))),
         )
 
     module _ (top at : ℕ) (root : IsFound es keeps most home d rows parts entries top least None at) where
       -- the BIN's image says that a record was deleted exactly where an image below the root does
-      pub gone_says : (x : Name) (e : Name × Node) (a : ℕ) → IsOver (row_of rows 0) x e → e.1.last ≡ Some a → IsGone es top least None at x → version_in (entry_at es a) x ≡ Deleted
+      pub gone_says : (x : Name) (e : Name × Node) (a : ℕ) → IsOver (row_of rows 0) x e → e.1.last ≡ Some a → IsGone es top least None at x → version_imaged (entry_at es a) x ≡ Deleted
       gone_says x e a over is gone =
           let leaf = leaf_gone top least None at x root gone in
           let inside : is_within leaf.low leaf.high x ≡ true = gone_inside 0 leaf.low leaf.high leaf.at x refl leaf.gone in
-          subst (λ (i : ℕ). version_in (entry_at es i) x ≡ Deleted) (leaf_at leaf.low leaf.high leaf.at x e a leaf.found inside over is) (leaf_says leaf.low leaf.high leaf.at x leaf.found leaf.gone)
+          subst (λ (i : ℕ). version_imaged (entry_at es i) x ≡ Deleted) (leaf_at leaf.low leaf.high leaf.at x e a leaf.found inside over is) (leaf_says leaf.low leaf.high leaf.at x leaf.found leaf.gone)
 
-      pub says_gone : (x : Name) (e : Name × Node) (a : ℕ) → IsOver (row_of rows 0) x e → e.1.last ≡ Some a → is_within least None x ≡ true → version_in (entry_at es a) x ≡ Deleted → IsGone es top least None at x
+      pub says_gone : (x : Name) (e : Name × Node) (a : ℕ) → IsOver (row_of rows 0) x e → e.1.last ≡ Some a → is_within least None x ≡ true → version_imaged (entry_at es a) x ≡ Deleted → IsGone es top least None at x
       says_gone x e a over is inside says =
           let leaf = leaf_within top least None at x root inside in
           leaf.gone (leaf_shows leaf.low leaf.high leaf.at x leaf.found leaf.within
-          (subst (λ (i : ℕ). version_in (entry_at es i) x ≡ Deleted) (sym (leaf_at leaf.low leaf.high leaf.at x e a leaf.found leaf.within over is)) says))
+          (subst (λ (i : ℕ). version_imaged (entry_at es i) x ≡ Deleted) (sym (leaf_at leaf.low leaf.high leaf.at x e a leaf.found leaf.within over is)) says))
 
 -- ---- all roots
 
@@ -431,7 +431,7 @@ module _ (es : Placed) (keeps : Bool) (most : ℕ) (home : ℕ → Home) (end : 
       (roots_read roots mid new b x put.2 all.1))
 
   roots_got : (roots : List Root) (old new : Loaded) (b : ℕ) (x : Name) → AreLoadedEach (IsRootLoaded es keeps most) roots old new → AllByRecursion (IsRootAt es home end) roots →
-      AnyOf (λ (r : Root). (b ≡ r.db) × IsRootGone r.image x) roots → has_slot (new.slots b x) ≡ true
+      AnyOf (λ (r : Root). (b ≡ r.db) × IsRootGone r.image x) roots → has_committed_slot (new.slots b x) ≡ true
   roots_got [] old new b x put all any = absurd any
   roots_got (r ∷ roots) old new b x put all (inr more) = roots_got roots put.0 new b x put.2 all.1 more
   roots_got (r ∷ roots) old new b x put all (inl gone) =
@@ -440,7 +440,7 @@ module _ (es : Placed) (keeps : Bool) (most : ℕ) (home : ℕ → Home) (end : 
       let levels : suc gone.1.0 ≡ suc put.1.0 = sym gone.1.1 ∙ put.1.1 in
       let here = subst (λ (i : ℕ). IsGone es i least None r.image x) (let e : gone.1.0 ≡ put.1.0 = omega (arith, levels) in e) gone.1.2 in
       slot_stays es (mid.slots b x) (new.slots b x) (AnyOf (λ (s : Root). (b ≡ s.db) × IsRootGone s.image x) roots) (roots_read roots mid new b x put.2 all.1)
-      (subst (λ (i : ℕ). has_slot (mid.slots i x) ≡ true) (sym gone.0) (below_got es keeps most r.db (at_home home r.db) entries put.1.0 least None r.image old mid x put.1.2 tree here))
+      (subst (λ (i : ℕ). has_committed_slot (mid.slots i x) ≡ true) (sym gone.0) (below_got es keeps most r.db (at_home home r.db) entries put.1.0 least None r.image old mid x put.1.2 tree here))
 
 -- of a database's roots one counts
 any_root : (Q : ℕ → Type 0) (b d at : ℕ) (roots : List Root) → RiseFrom b roots → root_of d roots ≡ Some at → AnyOf (λ (r : Root). (d ≡ r.db) × Q r.image) roots → Q at
@@ -480,7 +480,7 @@ module _ (es : Placed) (keeps : Bool) (most : ℕ) (home : ℕ → Home) (end : 
       (subst (λ (o : Option ReadSlot). IsReadAs es o (new.slots d x) (AnyOf (λ (r : Root). (d ≡ r.db) × IsRootGone es keeps most home end entries r.image x) roots)) (bare d x) (roots_read es keeps most home end entries roots old new d x put all))
 
   -- and where its record was deleted it has a slot
-  pub slot_got : (x : Name) → IsGone es top least None at x → has_slot (new.slots d x) ≡ true
+  pub slot_got : (x : Name) → IsGone es top least None at x → has_committed_slot (new.slots d x) ≡ true
   slot_got x gone =
       roots_got es keeps most home end entries roots old new d x put all
       (root_any (λ a. IsRootGone es keeps most home end entries a x) d at roots there (top, level, gone))
@@ -488,7 +488,7 @@ module _ (es : Placed) (keeps : Bool) (most : ℕ) (home : ℕ → Home) (end : 
 -- ---- cells
 
 -- a cell with a slot whose record is not there is that of a record that was deleted
-pub deleted_is : (o : Option Cell) → has_slot (option_map slot_read o) ≡ true → lsn_under o ≡ None → (held_under o).version ≡ Deleted
+pub deleted_is : (o : Option Cell) → has_committed_slot (option_map slot_read o) ≡ true → lsn_under o ≡ None → (held_under o).version ≡ Deleted
 deleted_is None some none = absurd (true≢false (sym some))
 deleted_is (Some cell) some none = by_version cell.version some none
   where

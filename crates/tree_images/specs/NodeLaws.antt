@@ -13,7 +13,7 @@ use Rattle.tree_nodes.specs.Nodes.{NodeRow, least, low_behind}
 use Rattle.tree_nodes.specs.Levels.{row_of, AreParts}
 use Rattle.log_trees.specs.Sound.{Home}
 use Rattle.db_tree.specs.declared.node_at.NodeAt.{NodeAt}
-use Rattle.db_tree.specs.Content.{Held, bin_image, in_image, kept_by}
+use Rattle.db_tree.specs.Content.{NameState, bin_image, in_image, kept_by}
 use Rattle.db_tree.specs.Images.{Placed}
 use Rattle.db_tree.specs.NodeImages.{IsNodeImage, number_of, finished}
 use Rattle.db_tree.specs.declared.node_image.NodeImage.{NodeImage}
@@ -112,7 +112,7 @@ pub record AreMarkedEarlier (old new : List NodeRow) : Type 0 where
 
 -- the tree is one of its log then
 abbrev pub EarlierMarksKeepTrees : Type 0
-EarlierMarksKeepTrees = (es : Placed) (base : ℕ) (newest : Name → ℕ) (old new : List NodeRow) (held : Name → Held) → AreMarkedEarlier old new → IsTreeOf es base newest old held → IsTreeOf es base newest new held
+EarlierMarksKeepTrees = (es : Placed) (base : ℕ) (newest : Name → ℕ) (old new : List NodeRow) (held : Name → NameState) → AreMarkedEarlier old new → IsTreeOf es base newest old held → IsTreeOf es base newest new held
 
 -- ---- a new tree
 

@@ -19,7 +19,7 @@ use Rattle.db_tree.specs.Loading.{loaded_in, slot_read}
 use Rattle.db_tree.specs.Stored.{stored_under}
 use Rattle.node_core.specs.declared.slot.Version.TheVariants.{Unset}
 use Rattle.db_tree.specs.Content.{kept_by}
-use Rattle.db_tree.specs.Images.{Placed, entry_at, version_in}
+use Rattle.db_tree.specs.Images.{Placed, entry_at, version_imaged}
 use Rattle.tree_images.specs.Sound.{IsNumber, IsSoundImage}
 use Rattle.tree_images.specs.Fits.{AreRecorded, FitsTree}
 use Rattle.tree_images.specs.Forest.{ForestFits}
@@ -57,7 +57,7 @@ abbrev pub ReadTreesFit : Type 0
 ReadTreesFit = (es : Placed) (base : ℕ) (newest : Name → ℕ) (home : ℕ → Home) (last d : ℕ) (rows : List NodeRow) (cells : List (Name × Cell)) → AreParts rows →
     ((level : ℕ) (low : Name) → suc level ≡ length rows → IsSome (value_at low (row_of rows level)) → low ≡ least) →
     ((level : ℕ) (low : Name) (n : Node) → value_at low (row_of rows level) ≡ Some n → IsAsRead es home last d rows level low n) →
-    IsRising cells → AreRecorded es d cells → AreAsRead es cells → ((x : Name) (e : Name × Node) (at : ℕ) → IsOver (row_of rows 0) x e → e.1.last ≡ Some at → version_in (entry_at es at) x ≡ (kept_by cells x).version) →
+    IsRising cells → AreRecorded es d cells → AreAsRead es cells → ((x : Name) (e : Name × Node) (at : ℕ) → IsOver (row_of rows 0) x e → e.1.last ≡ Some at → version_imaged (entry_at es at) x ≡ (kept_by cells x).version) →
     FitsTree es base newest home last d rows cells
 
 -- a node has no image, and waits to be logged: what it lacks is older than this life of the environment, which begins at `base`

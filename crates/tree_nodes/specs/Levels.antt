@@ -6,7 +6,7 @@ use Rattle.node_core.specs.declared.slot.Version.{Version}
 use Rattle.node_core.specs.declared.slot.Version.TheVariants.{There, Unset}
 use Rattle.node_core.specs.declared.slot.Slot.{Slot}
 use Rattle.tree_nodes.specs.declared.node.Node.{Node}
-use Rattle.tree_nodes.specs.Nodes.{NodeRow, least, IsOver, HasPut, HasTaken, marked, unmarked}
+use Rattle.tree_nodes.specs.Nodes.{NodeRow, least, IsOver, HasPut, HasTaken, marked, without_mark}
 
 -- a level; none above the top
 abbrev pub row_of : List NodeRow → ℕ → NodeRow
@@ -41,7 +41,7 @@ pub record HasMarkedAt (old new : List NodeRow) (level : ℕ) (x : Name) (from :
 pub record HasUnmarkedAt (old new : List NodeRow) (level : ℕ) (x : Name) : Type 0 where
   pub e : Name × Node
   pub over : IsOver (row_of old level) x e
-  pub put : HasPutAt old new level e.0 (unmarked e.1)
+  pub put : HasPutAt old new level e.0 (without_mark e.1)
 
 -- the levels with a root put above the top
 pub record HasRaised (old new : List NodeRow) (root : Node) : Type 0 where

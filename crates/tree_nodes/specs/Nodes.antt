@@ -21,8 +21,8 @@ abbrev pub marked : ℕ → Node → Node
 marked from node = record node { from = Some (earlier node.from from) }
 
 -- a node without a mark: its last image lacks nothing of what it has
-abbrev pub unmarked : Node → Node
-unmarked node = record node { from = None }
+abbrev pub without_mark : Node → Node
+without_mark node = record node { from = None }
 
 -- a node whose image was logged at an LSN
 abbrev pub logged : ℕ → Node → Node
@@ -83,7 +83,7 @@ pub record HasMarked (old new : NodeRow) (x : Name) (from : ℕ) : Type 0 where
 pub record HasUnmarked (old new : NodeRow) (x : Name) : Type 0 where
   pub e : Name × Node
   pub over : IsOver old x e
-  pub put : HasPut old new e.0 (unmarked e.1)
+  pub put : HasPut old new e.0 (without_mark e.1)
 
 -- one level is the other without the node of a low
 abbrev pub HasTaken : NodeRow → NodeRow → Name → Type 0

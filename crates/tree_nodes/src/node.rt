@@ -1,6 +1,6 @@
 // A node of a tree.
 ghost use Rattle.std.specs.Prelude.{◌≡◌};
-ghost use Rattle.tree_nodes.specs.Nodes.{earlier, is_dirty, is_due, logged, marked, noted_as, unmarked};
+ghost use Rattle.tree_nodes.specs.Nodes.{earlier, is_dirty, is_due, logged, marked, noted_as, without_mark};
 
 use je_lsn::Lsn;
 
@@ -66,7 +66,7 @@ impl Node {
 
     /// The node, where its last image lacks nothing of what it has.
     pub fn unmarked(&self) -> Node
-        ensures { result ≡ unmarked self.now }
+        ensures { result ≡ without_mark self.now }
     {
         Node {
             number: self.number,

@@ -2,7 +2,7 @@ use Rattle.std.proofs.Common.{◌∙◌, refl, sym}
 use Rattle.std.proofs.lemmas.Bool.{true≢false}
 use Rattle.je_order.specs.declared.name.Name.{Name}
 use Rattle.tree_nodes.specs.declared.node.Node.{Node}
-use Rattle.tree_nodes.specs.Nodes.{unmarked}
+use Rattle.tree_nodes.specs.Nodes.{without_mark}
 use Rattle.tree_nodes.specs.Levels.{row_of}
 use Rattle.db_tree.proofs.DirtyLaws.{imaged_last, settled_tree, unlike_away, unmarked_at}
 use Rattle.db_tree.proofs.NodeSteps.{nodes_put}
@@ -33,13 +33,13 @@ returns-clause-settled c =
 pub returns-clause-waits : goal.returns-clause-waits
 returns-clause-waits c =
     let e : Name × Node = (c.over.result.0.now, c.over.result.1.now) in
-    put_alike c.args.self.now.levels c.unmark.new.self 0 e.0 e.1 (unmarked e.1) c.height-height.ensures.parts c.unmark.ensures.parts c.over.ensures.over.there
+    put_alike c.args.self.now.levels c.unmark.new.self 0 e.0 e.1 (without_mark e.1) c.height-height.ensures.parts c.unmark.ensures.parts c.over.ensures.over.there
     (unmarked_at c.args.self.now.levels c.unmark.new.self c.args.name.now e c.unmark.ensures.unmarked c.over.ensures.over) refl
 
 pub returns-clause-nodes : goal.returns-clause-nodes
 returns-clause-nodes c =
     let e : Name × Node = (c.over.result.0.now, c.over.result.1.now) in
-    nodes_put c.args.self.now.levels c.unmark.new.self 0 e.0 e.1 (unmarked e.1) c.height-height.ensures.parts c.unmark.ensures.parts c.over.ensures.over.there
+    nodes_put c.args.self.now.levels c.unmark.new.self 0 e.0 e.1 (without_mark e.1) c.height-height.ensures.parts c.unmark.ensures.parts c.over.ensures.over.there
     (unmarked_at c.args.self.now.levels c.unmark.new.self c.args.name.now e c.unmark.ensures.unmarked c.over.ensures.over) (record { number = refl; last = refl; forced = refl })
 
 pub returns-clause-tree : goal.returns-clause-tree

@@ -1,7 +1,7 @@
 use Rattle.std.proofs.Common.{◌≡◌, ◌∙◌, IsSome, ap, subst, sym, set}
 use Rattle.record_map.specs.Cells.{value_at}
 use Rattle.tree_nodes.specs.declared.node.Node.{Node}
-use Rattle.tree_nodes.specs.Nodes.{NodeRow, least, HasUnmarked, HasPut, placed, node_at, unmarked}
+use Rattle.tree_nodes.specs.Nodes.{NodeRow, least, HasUnmarked, HasPut, placed, node_at, without_mark}
 use Rattle.tree_nodes.proofs.Places.{is_low, sets, over_placed, rising_placed, read_at}
 use Rattle.tree_nodes.proofs.level.Level.unmark.Goals as goal
 
@@ -14,8 +14,8 @@ returns-clause-unmarked c =
     let nodes = c.self.inside.nodes.items in
     let found = c.low_over-place.result in
     let same : c.index.result.now ≡ node_at nodes found.1 = read_at nodes found.1 c.index.result.now (c.self.invariant.within found.0.now found.1 c.low_over-place.ensures.over.there) c.index.ensures in
-    let put : HasPut (placed lows nodes) (placed lows (set nodes found.1 c.unmarked.result)) found.0.now (unmarked (node_at nodes found.1)) =
-    subst (λ (n : Node). HasPut (placed lows nodes) (placed lows (set nodes found.1 c.unmarked.result)) found.0.now n) (c.unmarked.ensures ∙ ap unmarked same)
+    let put : HasPut (placed lows nodes) (placed lows (set nodes found.1 c.unmarked.result)) found.0.now (without_mark (node_at nodes found.1)) =
+    subst (λ (n : Node). HasPut (placed lows nodes) (placed lows (set nodes found.1 c.unmarked.result)) found.0.now n) (c.unmarked.ensures ∙ ap without_mark same)
     (sets lows nodes found.0.now found.1 c.unmarked.result c.self.invariant c.low_over-place.ensures.over.there) in
     subst (λ (row : NodeRow). HasUnmarked row (placed lows (set nodes found.1 c.unmarked.result)) c.args.name.now) c.self.view_is
     (record { e = (found.0.now, node_at nodes found.1); over = over_placed lows nodes c.args.name.now (found.0.now, found.1) c.low_over-place.ensures.over; put = put })
