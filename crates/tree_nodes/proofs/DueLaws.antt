@@ -1,21 +1,14 @@
 -- Nodes that are noted and dirty.
-use Rattle.std.proofs.Common.{Bor, ◌≡◌, ◌≤◌, ◌<◌, ◌+◌, ◌⊎◌, inl, inr, ⊎_elim, ℕ, List, [], ◌∷◌, ◌++◌, ◌&&◌, Bool, true, false, cond, Option, None, Some, IfSome, option_map, length, nat_lt, refl, ap, sym, subst, ◌∙◌, arith, is_eq}
-use Rattle.std.proofs.lemmas.Bool.{true≢false, cases_lt}
-use Rattle.std.proofs.lemmas.Bool.Decides.{nat_tests}
+use Rattle.std.proofs.Common.{◌≡◌, ◌≤◌, ◌<◌, ◌+◌, ◌⊎◌, inl, inr, ℕ, List, [], ◌∷◌, Bool, true, false, cond, length, ap, sym, subst, ◌∙◌, arith}
+use Rattle.std.proofs.lemmas.Bool.{cases_lt}
 use Rattle.std.proofs.lemmas.List.{get_or_past}
 use Rattle.std.proofs.lemmas.List.Sums.{sum_by-cons}
-use Rattle.std.proofs.lemmas.Option.{none-some, same_Some}
-use Rattle.je_order.specs.Order.{name_cmp}
+use Rattle.std.proofs.lemmas.Option.{none-some}
 use Rattle.je_order.specs.declared.name.Name.{Name}
-use Rattle.record_map.specs.Cells.{value_at, IsRising}
-use Rattle.record_map.specs.declared.sort_key.SortKey.{SortKey}
 use Rattle.tree_nodes.specs.declared.node.Node.{Node}
 use Rattle.tree_nodes.specs.Nodes.{NodeRow, is_due, node_at, placed}
 use Rattle.tree_nodes.specs.Levels.{row_of}
 use Rattle.tree_nodes.specs.Noted.{NoneDue, count_due}
-use Rattle.tree_nodes.proofs.NoteLaws.{step_front}
-use Rattle.tree_nodes.proofs.Places.{value_placed}
-use Rattle.tree_nodes.proofs.RisingLists.{found_between}
 
 -- ---- how many
 

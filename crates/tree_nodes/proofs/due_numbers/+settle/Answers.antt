@@ -1,4 +1,4 @@
-use Rattle.std.proofs.Common.{◌≡◌, ◌<◌, ◌-◌, ◌/◌, arith, length}
+use Rattle.std.proofs.Common.{◌<◌, arith}
 use Rattle.std.proofs.lemmas.List.{length-set}
 use Rattle.tree_nodes.proofs.LeastNumbers.{settled_on, settled_top}
 use Rattle.tree_nodes.proofs.due_numbers.+settle.Goals as goal

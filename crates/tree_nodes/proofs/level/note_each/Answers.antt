@@ -1,4 +1,4 @@
-use Rattle.std.proofs.Common.{◌≡◌, ◌<◌, ◌∙◌, get_or, length, set, ap, refl, sym, arith}
+use Rattle.std.proofs.Common.{◌≡◌, ◌<◌, ◌∙◌, get_or, length, ap, refl, sym, arith}
 use Rattle.std.proofs.lemmas.List.{length-set}
 use Rattle.tree_nodes.proofs.DuePlaces.{note_next, noted_is}
 use Rattle.tree_nodes.proofs.NoteLaws.{all_noted_within, noted_next}

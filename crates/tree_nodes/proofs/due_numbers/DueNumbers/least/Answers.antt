@@ -1,4 +1,4 @@
-use Rattle.std.proofs.Common.{◌≡◌, ◌∙◌, ℕ, List, None, Option, Some, ap, subst, sym}
+use Rattle.std.proofs.Common.{◌≡◌, ◌∙◌, ℕ, List, None, Option, ap, subst, sym}
 use Rattle.tree_nodes.specs.Due.{IsLeastNumber, found_in, number_in}
 use Rattle.tree_nodes.proofs.LeastNumbers.{least_none, least_there}
 use Rattle.tree_nodes.proofs.due_numbers.DueNumbers.least.Goals as goal
