@@ -10,3 +10,7 @@ pub mod RisingLists
 pub mod NoteLaws
 -- Nodes that are noted and dirty.
 pub mod DueLaws
+-- The least of numbers by their places.
+pub mod LeastNumbers
+-- The places of due nodes.
+pub mod DuePlaces

@@ -2,3 +2,4 @@ pub mod Nodes
 pub mod Levels
 pub mod Lows
 pub mod Noted
+pub mod Due

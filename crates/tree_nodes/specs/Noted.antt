@@ -1,5 +1,5 @@
 -- The nodes that a checkpoint notes, and those that it logs.
-use Rattle.std.specs.Prelude.{◌≡◌, ◌≤◌, ◌+◌, ◌&&◌, ◌||◌, ℕ, zero, suc, Bool, true, false, nat_lt, List, Option, None, Some, length, map}
+use Rattle.std.specs.Prelude.{◌≡◌, ◌≤◌, ◌+◌, ◌&&◌, ◌||◌, ℕ, zero, suc, Bool, true, false, List, Option, None, Some, length, map}
 use Rattle.std.specs.List.{list_any, count_by, sum_by}
 use Rattle.std.specs.Map.{keys_of}
 use Rattle.std.specs.Ordering.{is_eq}
@@ -56,11 +56,6 @@ pub record IsNextDue (row : NodeRow) (e : Name × Node) : Type 0 where
   pub there : value_at e.0 row ≡ Some e.1
   pub due : is_due e.1 ≡ true
   pub least : (x : Name) (n : Node) → value_at x row ≡ Some n → is_due n ≡ true → e.1.number ≤ n.number
-
--- a node is due, and no other one that has a number up to its own was found
-abbrev pub is_first_due : Node → Option Node → Bool
-is_first_due n None = is_due n
-is_first_due n (Some m) = is_due n && nat_lt n.number m.number
 
 -- the next one of a level, if there is one
 abbrev pub NextDue : NodeRow → Option (Name × Node) → Type 0

@@ -1,5 +1,5 @@
 // One level of a tree.
-ghost use Rattle.std.specs.Prelude.{◌≡◌, ◌<◌, ◌≤◌, ◌||◌, ℕ, ◌++◌, ◌∷◌, [], length, vec_len, vec_capacity, Option, None, Some, IsSome, IfSome, IfOk, OnOk, OnErr, option_copied, option_map, map, if◌then◌else◌};
+ghost use Rattle.std.specs.Prelude.{◌≡◌, ◌<◌, ◌≤◌, ◌||◌, ℕ, ◌++◌, ◌∷◌, [], length, set, vec_len, vec_capacity, List as Items, Option, None, Some, IsSome, IfSome, IfOk, OnOk, OnErr, option_copied, option_map, map, if◌then◌else◌};
 ghost use Rattle.std.specs.List.{AllByRecursion, slice_get};
 ghost use Rattle.std.specs.Prelude.{filter};
 ghost use Rattle.std.specs.Map.{keys_of, lookup};
@@ -13,10 +13,12 @@ ghost use Rattle.je_order.specs.declared.name.Name.{Name};
 ghost use Rattle.record_map.specs.Cells.{value_at, IsRising, first_of, last_of, from_edge, below_edge, between_edges, upper_edge};
 ghost use Rattle.je_order.specs.Edges.{is_between};
 ghost use Rattle.tree_nodes.specs.Lows.{low_up_to};
-ghost use Rattle.tree_nodes.specs.Noted.{NextDue, count_due, has_noted_child, is_first_due, is_low_over, noted_row};
+ghost use Rattle.tree_nodes.specs.Noted.{NextDue, count_due, has_noted_child, is_low_over, noted_row};
+ghost use Rattle.tree_nodes.specs.Due.{AreDue, due_number, name_in, number_in, without};
 ghost use Rattle.tree_nodes.specs.Nodes.{least, IsUpTo, IsOver, IsLowOver, HasMarked, HasUnmarked, low_behind, HasPut, HasTaken, is_dirty, marked, node_at, placed, ArePlaces};
 
 use crate::Node;
+use crate::due_numbers::DueNumbers;
 use je_lsn::Lsn;
 use je_order::List;
 use node_core::{Slot, Version};
@@ -33,16 +35,21 @@ use std::ops::Bound;
 pub struct Level {
     lows: BTreeMap<SortKey, usize>,
     nodes: Vec<Node>,
+    /// The low of the node at each place; None where the node was taken out.
+    names: Vec<Option<SortKey>>,
+    /// The number of the node at each place that is noted and dirty, and has a low.
+    due: DueNumbers,
 }
 
 impl Model for Level {
-    ghost use Rattle.tree_nodes.specs.Nodes.{NodeRow, placed, ArePlaces};
+    ghost use Rattle.tree_nodes.specs.Nodes.{NodeRow, placed};
+    ghost use Rattle.tree_nodes.specs.Due.{AreDue};
 
     ghost Value = { NodeRow };
 
     ghost view = { λ a. placed a.lows.entries a.nodes.items };
 
-    ghost invariant = { λ a. ArePlaces a.lows.entries a.nodes.items };
+    ghost invariant = { λ a. AreDue a.lows.entries a.nodes.items a.names.items a.due };
 }
 
 #[tactic(auto, using(record_map::proofs::EdgeLaws::last_is))]
@@ -156,6 +163,16 @@ fn place_of(lows: &BTreeMap<SortKey, usize>, low: &SortKey) -> usize
     }
 }
 
+// The place of a low's node, if it has one.
+fn place_at(lows: &BTreeMap<SortKey, usize>, low: &SortKey) -> Option<usize>
+    ensures { result ≡ value_at low.now lows.now.entries }
+{
+    match lows.get(low) {
+        Some(place) => Some(*place),
+        None => None,
+    }
+}
+
 // Puts a copy of the node behind the others, for which there is room.
 fn push_node(nodes: &mut Vec<Node>, node: &Node)
     requires { vec_len nodes.old < vec_capacity nodes.old }
@@ -183,36 +200,106 @@ fn push_node(nodes: &mut Vec<Node>, node: &Node)
     }
 }
 
-// Whether a node is due, and has a lower number than another one that is, if there is one.
-fn is_first_due(node: &Node, found: &Option<(&SortKey, &Node)>) -> bool
-    ensures { result ≡ is_first_due node.now (option_map (λ p. p.1.now) found.now) }
+// The number of the node at a place, if some low has the place and the node is due.
+fn due_number(nodes: &[Node], names: &[Option<SortKey>], place: usize) -> Option<u64>
+    requires within { place < length nodes.now }
+    requires same { length names.now ≡ length nodes.now }
+    ensures { result ≡ due_number (name_in names.now place) (node_at nodes.now place) }
 {
-    if !node.is_due() {
-        return false;
-    }
-    match found {
-        Some((_, other)) => node.number < other.number,
-        None => true,
+    let node = &nodes[place];
+    match &names[place] {
+        Some(_) if node.is_due() => Some(node.number),
+        _ => None,
     }
 }
 
-// The due node with the least number, of those at the places of some lows.
-fn next_due<'a>(
-    lows: &'a BTreeMap<SortKey, usize>,
-    nodes: &'a [Node],
-) -> Option<(&'a SortKey, &'a Node)>
-    requires places { AllByRecursion (λ e. e.1 < length nodes.now) lows.now.entries }
-    requires rising { IsRising lows.now.entries }
-    ensures { NextDue (placed lows.entry.now.entries nodes.entry.now) (option_map (λ p. (p.0.now, p.1.now)) result) }
+// Sets the number at a place to that of its node, if it is due.
+fn note_due(nodes: &[Node], names: &[Option<SortKey>], due: &mut DueNumbers, place: usize)
+    requires within { place < length nodes.now }
+    requires same { length names.now ≡ length nodes.now }
+    requires covers { length nodes.now ≤ length due.old }
+    ensures { due.new ≡ set due.old place (due_number (name_in names.now place) (node_at nodes.now place)) }
 {
-    let mut found: Option<(&SortKey, &Node)> = None;
-    for (low, place) in lows {
-        let node = &nodes[*place];
-        if is_first_due(node, &found) {
-            found = Some((low, node));
-        }
+    due.set(place, due_number(nodes, names, place));
+}
+
+// Notes the nodes that are dirty, and no others.
+fn note_each(nodes: &mut [Node], names: &[Option<SortKey>], due: &mut DueNumbers)
+    requires same { length names.now ≡ length nodes.old }
+    requires covers { length nodes.old ≤ length due.old }
+    ensures size { length nodes.new ≡ length nodes.old }
+    ensures due { (lows : Items (Name × ℕ)) → AreDue lows nodes.old names.now due.old → AreDue lows nodes.new names.now due.new }
+    ensures noted { (lows : Items (Name × ℕ)) → AllByRecursion (λ e. e.1 < length nodes.old) lows → placed lows nodes.new ≡ noted_row (λ e. is_dirty e.1) (placed lows nodes.old) }
+{
+    for place in 0..nodes.len() {
+        let noted = nodes[place].is_dirty();
+        nodes[place] = nodes[place].noted(noted);
+        note_due(nodes, names, due, place);
     }
-    found
+}
+
+// No node stands at the place from now on, if there is one.
+fn forget(names: &mut Vec<Option<SortKey>>, due: &mut DueNumbers, place: Option<usize>)
+    requires within { IfSome place (λ p. p < length names.old.items) }
+    requires covers { IfSome place (λ p. p < length due.old) }
+    ensures names { names.new.items ≡ without place names.old.items }
+    ensures due { due.new ≡ without place due.old }
+{
+    match place {
+        Some(place) => {
+            names[place] = None;
+            due.set(place, None);
+        }
+        None => {}
+    }
+}
+
+// Takes room for one node more, and gives a copy of its low.
+fn room_for(
+    nodes: &mut Vec<Node>,
+    names: &mut Vec<Option<SortKey>>,
+    due: &mut DueNumbers,
+    low: &SortKey,
+) -> Result<SortKey, AllocError>
+    requires covers { length nodes.old.items ≤ length due.old }
+    ensures nodes { nodes.new.items ≡ nodes.old.items }
+    ensures names { names.new.items ≡ names.old.items }
+    ensures due { (i : ℕ) → number_in due.new i ≡ number_in due.old i }
+    ensures longer { length due.old ≤ length due.new }
+    ensures copy { IfOk result (λ copy. copy ≡ low.now) }
+    ensures room { OnOk result (vec_len nodes.new < vec_capacity nodes.new) }
+    ensures room_of_names { OnOk result (vec_len names.new < vec_capacity names.new) }
+    ensures covers { OnOk result (length nodes.new.items < length due.new) }
+{
+    due.cover(nodes.as_slice().len())?;
+    nodes.reserve(1)?;
+    names.reserve(1)?;
+    low.copy(*names.allocator())
+}
+
+// Puts a copy of the node behind the others, and its low, for which there is room.
+fn push_placed(
+    nodes: &mut Vec<Node>,
+    names: &mut Vec<Option<SortKey>>,
+    due: &mut DueNumbers,
+    node: &Node,
+    low: SortKey,
+)
+    requires room { vec_len nodes.old < vec_capacity nodes.old }
+    requires room_of_names { vec_len names.old < vec_capacity names.old }
+    requires same { length names.old.items ≡ length nodes.old.items }
+    requires covers { length nodes.old.items < length due.old }
+    ensures nodes { nodes.new.items ≡ nodes.old.items ++ node.now ∷ [] }
+    ensures names { names.new.items ≡ names.old.items ++ Some low ∷ [] }
+    ensures due { due.new ≡ set due.old (length nodes.old.items) (due_number (Some low) node.now) }
+{
+    let place = nodes.as_slice().len();
+    push_node(nodes, node);
+    match names.push(Some(low)) {
+        Ok(()) => {}
+        Err(failed) => drop(failed),
+    }
+    note_due(nodes.as_slice(), names.as_slice(), due, place);
 }
 
 // How many of the nodes at the places of some lows are due.
@@ -253,6 +340,8 @@ impl Level {
         Level {
             lows: BTreeMap::new(alloc),
             nodes: Vec::new(alloc),
+            names: Vec::new(alloc),
+            due: DueNumbers::new(alloc),
         }
     }
 
@@ -271,7 +360,12 @@ impl Level {
     pub fn at(&self, low: &SortKey) -> Option<&Node>
         ensures { option_copied result ≡ value_at low.now self.now }
     {
-        let Level { lows, nodes } = self;
+        let Level {
+            lows,
+            nodes,
+            names: _,
+            due: _,
+        } = self;
         match lows.get(low) {
             Some(place) => Some(&nodes[*place]),
             None => None,
@@ -284,7 +378,12 @@ impl Level {
         ensures over { IsOver self.now name.now (result.0.now, result.1.now) }
         ensures low { result.0.now ≡ low_up_to name.now (keys_of self.now) }
     {
-        let Level { lows, nodes } = self;
+        let Level {
+            lows,
+            nodes,
+            names: _,
+            due: _,
+        } = self;
         let (low, place) = low_over(lows, name);
         (low, &nodes[place])
     }
@@ -293,7 +392,12 @@ impl Level {
     pub fn upper_bound(&self, low: &SortKey) -> Option<&SortKey>
         ensures { option_copied result ≡ low_behind low.now self.now }
     {
-        let Level { lows, nodes: _ } = self;
+        let Level {
+            lows,
+            nodes: _,
+            names: _,
+            due: _,
+        } = self;
         match first_behind(lows, low) {
             Some((high, _place)) => Some(high),
             None => None,
@@ -305,7 +409,12 @@ impl Level {
         requires { IfSome high (λ h. name_cmp low.now h.now ≡ Less) }
         ensures { result ≡ length (filter (is_between (At low.now) (upper_edge (option_copied high.entry))) (keys_of self.now)) }
     {
-        let Level { lows, nodes: _ } = self;
+        let Level {
+            lows,
+            nodes: _,
+            names: _,
+            due: _,
+        } = self;
         count_lows(lows, low, high)
     }
 
@@ -320,7 +429,12 @@ impl Level {
         requires { IfSome high (λ h. name_cmp low.now h.now ≡ Less) }
         ensures { IfOk result (λ found. found ≡ slice_get (filter (is_between (At low.now) (upper_edge (option_copied high.entry))) (keys_of self.now)) n) }
     {
-        let Level { lows, nodes: _ } = self;
+        let Level {
+            lows,
+            nodes: _,
+            names: _,
+            due: _,
+        } = self;
         nth_name(alloc, lows_between(lows, low, high), n)
     }
 
@@ -334,7 +448,12 @@ impl Level {
         requires { IfSome high (λ h. name_cmp low.now h.now ≡ Less) }
         ensures { IfOk result (λ slots. slots ≡ map slot_of (between_edges (At low.now) (upper_edge (option_copied high.entry)) self.now)) }
     {
-        let Level { lows, nodes } = self;
+        let Level {
+            lows,
+            nodes,
+            names: _,
+            due: _,
+        } = self;
         slots_of(alloc, lows_between(lows, low, high), nodes.as_slice())
     }
 
@@ -344,9 +463,15 @@ impl Level {
         ensures put { HasPut self.old self.new low.now node }
         ensures rising { IsRising self.new }
     {
-        let Level { lows, nodes } = self;
+        let Level {
+            lows,
+            nodes,
+            names,
+            due,
+        } = self;
         let place = place_of(lows, low);
         nodes[place] = node;
+        note_due(nodes.as_slice(), names.as_slice(), due, place);
     }
 
     /// Marks the node over the name: the log has a committed change at `from` that its last image lacks. It
@@ -356,9 +481,15 @@ impl Level {
         ensures marked { HasMarked self.old self.new name.now from }
         ensures rising { IsRising self.new }
     {
-        let Level { lows, nodes } = self;
+        let Level {
+            lows,
+            nodes,
+            names,
+            due,
+        } = self;
         let (_low, place) = low_over(lows, name);
         nodes[place] = nodes[place].marked(from);
+        note_due(nodes.as_slice(), names.as_slice(), due, place);
     }
 
     /// Takes the mark of the node over the name: its last image lacks nothing of what it has. It takes no memory.
@@ -367,9 +498,15 @@ impl Level {
         ensures unmarked { HasUnmarked self.old self.new name.now }
         ensures rising { IsRising self.new }
     {
-        let Level { lows, nodes } = self;
+        let Level {
+            lows,
+            nodes,
+            names,
+            due,
+        } = self;
         let (_low, place) = low_over(lows, name);
         nodes[place] = nodes[place].unmarked();
+        note_due(nodes.as_slice(), names.as_slice(), due, place);
     }
 
     /// Puts the node under a low that no node has. Running out of memory changes nothing.
@@ -380,10 +517,15 @@ impl Level {
         ensures err { OnErr result (self.new ≡ self.old) }
         ensures rising { IsRising self.new }
     {
-        let Level { lows, nodes } = self;
-        nodes.reserve(1)?;
+        let Level {
+            lows,
+            nodes,
+            names,
+            due,
+        } = self;
+        let copy = room_for(nodes, names, due, &low)?;
         drop(lows.insert(low, nodes.as_slice().len())?);
-        push_node(nodes, &node);
+        push_placed(nodes, names, due, &node, copy);
         Ok(())
     }
 
@@ -392,8 +534,15 @@ impl Level {
         ensures taken { HasTaken self.old self.new low.now }
         ensures rising { IsRising self.new }
     {
-        let Level { lows, nodes: _ } = self;
+        let Level {
+            lows,
+            nodes: _,
+            names,
+            due,
+        } = self;
+        let place = place_at(lows, low);
         drop(lows.remove(low));
+        forget(names, due, place);
     }
 
     /// Notes the nodes that are dirty, and no others. It takes no memory, and goes over all nodes.
@@ -401,11 +550,13 @@ impl Level {
         ensures noted { self.new ≡ noted_row (λ e. is_dirty e.1) self.old }
         ensures rising { IsRising self.new }
     {
-        let Level { lows: _, nodes } = self;
-        for place in 0..nodes.len() {
-            let noted = nodes[place].is_dirty();
-            nodes[place] = nodes[place].noted(noted);
-        }
+        let Level {
+            lows: _,
+            nodes,
+            names,
+            due,
+        } = self;
+        note_each(nodes.as_mut_slice(), names.as_slice(), due);
     }
 
     // Notes the node over the name.
@@ -414,9 +565,15 @@ impl Level {
         ensures noted { self.new ≡ noted_row (λ e. e.1.noted || is_low_over self.old name.now e.0) self.old }
         ensures rising { IsRising self.new }
     {
-        let Level { lows, nodes } = self;
+        let Level {
+            lows,
+            nodes,
+            names,
+            due,
+        } = self;
         let (_low, place) = low_over(lows, name);
         nodes[place] = nodes[place].noted(true);
+        note_due(nodes.as_slice(), names.as_slice(), due, place);
     }
 
     /// Notes the nodes of which a child is noted, which is a node of the level below. It takes no memory, and goes over that level.
@@ -426,23 +583,44 @@ impl Level {
         ensures noted { self.new ≡ noted_row (λ e. e.1.noted || has_noted_child below.now self.old e.0) self.old }
         ensures rising { IsRising self.new }
     {
-        let Level { lows, nodes } = below;
+        let Level {
+            lows,
+            nodes,
+            names: _,
+            due: _,
+        } = below;
         note_parents(self, lows, nodes.as_slice());
     }
 
-    /// The node with the least number of those that are noted and dirty, with its low. It goes over the level.
+    /// The node with the least number of those that are noted and dirty, with its low.
     pub fn next_due(&self) -> Option<(&SortKey, &Node)>
         ensures { NextDue self.now (option_map (λ p. (p.0.now, p.1.now)) result) }
     {
-        let Level { lows, nodes } = self;
-        next_due(lows, nodes.as_slice())
+        let Level {
+            lows: _,
+            nodes,
+            names,
+            due,
+        } = self;
+        match due.least() {
+            Some(place) => match &names[place] {
+                Some(low) => Some((low, &nodes[place])),
+                None => unreachable!(),
+            },
+            None => None,
+        }
     }
 
     /// How many nodes are noted and dirty. It goes over the level.
     pub fn count_due(&self) -> u64
         ensures { result ≡ count_due self.now }
     {
-        let Level { lows, nodes } = self;
+        let Level {
+            lows,
+            nodes,
+            names: _,
+            due: _,
+        } = self;
         count_due(lows, nodes.as_slice())
     }
 }

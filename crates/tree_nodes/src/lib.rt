@@ -6,6 +6,7 @@
 //! stay among those of the level below it. A mark, and a node that takes another one's place, take no memory.
 #![tactic(auto)]
 
+mod due_numbers;
 pub mod level;
 pub mod levels;
 pub mod node;

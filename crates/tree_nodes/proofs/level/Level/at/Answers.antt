@@ -6,7 +6,7 @@ use Rattle.tree_nodes.proofs.level.Level.at.Goals as goal
 
 pub returns-in-Some : goal.returns-in-Some
 returns-in-Some c =
-    ap Some (read_at c.self.inside.nodes.items c.in-Some.place.now c.index.result.now (c.self.invariant.within c.args.low.now c.in-Some.place.now (sym c.in-Some.ensures.value)) c.index.ensures)
+    ap Some (read_at c.self.inside.nodes.items c.in-Some.place.now c.index.result.now (c.self.invariant.places.within c.args.low.now c.in-Some.place.now (sym c.in-Some.ensures.value)) c.index.ensures)
     ∙ ap (option_map (node_at c.self.inside.nodes.items)) c.in-Some.ensures.value
     ∙ sym (value_placed c.args.low.now c.self.inside.lows.entries c.self.inside.nodes.items)
     ∙ ap (value_at c.args.low.now) c.self.view_is

@@ -3,6 +3,7 @@ use Rattle.record_map.specs.Cells.{value_at}
 use Rattle.tree_nodes.specs.declared.node.Node.{Node}
 use Rattle.tree_nodes.specs.Nodes.{NodeRow, least, HasMarked, HasPut, placed, node_at, marked}
 use Rattle.tree_nodes.proofs.Places.{is_low, sets, over_placed, rising_placed, read_at}
+use Rattle.tree_nodes.proofs.DuePlaces.{due_set}
 use Rattle.tree_nodes.proofs.level.Level.mark.Goals as goal
 
 pub low_over-place-requires : goal.low_over-place-requires
@@ -13,12 +14,18 @@ returns-clause-marked c =
     let lows = c.self.inside.lows.entries in
     let nodes = c.self.inside.nodes.items in
     let found = c.low_over-place.result in
-    let same : c.index.result.now ≡ node_at nodes found.1 = read_at nodes found.1 c.index.result.now (c.self.invariant.within found.0.now found.1 c.low_over-place.ensures.over.there) c.index.ensures in
+    let same : c.index.result.now ≡ node_at nodes found.1 = read_at nodes found.1 c.index.result.now (c.self.invariant.places.within found.0.now found.1 c.low_over-place.ensures.over.there) c.index.ensures in
     let put : HasPut (placed lows nodes) (placed lows (set nodes found.1 c.marked.result)) found.0.now (marked c.args.from (node_at nodes found.1)) =
     subst (λ (n : Node). HasPut (placed lows nodes) (placed lows (set nodes found.1 c.marked.result)) found.0.now n) (c.marked.ensures ∙ ap (marked c.args.from) same)
-    (sets lows nodes found.0.now found.1 c.marked.result c.self.invariant c.low_over-place.ensures.over.there) in
+    (sets lows nodes found.0.now found.1 c.marked.result c.self.invariant.places c.low_over-place.ensures.over.there) in
     subst (λ (row : NodeRow). HasMarked row (placed lows (set nodes found.1 c.marked.result)) c.args.name.now c.args.from) c.self.view_is
     (record { e = (found.0.now, node_at nodes found.1); over = over_placed lows nodes c.args.name.now (found.0.now, found.1) c.low_over-place.ensures.over; put = put })
 
 pub returns-clause-rising : goal.returns-clause-rising
-returns-clause-rising c = rising_placed c.self.inside.lows.entries (set c.self.inside.nodes.items c.low_over-place.result.1 c.marked.result) c.self.invariant.rising
+returns-clause-rising c = rising_placed c.self.inside.lows.entries (set c.self.inside.nodes.items c.low_over-place.result.1 c.marked.result) c.self.invariant.places.rising
+
+pub invariant_of-self : goal.invariant_of-self
+invariant_of-self c =
+    let found = c.low_over-place.result in
+    due_set c.self.inside.lows.entries c.self.inside.nodes.items c.self.inside.names.items c.self.inside.due found.1 c.marked.result c.as_slice.result.now c.as_slice-2.result.now c.note_due.new.due c.self.invariant
+    (c.self.invariant.places.within found.0.now found.1 c.low_over-place.ensures.over.there) c.as_slice.ensures.value c.as_slice-2.ensures.value c.note_due.ensures

@@ -16,7 +16,7 @@ pub returns-clause-over : goal.returns-clause-over
 returns-clause-over c =
     let found = c.low_over-place.result in
     let same : c.index.result.now ≡ node_at c.self.inside.nodes.items found.1 =
-    read_at c.self.inside.nodes.items found.1 c.index.result.now (c.self.invariant.within found.0.now found.1 c.low_over-place.ensures.over.there) c.index.ensures in
+    read_at c.self.inside.nodes.items found.1 c.index.result.now (c.self.invariant.places.within found.0.now found.1 c.low_over-place.ensures.over.there) c.index.ensures in
     subst (λ (row : NodeRow). IsOver row c.args.name.now (found.0.now, c.index.result.now)) c.self.view_is
     (subst (λ (n : Node). IsOver (placed c.self.inside.lows.entries c.self.inside.nodes.items) c.args.name.now (found.0.now, n)) (sym same)
     (over_placed c.self.inside.lows.entries c.self.inside.nodes.items c.args.name.now (found.0.now, found.1) c.low_over-place.ensures.over))

@@ -15,7 +15,7 @@ slots_of-requires c =
     let upto = upper_edge (option_copied c.args.high) in
     subst (AllByRecursion (λ (e : Name × ℕ). e.1 < length c.as_slice.result.now)) (sym c.lows_between.ensures)
     (all_passed (is_between (At c.args.low.now) upto) (length c.as_slice.result.now) c.self.inside.lows.entries
-    (subst (λ (nodes : List Node). AllByRecursion (λ (e : Name × ℕ). e.1 < length nodes) c.self.inside.lows.entries) (sym c.as_slice.ensures.value) c.self.invariant.each))
+    (subst (λ (nodes : List Node). AllByRecursion (λ (e : Name × ℕ). e.1 < length nodes) c.self.inside.lows.entries) (sym c.as_slice.ensures.value) c.self.invariant.places.each))
 
 pub returns : goal.returns
 returns c =
