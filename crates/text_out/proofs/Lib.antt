@@ -1,6 +1,6 @@
 -- Texts sent through a buffer.
 pub mod BufferedText
--- Hexadecimal digits, one byte after another.
+-- Hexadecimal digits, some bytes after others.
 mod HexDigits
 -- The digits of a number, the last one first.
 mod DigitSteps

@@ -1,5 +1,5 @@
 // Numbers and bytes as digits.
-ghost use Rattle.std.specs.Prelude.{◌≡◌, ◌∷◌, [], decimal, false};
+ghost use Rattle.std.specs.Prelude.{◌≤◌, length, decimal, false};
 ghost use Rattle.std.specs.Fmt.{digits as digits_in};
 ghost use Rattle.hex.specs.Hex.{encode_lower};
 ghost use Rattle.text_out.specs.OutBuffer.{Adds, point};
@@ -21,13 +21,20 @@ pub fn put_number<K: Sink>(buffer: &mut OutBuffer, out: &mut K, number: u64)
     buffer.put(out, digits.format(number).as_bytes());
 }
 
-// The two digits of a byte.
-fn digits_of(byte: u8) -> [u8; 2]
-    ensures { result ≡ encode_lower (byte ∷ []) }
+// How many bytes are written as digits at a time.
+const PIECE_LEN: usize = 32;
+
+// Sends a few bytes as digits.
+fn put_piece<K: Sink>(buffer: &mut OutBuffer, out: &mut K, bytes: &[u8])
+    requires { length bytes.now ≤ 32 }
+    ensures { Adds (point (K.written out.old) (K.faults out.old) buffer.old)
+        (point (K.written out.new) (K.faults out.new) buffer.new)
+        (encode_lower bytes.now) }
 {
-    let mut digits = [0u8; 2];
-    let _ = hex::encode_to_slice([byte].as_slice(), &mut digits);
-    digits
+    let mut digits = [0u8; 2 * PIECE_LEN];
+    let into = &mut digits[..2 * bytes.len()];
+    let _ = hex::encode_to_slice(bytes, into);
+    buffer.put(out, into);
 }
 
 /// Sends bytes as lower-case hexadecimal digits, two for each byte.
@@ -36,9 +43,12 @@ pub fn put_digits<K: Sink>(buffer: &mut OutBuffer, out: &mut K, bytes: &[u8])
         (point (K.written out.new) (K.faults out.new) buffer.new)
         (encode_lower bytes.now) }
 {
-    for byte in bytes {
-        buffer.put(out, &digits_of(*byte));
+    let mut rest = bytes;
+    while rest.len() > PIECE_LEN {
+        put_piece(buffer, out, &rest[..PIECE_LEN]);
+        rest = &rest[PIECE_LEN..];
     }
+    put_piece(buffer, out, rest);
 }
 
 /// Sends a number's lower-case hexadecimal digits, without leading zeros.

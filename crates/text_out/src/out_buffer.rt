@@ -1,5 +1,5 @@
 // A buffer of bytes in front of a sink.
-ghost use Rattle.std.specs.Prelude.{◌≡◌, ◌<◌, ◌∷◌, [], length, false};
+ghost use Rattle.std.specs.Prelude.{◌≡◌, ◌<◌, ◌≤◌, ◌+◌, ◌∷◌, ◌++◌, [], length, false};
 ghost use Rattle.text_out.specs.OutBuffer.{Adds, held_of, point};
 
 use je_io::{Sink, write_all};
@@ -82,6 +82,29 @@ impl OutBuffer {
 
     /// Sends bytes.
     pub fn put<K: Sink>(&mut self, out: &mut K, bytes: &[u8])
+        ensures { Adds (point (K.written out.old) (K.faults out.old) self.old)
+            (point (K.written out.new) (K.faults out.new) self.new)
+            bytes.now }
+    {
+        if bytes.len() <= BUFFER_LEN - self.len {
+            self.hold(bytes);
+        } else {
+            self.put_each(out, bytes);
+        }
+    }
+
+    // Puts bytes into the buffer, which has room for them.
+    fn hold(&mut self, bytes: &[u8])
+        requires { length self.old.bytes + length bytes.now ≤ 4096 }
+        ensures { self.new ≡ held_of (self.old.bytes ++ bytes.now) self.old.failed }
+    {
+        let end = self.len + bytes.len();
+        self.bytes[self.len..end].copy_from_slice(bytes);
+        self.len = end;
+    }
+
+    // Sends bytes one by one.
+    fn put_each<K: Sink>(&mut self, out: &mut K, bytes: &[u8])
         ensures { Adds (point (K.written out.old) (K.faults out.old) self.old)
             (point (K.written out.new) (K.faults out.new) self.new)
             bytes.now }

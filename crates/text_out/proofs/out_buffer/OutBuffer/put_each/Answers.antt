@@ -2,7 +2,7 @@ use Rattle.std.proofs.Common.{sym}
 use Rattle.std.proofs.lemmas.List.{take_all, take_more}
 use Rattle.text_out.specs.OutBuffer.{point}
 use Rattle.text_out.proofs.BufferedText.{adds_none, adds_same, adds_then}
-use Rattle.text_out.proofs.out_buffer.OutBuffer.put.Goals as goal
+use Rattle.text_out.proofs.out_buffer.OutBuffer.put_each.Goals as goal
 
 pub loop-byte-init : goal.loop-byte-init
 loop-byte-init g c = adds_none (point (g.K.Sink.written c.args.out.now) (g.K.Sink.faults c.args.out.now) c.args.self.now)

@@ -1,6 +1,6 @@
 use Rattle.std.proofs.Common.{take}
 use Rattle.text_out.specs.OutBuffer.{Adds, point}
-use Rattle.text_out.proofs.out_buffer.OutBuffer.put.Given as goal
+use Rattle.text_out.proofs.out_buffer.OutBuffer.put_each.Given as goal
 
 abbrev pub invariant-loop-byte : goal.invariant-loop-byte
 invariant-loop-byte g l =
