@@ -34,7 +34,7 @@ a_number x n m h = by_test (is_due n) refl h
     by_test false is h = absurd (none-some m h)
 
 -- the place of a node of the level
-place_is : (lows : List (Name × ℕ)) (nodes : List Node) (x : Name) (n : Node) → value_at x (placed lows nodes) ≡ Some n → (i : ℕ) × (value_at x lows ≡ Some i) × (node_at nodes i ≡ n)
+pub place_is : (lows : List (Name × ℕ)) (nodes : List Node) (x : Name) (n : Node) → value_at x (placed lows nodes) ≡ Some n → (i : ℕ) × (value_at x lows ≡ Some i) × (node_at nodes i ≡ n)
 place_is lows nodes x n there = by_place (value_at x lows) refl
   where
     by_place : (o : Option ℕ) → value_at x lows ≡ o → (i : ℕ) × (value_at x lows ≡ Some i) × (node_at nodes i ≡ n)

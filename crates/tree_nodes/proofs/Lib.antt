@@ -14,3 +14,5 @@ pub mod DueLaws
 pub mod LeastNumbers
 -- The places of due nodes.
 pub mod DuePlaces
+-- From which LSN on images of nodes lack something.
+pub mod MarkLaws

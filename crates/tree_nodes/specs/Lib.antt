@@ -3,3 +3,4 @@ pub mod Levels
 pub mod Lows
 pub mod Noted
 pub mod Due
+pub mod Marks

@@ -1,5 +1,5 @@
 // One level of a tree.
-ghost use Rattle.std.specs.Prelude.{◌≡◌, ◌<◌, ◌≤◌, ◌||◌, ℕ, ◌++◌, ◌∷◌, [], length, set, vec_len, vec_capacity, List as Items, Option, None, Some, IsSome, IfSome, IfOk, OnOk, OnErr, option_copied, option_map, map, if◌then◌else◌};
+ghost use Rattle.std.specs.Prelude.{◌≡◌, ◌<◌, ◌≤◌, ◌||◌, ℕ, false, ◌++◌, ◌∷◌, [], length, set, vec_len, vec_capacity, List as Items, Option, None, Some, IsSome, IfSome, IfOk, OnOk, OnErr, option_copied, option_map, map, if◌then◌else◌};
 ghost use Rattle.std.specs.List.{AllByRecursion, slice_get};
 ghost use Rattle.std.specs.Prelude.{filter};
 ghost use Rattle.std.specs.Map.{keys_of, lookup};
@@ -14,11 +14,13 @@ ghost use Rattle.record_map.specs.Cells.{value_at, IsRising, first_of, last_of, 
 ghost use Rattle.je_order.specs.Edges.{is_between};
 ghost use Rattle.tree_nodes.specs.Lows.{low_up_to};
 ghost use Rattle.tree_nodes.specs.Noted.{NextDue, count_due, has_noted_child, is_low_over, noted_row};
+ghost use Rattle.tree_nodes.specs.Marks.{IsFromRow, IsMarkOrOfRow, IsSinceRow};
 ghost use Rattle.tree_nodes.specs.Due.{AreDue, due_number, name_in, number_in, without};
 ghost use Rattle.tree_nodes.specs.Nodes.{least, IsUpTo, IsOver, IsLowOver, HasMarked, HasUnmarked, low_behind, HasPut, HasTaken, is_dirty, marked, node_at, placed, ArePlaces};
 
 use crate::Node;
 use crate::due_numbers::DueNumbers;
+use crate::marks::{has_before, least_mark};
 use je_lsn::Lsn;
 use je_order::List;
 use node_core::{Slot, Version};
@@ -622,5 +624,33 @@ impl Level {
             due: _,
         } = self;
         count_due(lows, nodes.as_slice())
+    }
+
+    /// Whether a node waits to be logged, or its last image lacks what was logged before an LSN. It goes over the level.
+    pub fn has_before(&self, since: Lsn) -> bool
+        ensures { result ≡ false → IsSinceRow since self.now }
+    {
+        let Level {
+            lows: _,
+            nodes,
+            names,
+            due: _,
+        } = self;
+        has_before(nodes.as_slice(), names.as_slice(), since)
+    }
+
+    /// The least of an LSN and of those from which on images of nodes lack something. It goes over the level.
+    pub fn least_mark(&self, bound: Lsn) -> Lsn
+        ensures upto { result ≤ bound }
+        ensures all { IsFromRow result self.now }
+        ensures some { IsMarkOrOfRow bound self.now result }
+    {
+        let Level {
+            lows: _,
+            nodes,
+            names,
+            due: _,
+        } = self;
+        least_mark(nodes.as_slice(), names.as_slice(), bound)
     }
 }

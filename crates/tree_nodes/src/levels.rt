@@ -1,5 +1,5 @@
 // All levels of a tree.
-ghost use Rattle.std.specs.Prelude.{◌≡◌, ◌<◌, ◌+◌, ◌-◌, ℕ, suc, zero, [], ◌∷◌, length, take, Option, None, Some, IsSome, IfSome, IfOk, OnOk, OnErr, option_copied, option_map, map};
+ghost use Rattle.std.specs.Prelude.{◌≡◌, ◌<◌, ◌≤◌, ◌+◌, ◌-◌, ℕ, true, suc, zero, [], ◌∷◌, length, take, Option, None, Some, IsSome, IfSome, IfOk, OnOk, OnErr, option_copied, option_map, map};
 ghost use Rattle.std.specs.declared.cmp.Ordering.TheVariants.{Less};
 ghost use Rattle.je_order.specs.Order.{name_cmp};
 ghost use Rattle.je_order.specs.Edges.Edge.{At};
@@ -10,6 +10,7 @@ ghost use Rattle.std.specs.List.{slice_get};
 ghost use Rattle.std.specs.Map.{keys_of};
 ghost use Rattle.je_order.specs.Edges.{is_between};
 ghost use Rattle.tree_nodes.specs.Lows.{lows_of, low_up_to, with_low, with_root};
+ghost use Rattle.tree_nodes.specs.Marks.{AllFrom, AllSince, IsMarkOr};
 ghost use Rattle.tree_nodes.specs.Noted.{AreNoted, HasNotedLevel, NextIn, count_all_due};
 ghost use Rattle.tree_nodes.specs.Levels.{row_of, AreParts, HasPutAt, HasTakenAt, HasMarkedAt, HasUnmarkedAt, HasRaised, slot_of};
 
@@ -341,5 +342,35 @@ impl Levels {
             count = count.checked_add(row.count_due())?;
         }
         Some(count)
+    }
+
+    /// Whether no node waits to be logged, and no last image lacks what was logged before an LSN. It goes over all nodes.
+    pub fn is_since(&self, since: Lsn) -> bool
+        ensures { result ≡ true → AllSince since self.now }
+    {
+        let Levels { levels } = self;
+        for level in 0..levels.len() {
+            let row: &Level = &levels[level];
+            if row.has_before(since) {
+                return false;
+            }
+        }
+        true
+    }
+
+    /// The least of an LSN and of those from which on images of nodes lack something. It goes over all nodes.
+    pub fn least_mark(&self, bound: Lsn) -> Lsn
+        ensures upto { result ≤ bound }
+        ensures all { AllFrom result self.now }
+        ensures some { IsMarkOr bound self.now result }
+        ensures parts { AreParts self.now }
+    {
+        let Levels { levels } = self;
+        let mut least = bound;
+        for level in 0..levels.len() {
+            let row: &Level = &levels[level];
+            least = row.least_mark(least);
+        }
+        least
     }
 }

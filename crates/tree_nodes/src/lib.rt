@@ -9,6 +9,7 @@
 mod due_numbers;
 pub mod level;
 pub mod levels;
+mod marks;
 pub mod node;
 
 pub use level::Level;
