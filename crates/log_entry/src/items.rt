@@ -11,6 +11,9 @@ use je_bytes::{Reader, put_u16};
 use je_order::List;
 use std::alloc::{AllocError, Global};
 
+/// For how many items room is made before they are read: as many as a node has slots at most.
+const MOST_AT_ONCE: u32 = 128;
+
 // So many items, if they all come next.
 fn read_items<T: Item>(
     alloc: Global,
@@ -19,7 +22,7 @@ fn read_items<T: Item>(
 ) -> Result<Option<Vec<T>>, AllocError>
     ensures { IfOk result (λ found. MatchOption found (items_in T.item_in count reader.old ≡ None) (λ items. items_in T.item_in count reader.old ≡ Some (items.items, reader.new))) }
 {
-    let mut items = Vec::new(alloc);
+    let mut items = Vec::with_capacity(alloc, count.min(MOST_AT_ONCE) as usize)?;
     for i in 0..count {
         let Some(item) = T::read(alloc, reader)? else {
             return Ok(None);
