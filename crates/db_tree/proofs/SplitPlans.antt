@@ -1,15 +1,16 @@
 -- Which nodes are split, by what is read of them.
-use Rattle.std.proofs.Common.{◌≡◌, ◌+◌, ◌-◌, ◌<◌, ◌≤◌, ◌++◌, ◌∷◌, [], ℕ, zero, suc, List, Bool, Option, None, Some, filter, length, drop, refl, ap, ap₂, sym, ◌∙◌, arith, option_map}
+use Rattle.std.proofs.Common.{◌≡◌, ◌+◌, ◌-◌, ◌<◌, ◌≤◌, ◌++◌, ◌∷◌, [], ℕ, zero, suc, List, Bool, true, false, cond, Option, None, Some, filter, length, drop, refl, ap, ap₂, sym, ◌∙◌, arith, option_map}
+use Rattle.std.specs.Prelude.{◌/◌, nat_lt}
 use Rattle.std.specs.List.{slice_get}
 use Rattle.std.specs.Map.{keys_of}
 use Rattle.std.proofs.lemmas.List.{drop_more, drop_all, append_assoc, append-nil}
 use Rattle.std.proofs.lemmas.Map.Entries.{length-keys_of}
-use Rattle.std.proofs.lemmas.Option.{slice_get-map}
+use Rattle.std.proofs.lemmas.Option.{none-some, same_Some, slice_get-map}
 use Rattle.je_order.specs.Edges.{is_between}
 use Rattle.je_order.specs.Edges.Edge.{At}
 use Rattle.je_order.specs.declared.name.Name.{Name}
 use Rattle.record_map.specs.declared.cell.Cell.{Cell}
-use Rattle.record_map.specs.Cells.{upper_edge}
+use Rattle.record_map.specs.Cells.{count_if, upper_edge}
 use Rattle.tree_nodes.specs.Nodes.{NodeRow, low_behind}
 use Rattle.tree_nodes.specs.Levels.{row_of}
 use Rattle.tree_nodes.specs.Lows.{lows_of, lows_at, low_up_to, low_after}
@@ -100,3 +101,19 @@ pub splits_end : (fanout : ℕ) (x : Name) (cells : List (Name × Cell)) (lows :
     found ++ splits_from fanout x (slot_names cells lows level) (drop level lows) ≡ all → found ≡ all
 splits_end fanout x cells lows level found all past so_far =
     sym (append-nil found) ∙ ap (λ (l : List (List Name)). found ++ splits_from fanout x (slot_names cells lows level) l) (sym (drop_all level lows past)) ∙ so_far
+
+-- ---- a count that is wanted only from the fanout on
+
+pub middle_none : (fanout : ℕ) (names : List Name) (o : Option ℕ) → o ≡ None → o ≡ count_if fanout (length names) → None ≡ middle_name fanout names
+middle_none fanout names o none is = by_test (nat_lt (length names) fanout) (sym none ∙ is)
+  where
+    by_test : (t : Bool) → None ≡ cond t None (Some (length names)) → None ≡ cond t None (slice_get names (length names - length names / 2))
+    by_test true h = refl
+    by_test false h = absurd (none-some (length names) h)
+
+pub middle_some : (fanout count : ℕ) (names : List Name) (o : Option ℕ) (found : Option Name) → o ≡ Some count → o ≡ count_if fanout (length names) → found ≡ slice_get names (count - count / 2) → found ≡ middle_name fanout names
+middle_some fanout count names o found some is at = by_test (nat_lt (length names) fanout) (sym some ∙ is)
+  where
+    by_test : (t : Bool) → Some count ≡ cond t None (Some (length names)) → found ≡ cond t None (slice_get names (length names - length names / 2))
+    by_test true h = absurd (none-some count (sym h))
+    by_test false h = at ∙ ap (λ (n : ℕ). slice_get names (n - n / 2)) (same_Some count (length names) h)

@@ -19,7 +19,7 @@ ghost use Rattle.db_tree.specs.Waiting.{waiting_of, waiting_raised};
 use crate::{DbTree, NodeSplit};
 use je_lsn::Lsn;
 use je_order::cmp_bytes;
-use record_map::SortKey;
+use record_map::{Cells, SortKey};
 use std::alloc::{AllocError, Global};
 use std::cmp::Ordering;
 use tree_nodes::Node;
@@ -57,6 +57,27 @@ fn new_root(number: u64, mark: Lsn, noted: bool) -> Node
         forced: false,
         noted,
     }
+}
+
+// Notes the names of a BIN as a run of the cells.
+fn note_bin(cells: &mut Cells, alloc: Global, low: &SortKey)
+    ensures { cells.new ≡ cells.old }
+{
+    match low.copy(alloc) {
+        Ok(copy) => cells.note_run(copy),
+        Err(failed) => drop(failed),
+    }
+}
+
+// Notes the names of both halves of a BIN that is split, if one is, so that its cells need not be counted where it gets another one.
+fn note_halves(cells: &mut Cells, alloc: Global, splits: &[NodeSplit])
+    ensures { cells.new ≡ cells.old }
+{
+    if splits.len() == 0 {
+        return;
+    }
+    note_bin(cells, alloc, &splits[0].middle);
+    note_bin(cells, alloc, &splits[0].low);
 }
 
 impl DbTree {
@@ -229,6 +250,7 @@ impl DbTree {
     {
         let is_raised = splits.len() == self.levels.height();
         self.split_each(alloc, splits, first)?;
+        note_halves(&mut self.cells, alloc, splits);
         if !is_raised {
             return Ok(());
         }

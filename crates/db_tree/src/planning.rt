@@ -6,7 +6,7 @@ ghost use Rattle.std.specs.Map.{keys_of};
 ghost use Rattle.je_order.specs.Order.{name_cmp};
 ghost use Rattle.je_order.specs.Edges.{is_between};
 ghost use Rattle.je_order.specs.Edges.Edge.{At};
-ghost use Rattle.record_map.specs.Cells.{upper_edge};
+ghost use Rattle.record_map.specs.Cells.{count_if, upper_edge};
 ghost use Rattle.tree_nodes.specs.Lows.{lows_of, lows_at};
 ghost use Rattle.db_tree.specs.Splits.{slot_names, middle_name, split_over, splits_from};
 
@@ -25,17 +25,36 @@ fn copy_bound(alloc: Global, bound: Option<&SortKey>) -> Result<Option<SortKey>,
     }
 }
 
+// The count, where it is not below the least one that is wanted.
+fn at_least(least: usize, count: usize) -> Option<usize>
+    ensures { result ≡ count_if least count }
+{
+    if count < least {
+        return None;
+    }
+    Some(count)
+}
+
 impl DbTree {
-    // How many slots the nodes of a level have from a name on and below another one.
-    fn count_slots(&self, level: usize, low: &SortKey, high: Option<&SortKey>) -> usize
+    // How many slots the nodes of a level have from a name on and below another one, where there are as many as the fanout.
+    fn count_slots(
+        &self,
+        fanout: u32,
+        level: usize,
+        low: &SortKey,
+        high: Option<&SortKey>,
+    ) -> Option<usize>
         requires there { level < length self.now.levels }
         requires forward { IfSome high (λ h. name_cmp low.now h.now ≡ Less) }
-        ensures { result ≡ length (filter (is_between (At low.now) (upper_edge (option_copied high.entry))) (slot_names self.now.cells (lows_of self.now.levels) level)) }
+        ensures { result ≡ count_if fanout (length (filter (is_between (At low.now) (upper_edge (option_copied high.entry))) (slot_names self.now.cells (lows_of self.now.levels) level))) }
     {
         if level == 0 {
-            return self.cells.count_between(low, high);
+            return self.cells.count_if(low, high, fanout as usize);
         }
-        self.levels.count_between(level - 1, low, high)
+        at_least(
+            fanout as usize,
+            self.levels.count_between(level - 1, low, high),
+        )
     }
 
     // The name of the slot with so many before it.
@@ -70,11 +89,10 @@ impl DbTree {
         requires forward { IfSome high (λ h. name_cmp low.now h.now ≡ Less) }
         ensures { IfOk result (λ found. found ≡ middle_name fanout (filter (is_between (At low.now) (upper_edge (option_copied high.entry))) (slot_names self.now.cells (lows_of self.now.levels) level))) }
     {
-        let count = self.count_slots(level, low, high);
-        if count < fanout as usize {
+        let Some(count) = self.count_slots(fanout, level, low, high) else {
             return Ok(None);
-        }
-        self.nth_slot(alloc, level, low, high, count - count / 2)
+        };
+        Ok(self.nth_slot(alloc, level, low, high, count - count / 2)?)
     }
 
     // How the node of a level over the name is split, if it is.

@@ -1,6 +1,9 @@
-use Rattle.std.proofs.Common.{◌≡◌, ◌∙◌, length}
+use Rattle.std.proofs.Common.{◌≡◌, ◌∙◌, List, length, subst, sym}
+use Rattle.je_order.specs.declared.name.Name.{Name}
+use Rattle.record_map.specs.declared.cell.Cell.{Cell}
 use Rattle.tree_nodes.specs.Lows.{lows_of}
 use Rattle.db_tree.specs.Splits.{is_raised}
+use Rattle.db_tree.specs.Trees.{IsTree}
 use Rattle.db_tree.proofs.GrowLaws.{numbered_high}
 use Rattle.db_tree.proofs.PlaceLaws.{raised_is}
 use Rattle.db_tree.proofs.SinceLaws.{splits_since}
@@ -20,7 +23,10 @@ returns-in-Ok-clause-numbers c =
     c.saturating_add-number.ensures c.in-Ok.ensures.below
 
 pub returns-then-not-is_raised-clause-tree : goal.returns-then-not-is_raised-clause-tree
-returns-then-not-is_raised-clause-tree c = λ es base newest behind tree. c.in_ok-split_each.ensures.tree es base newest tree
+returns-then-not-is_raised-clause-tree c = λ es base newest behind tree.
+    subst (λ (cells : List (Name × Cell)). IsTree es base newest c.split_each.new.self.levels cells) (sym c.note_halves.ensures) (c.in_ok-split_each.ensures.tree es base newest tree)
 
 pub returns-in-Ok-clause-tree : goal.returns-in-Ok-clause-tree
-returns-in-Ok-clause-tree c = λ es base newest behind tree. c.in-Ok.ensures.tree es base newest behind (c.in_ok-split_each.ensures.tree es base newest tree)
+returns-in-Ok-clause-tree c = λ es base newest behind tree.
+    c.in-Ok.ensures.tree es base newest behind
+    (subst (λ (cells : List (Name × Cell)). IsTree es base newest c.split_each.new.self.levels cells) (sym c.note_halves.ensures) (c.in_ok-split_each.ensures.tree es base newest tree))
