@@ -1,88 +1,81 @@
 -- Entries by their LSNs.
-use Rattle.std.proofs.Common.{◌≡◌, ◌≢◌, ◌<◌, ◌-◌, ℕ, zero, suc, ◌==◌, cond, List, [], ◌∷◌, ◌++◌, Bool, true, false, Option, None, Some, length, take, drop, get_or, refl, sym, ap, ap₂, subst, ◌∙◌, arith}
-use Rattle.std.proofs.Math.Seq.{take-length}
-use Rattle.std.proofs.lemmas.Bool.{cond-true, cond-false, ne_eqb, eq-eqb}
+use Rattle.std.proofs.Common.{◌≡◌, ◌≢◌, ◌<◌, ◌≤◌, ◌+◌, ◌==◌, ◌⊎◌, ℕ, zero, suc, cond, List, [], ◌∷◌, ◌++◌, map, Bool, true, false, None, Some, Ok, Err, nat_cmp, length, drop, get_or, refl, sym, ap, subst, ◌∙◌, arith, inl, inr, append_assoc}
+use Rattle.std.proofs.lemmas.Bool.{cond-true, cond-false, ne_eqb, eq-eqb, cases_lt}
+use Rattle.std.proofs.lemmas.List.{drop_more, length-map}
+use Rattle.std.proofs.lemmas.List.Sorted.{searched}
 use Rattle.std.specs.List.{AllByRecursion}
-use Rattle.je_order.proofs.Lists.{all_weaker}
+use Rattle.std.specs.List.Sorted.{IsBinarySearchResult}
 use Rattle.log_entry.specs.declared.entry.Entry.{Entry}
 use Rattle.log_trees.specs.Placed.{Placed, AreInOrder, entry_at}
 
--- the first and the rest
-pub first_and_rest : {A : Type 0} (none : A) (xs : List A) → 0 < length xs → xs ≡ get_or xs 0 none ∷ take (length xs - 1) (drop 1 xs)
-first_and_rest none [] some = absurd (omega arith)
-first_and_rest {A} none (x ∷ xs) some =
-    let all : suc (length xs) - 1 ≡ length xs = omega arith in
-    ap (λ (l : List A). x ∷ l) (sym (ap (λ (n : ℕ). take n xs) all ∙ take-length xs))
+-- the LSNs of entries
+abbrev pub lsns_of : List Placed → List ℕ
+lsns_of es = map (λ (p : Placed). p.0) es
+
+-- the LSN of one entry more was taken
+pub one_more : (taken : List ℕ) (es : List Placed) (i : ℕ) (p : Placed) → i < length es → p ≡ get_or es i p → taken ++ lsns_of (drop i es) ≡ lsns_of es → (taken ++ p.0 ∷ []) ++ lsns_of (drop (i + 1) es) ≡ lsns_of es
+one_more taken es i p lt is so_far =
+    append_assoc taken (p.0 ∷ []) (lsns_of (drop (i + 1) es))
+    ∙ ap (λ (q : Placed). taken ++ q.0 ∷ lsns_of (drop (i + 1) es)) is
+    ∙ ap (λ (l : List Placed). taken ++ lsns_of l) (sym (drop_more es i p lt))
+    ∙ so_far
 
 -- an item that is there is the same whatever stands for one that is not
-pub any_default : {A : Type 0} (a b : A) (xs : List A) → 0 < length xs → get_or xs 0 a ≡ get_or xs 0 b
-any_default a b [] some = absurd (omega arith)
-any_default a b (x ∷ xs) some = refl
-
-take_drop : {A : Type 0} (n : ℕ) (xs : List A) → take n xs ++ drop n xs ≡ xs
-take_drop zero xs = refl
-take_drop (suc n) [] = refl
-take_drop {A} (suc n) (x ∷ xs) = ap (λ (l : List A). x ∷ l) (take_drop n xs)
-
--- entries are those below one of them, that one, and those above
-pub parts : (n : ℕ) (es below rest above : List Placed) (p : Placed) → below ≡ take n es → rest ≡ drop n es → rest ≡ p ∷ above → es ≡ below ++ p ∷ above
-parts n es below rest above p front back is = sym (take_drop n es) ∙ ap₂ (λ (a b : List Placed). a ++ b) (sym front) (sym back ∙ is)
+pub any_default : {A : Type 0} (a b : A) (xs : List A) (i : ℕ) → i < length xs → get_or xs i a ≡ get_or xs i b
+any_default a b [] i some = absurd (omega (arith, some))
+any_default a b (x ∷ xs) zero some = refl
+any_default a b (x ∷ xs) (suc i) some = any_default a b xs i (omega (arith, some))
 
 -- ---- order
 
-all_front : (P : Placed → Type 0) (a b : List Placed) → AllByRecursion P (a ++ b) → AllByRecursion P a
-all_front P [] b all = tt
-all_front P (x ∷ a) b all = (all.0, all_front P a b all.1)
+-- an LSN is below all later ones
+below_all : (n : ℕ) (es : List Placed) (i : ℕ) → AllByRecursion (λ q. n < q.0) es → i < length es → n < get_or (lsns_of es) i 0
+below_all n [] i all lt = absurd (omega (arith, lt))
+below_all n (p ∷ es) zero all lt = all.0
+below_all n (p ∷ es) (suc i) all lt = below_all n es i all.1 (omega (arith, lt))
 
-all_back : (P : Placed → Type 0) (a b : List Placed) → AllByRecursion P (a ++ b) → AllByRecursion P b
-all_back P [] b all = all
-all_back P (x ∷ a) b all = all_back P a b all.1
-
-pub order_front : (a b : List Placed) → AreInOrder (a ++ b) → AreInOrder a
-order_front [] b up = tt
-order_front (x ∷ a) b up = (all_front (λ q. x.0 < q.0) a b up.0, order_front a b up.1)
-
-pub order_back : (a b : List Placed) → AreInOrder (a ++ b) → AreInOrder b
-order_back [] b up = up
-order_back (x ∷ a) b up = order_back a b up.1
-
-below_middle : (below above : List Placed) (p : Placed) → AreInOrder (below ++ p ∷ above) → AllByRecursion (λ q. q.0 < p.0) below
-below_middle [] above p up = tt
-below_middle (x ∷ below) above p up = ((all_back (λ q. x.0 < q.0) below (p ∷ above) up.0).0, below_middle below above p up.1)
+lsns_rise : (es : List Placed) (i j : ℕ) → AreInOrder es → i ≤ j → j < length es → get_or (lsns_of es) i 0 ≤ get_or (lsns_of es) j 0
+lsns_rise [] i j up le lt = absurd (omega (arith, lt))
+lsns_rise (p ∷ es) zero zero up le lt = omega arith
+lsns_rise (p ∷ es) zero (suc j) up le lt = let below = below_all p.0 es j up.0 (omega (arith, lt)) in omega (arith, below)
+lsns_rise (p ∷ es) (suc i) zero up le lt = absurd (omega (arith, le))
+lsns_rise (p ∷ es) (suc i) (suc j) up le lt = lsns_rise es i j up.1 (omega (arith, le)) (omega (arith, lt))
 
 -- ---- look-ups
 
-none_before : (at : ℕ) (a b : List Placed) → AllByRecursion (λ q. q.0 ≢ at) a → entry_at (a ++ b) at ≡ entry_at b at
-none_before at [] b all = refl
-none_before at (x ∷ a) b all = cond-false (x.0 == at) (Some x.1) (entry_at (a ++ b) at) (ne_eqb x.0 at all.0) ∙ none_before at a b all.1
+-- the entry at the place of an LSN
+at_place : (none : Placed) (es : List Placed) (at i : ℕ) → AreInOrder es → i < length es → get_or (lsns_of es) i 0 ≡ at → Some (get_or es i none).1 ≡ entry_at es at
+at_place none [] at i up lt is = absurd (omega (arith, lt))
+at_place none (p ∷ es) at zero up lt is = sym (cond-true (p.0 == at) (Some p.1) (entry_at es at) (eq-eqb p.0 at is))
+at_place none (p ∷ es) at (suc i) up lt is =
+    let below = below_all p.0 es i up.0 (omega (arith, lt)) in
+    at_place none es at i up.1 (omega (arith, lt)) is ∙ sym (cond-false (p.0 == at) (Some p.1) (entry_at es at) (ne_eqb p.0 at (λ e. omega (arith, e, below, is))))
 
-none_of : (at : ℕ) (b : List Placed) → AllByRecursion (λ q. q.0 ≢ at) b → entry_at b at ≡ None
-none_of at [] all = refl
-none_of at (x ∷ b) all = cond-false (x.0 == at) (Some x.1) (entry_at b at) (ne_eqb x.0 at all.0) ∙ none_of at b all.1
+-- an LSN that none of the entries has
+of_none : (es : List Placed) (at : ℕ) → ((k : ℕ) → k < length es → get_or (lsns_of es) k 0 ≢ at) → None ≡ entry_at es at
+of_none [] at none = refl
+of_none (p ∷ es) at none =
+    of_none es at (λ k lt. none (suc k) (omega (arith, lt)))
+    ∙ sym (cond-false (p.0 == at) (Some p.1) (entry_at es at) (ne_eqb p.0 at (none 0 (omega arith))))
 
-none_behind : (at : ℕ) (a b : List Placed) → AllByRecursion (λ q. q.0 ≢ at) b → entry_at (a ++ b) at ≡ entry_at a at
-none_behind at [] b all = none_of at b all
-none_behind at (x ∷ a) b all = ap (λ (o : Option Entry). cond (x.0 == at) (Some x.1) o) (none_behind at a b all)
+rise : (es : List Placed) → AreInOrder es → (i j : ℕ) → i ≤ j → j < length (lsns_of es) → get_or (lsns_of es) i 0 ≤ get_or (lsns_of es) j 0
+rise es up i j le lt = let len = length-map es (λ (p : Placed). p.0) in lsns_rise es i j up le (omega (arith, len, lt))
 
-pub at_middle : (es below above : List Placed) (p : Placed) (at : ℕ) → es ≡ below ++ p ∷ above → AreInOrder es → at ≡ p.0 → Some p.1 ≡ entry_at es at
-at_middle es below above p at is up here =
-    let order : AreInOrder (below ++ p ∷ above) = subst AreInOrder is up in
-    sym (ap (λ (l : List Placed). entry_at l at) is
-    ∙ none_before at below (p ∷ above) (all_weaker (λ q. q.0 < p.0) (λ q. q.0 ≢ at) (λ q lt e. omega (arith, lt, e, here)) below (below_middle below above p order))
-    ∙ cond-true (p.0 == at) (Some p.1) (entry_at above at) (eq-eqb p.0 at (sym here)))
+-- what a search of the LSNs tells of the entries
+pub found_at : (none : Placed) (es : List Placed) (lsns : List ℕ) (at i : ℕ) → lsns ≡ lsns_of es → AreInOrder es → IsBinarySearchResult (λ y. nat_cmp y at) lsns (Ok i) → i < length es → Some (get_or es i none).1 ≡ entry_at es at
+found_at none es lsns at i is up found lt =
+    let here = searched (lsns_of es) at (Ok i) (subst (λ (l : List ℕ). IsBinarySearchResult (λ y. nat_cmp y at) l (Ok i)) is found) (rise es up) in
+    at_place none es at i up lt here.1
 
-pub at_below : (es below above : List Placed) (p : Placed) (at : ℕ) → es ≡ below ++ p ∷ above → AreInOrder es → at < p.0 → entry_at below at ≡ entry_at es at
-at_below es below above p at is up lt =
-    let order : AreInOrder (p ∷ above) = order_back below (p ∷ above) (subst AreInOrder is up) in
-    sym (ap (λ (l : List Placed). entry_at l at) is
-    ∙ none_behind at below (p ∷ above) ((λ e. omega (arith, lt, e)), all_weaker (λ q. p.0 < q.0) (λ q. q.0 ≢ at) (λ q above_ e. omega (arith, lt, e, above_)) above order.0))
-
-pub at_above : (es below above : List Placed) (p : Placed) (at : ℕ) → es ≡ below ++ p ∷ above → AreInOrder es → (at ≡ p.0 → ⊥) → (at < p.0 → ⊥) → entry_at above at ≡ entry_at es at
-at_above es below above p at is up other ge =
-    let order : AreInOrder (below ++ p ∷ above) = subst AreInOrder is up in
-    sym (ap (λ (l : List Placed). entry_at l at) is
-    ∙ none_before at below (p ∷ above) (all_weaker (λ q. q.0 < p.0) (λ q. q.0 ≢ at) (λ q lt e. ge (omega (arith, lt, e))) below (below_middle below above p order))
-    ∙ cond-false (p.0 == at) (Some p.1) (entry_at above at) (ne_eqb p.0 at (λ e. other (sym e))))
+pub found_nowhere : (es : List Placed) (lsns : List ℕ) (at i : ℕ) → lsns ≡ lsns_of es → AreInOrder es → IsBinarySearchResult (λ y. nat_cmp y at) lsns (Err i) → None ≡ entry_at es at
+found_nowhere es lsns at i is up found =
+    let here = searched (lsns_of es) at (Err i) (subst (λ (l : List ℕ). IsBinarySearchResult (λ y. nat_cmp y at) l (Err i)) is found) (rise es up) in
+    let len = length-map es (λ (p : Placed). p.0) in
+    of_none es at (λ k lt. by_side k here.1 here.2 (omega (arith, len, lt)) (cases_lt k i))
+  where
+    by_side : (k : ℕ) → ((j : ℕ) → j < i → get_or (lsns_of es) j 0 < at) → ((j : ℕ) → i ≤ j → j < length (lsns_of es) → at < get_or (lsns_of es) j 0) → k < length (lsns_of es) → (k < i) ⊎ (i ≤ k) → get_or (lsns_of es) k 0 ≢ at
+    by_side k below above lt (inl before) e = let less = below k before in omega (arith, less, e)
+    by_side k below above lt (inr behind) e = let more = above k behind lt in omega (arith, more, e)
 
 -- an entry that an LSN names is one of the entries
 pub named_entry : (P : Entry → Type 0) (es : List Placed) (at : ℕ) (e : Entry) → AllByRecursion (λ p. P p.1) es → Some e ≡ entry_at es at → P e

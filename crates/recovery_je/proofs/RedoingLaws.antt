@@ -1,7 +1,8 @@
 -- Records while a log is read again.
-use Rattle.std.proofs.Common.{◌≡◌, ◌<◌, ℕ, Bool, true, false, cond, List, [], ◌∷◌, ◌++◌, Option, ◌==◌, refl, sym, ap, subst, arith, ◌∙◌}
+use Rattle.std.proofs.Common.{◌≡◌, ◌<◌, ℕ, Bool, true, false, cond, List, [], ◌∷◌, ◌++◌, Option, ◌==◌, reverse, refl, sym, ap, subst, arith, ◌∙◌}
 use Rattle.std.specs.Prelude.{nat_le}
 use Rattle.std.proofs.lemmas.Bool.{le-leb, lt-leb}
+use Rattle.std.proofs.lemmas.List.{reverse-append}
 use Rattle.je_order.specs.declared.name.Name.{Name}
 use Rattle.record_map.specs.Cells.{value_at}
 use Rattle.record_tree.specs.Stored.{Stored, AllStored}
@@ -54,6 +55,10 @@ migrated old new kept change redo made at = record {
 }
 
 -- ---- several changes
+
+-- of items that lie the other way round the last one is the first
+pub last_is_first : {A : Type 0} (old new left : List A) (x : A) → old ≡ new ++ x ∷ [] → left ≡ new → reverse old ≡ x ∷ reverse left
+last_is_first old new left x is same = ap reverse is ∙ reverse-append new (x ∷ []) ∙ ap (λ (l : List _). x ∷ reverse l) (sym same)
 
 pub changes_go_on : (d : ℕ) (x : Name) (old new : AllStored) (left rest : List LoggedChange) (change : LoggedChange) (target : Option Stored) → HasMade (change ∷ []) old new → left ≡ change ∷ rest →
     stored_after d x left (value_at x (old d)) ≡ target → stored_after d x rest (value_at x (new d)) ≡ target

@@ -7,8 +7,8 @@ ghost use Rattle.log_trees.specs.Placed.{AreInOrder, entry_at as entry_at_lsn};
 ghost use Rattle.log_trees.specs.Walk.{nowhere as nowhere_in, node_read, is_bin_of as is_bin, delta_with as delta_by_base, delta_on, image_in as image_of, read_image as image_at};
 ghost use Rattle.recovery_je.specs.Walking.{Answers};
 
+use crate::indexed::Indexed;
 use crate::lookup::entry_at;
-use crate::placed_entry::PlacedEntry;
 use crate::read_err::ReadErr;
 use je_lsn::{FileNo, Lsn};
 use log_entry::Entry;
@@ -109,7 +109,7 @@ fn delta_with(
 fn read_delta(
     alloc: Global,
     files: &[FileNo],
-    entries: &[PlacedEntry],
+    entries: &Indexed<'_>,
     at: Lsn,
     db: u32,
     number: u64,
@@ -130,7 +130,7 @@ fn read_delta(
 fn image_in(
     alloc: Global,
     files: &[FileNo],
-    entries: &[PlacedEntry],
+    entries: &Indexed<'_>,
     d: u32,
     at: Lsn,
     entry: &Entry,
@@ -156,7 +156,7 @@ fn image_in(
 pub(crate) fn read_image(
     alloc: Global,
     files: &[FileNo],
-    entries: &[PlacedEntry],
+    entries: &Indexed<'_>,
     d: u32,
     at: Lsn,
 ) -> Result<Node, ReadErr>

@@ -10,6 +10,7 @@ mod descending;
 mod finishing;
 mod gaps;
 mod images;
+mod indexed;
 mod indexes;
 mod lookup;
 mod numbered;

@@ -16,6 +16,7 @@ ghost use Rattle.recovery_je.specs.Recovering.{HoldsChanges, HoldsRedo, IsWalked
 
 use crate::checkpoint_end::{CheckpointEnd, last_end, or_none};
 use crate::gaps::{end_corruption, gap_corruption};
+use crate::indexed::Indexed;
 use crate::numbers::Numbers;
 use crate::placed_entry::PlacedEntry;
 use crate::read_err::ReadErr;
@@ -116,7 +117,9 @@ fn read_trees<T: Loads + Drop>(
     ensures right { IfOk result (λ walked. corruption ≡ None) }
     ensures found { IfErr result (λ e. IsFoundBy e (λ c. and_then (read_roots_of (map (λ f. f.0) files.now) entries.now end.now.at end.now.roots) (λ walk. unless corruption (Ok walk)) ≡ Err c)) }
 {
-    let walked = read_roots(alloc, files, entries, end, trees)?;
+    let indexed = Indexed::new(alloc, entries)?;
+    let walked = read_roots(alloc, files, &indexed, end, trees)?;
+    drop(indexed);
     match corruption {
         Some(corruption) => {
             drop(walked);

@@ -20,6 +20,9 @@ use std::alloc::Global;
 /// The number of the catalog, whose records are the other databases' names and numbers.
 const CATALOG: u32 = 0;
 
+// How many items are taken before their room is given back.
+const GIVEN_BACK: usize = 4096;
+
 /// A redo under way: the trees, and the changes that wait for their transactions' commits. After an error
 /// nothing is known of the trees.
 #[derive(Drop)]
@@ -98,7 +101,16 @@ fn first_of(changes: &[WaitingChange]) -> Lsn
     }
 }
 
-// Makes the changes of a transaction, in order.
+// Gives the room back that items took which are gone, each time that so many are.
+fn give_back<T>(left: &mut Vec<T>)
+    ensures { left.new.items ≡ left.old.items }
+{
+    if left.len() % GIVEN_BACK == 0 {
+        left.shrink_to_fit();
+    }
+}
+
+// Makes the changes of a transaction, in order. Each one's room is free again soon after it is made.
 fn make_changes<T: Loads>(
     trees: &mut T,
     alloc: Global,
@@ -108,7 +120,10 @@ fn make_changes<T: Loads>(
     ensures fits { (es : Items Placed) (base : ℕ) → base < 2 ^ 64 → AllByRecursion (IsLogged es base) changes → T.fits trees.old es base → OnOk result (T.fits trees.new es base) }
 {
     let first = first_of(changes.as_slice());
-    for change in changes.into_vec() {
+    let mut left = changes.into_vec();
+    left.reverse();
+    while let Some(change) = left.pop() {
+        give_back(&mut left);
         make_change(trees, alloc, first, change)?;
     }
     Ok(())
@@ -190,7 +205,7 @@ fn take_placed<T: Loads>(
     take_entry(&mut going.trees, &mut going.waiting, alloc, at, entry)
 }
 
-/// Takes the entries that stand at the redo LSN or behind it, in order.
+/// Takes the entries that stand at the redo LSN or behind it, in order. Each one's room is free again soon after it is taken.
 pub(crate) fn take_all<T: Loads>(
     going: &mut Redoing<T>,
     alloc: Global,
@@ -200,7 +215,10 @@ pub(crate) fn take_all<T: Loads>(
     ensures redo { (r : Redo) → IsRedoAt (T.stored going.old.trees) going.old.waiting r → OnOk result (IsRedoAt (T.stored going.new.trees) going.new.waiting (redo_all (from redo entries.items) r)) }
     ensures fits { (es : Items Placed) (base : ℕ) → base < 2 ^ 64 → AllByRecursion (IsIn es base) entries.items → FitsRedo T.fits es base going.old.trees going.old.waiting → OnOk result (FitsRedo T.fits es base going.new.trees going.new.waiting) }
 {
-    for placed in entries {
+    let mut left = entries;
+    left.reverse();
+    while let Some(placed) = left.pop() {
+        give_back(&mut left);
         take_placed(going, alloc, redo, placed)?;
     }
     Ok(())

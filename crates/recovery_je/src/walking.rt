@@ -16,6 +16,7 @@ ghost use Rattle.recovery_je.specs.Putting.{HasPut, loaded, none_put, are_whole 
 ghost use Rattle.recovery_je.specs.Walking.{Answers, IsWalking, GoesOn};
 
 use crate::images::{nowhere, read_image};
+use crate::indexed::Indexed;
 use crate::lookup::entry_at;
 use crate::placed_entry::PlacedEntry;
 use crate::read_err::ReadErr;
@@ -132,7 +133,7 @@ fn read_record<T: Loads>(
     walking: &mut Walking<T>,
     alloc: Global,
     files: &[FileNo],
-    entries: &[PlacedEntry],
+    entries: &Indexed<'_>,
     d: u32,
     at: Lsn,
     name: &Name,
@@ -160,7 +161,7 @@ fn read_slot<T: Loads>(
     walking: &mut Walking<T>,
     alloc: Global,
     files: &[FileNo],
-    entries: &[PlacedEntry],
+    entries: &Indexed<'_>,
     d: u32,
     at: Lsn,
     slot: &Slot,
@@ -202,7 +203,7 @@ fn read_within<T: Loads>(
     walking: &mut Walking<T>,
     alloc: Global,
     files: &[FileNo],
-    entries: &[PlacedEntry],
+    entries: &Indexed<'_>,
     d: u32,
     low: &Name,
     high: Option<&Name>,
@@ -224,7 +225,7 @@ pub(crate) fn read_slots<T: Loads>(
     walking: &mut Walking<T>,
     alloc: Global,
     files: &[FileNo],
-    entries: &[PlacedEntry],
+    entries: &Indexed<'_>,
     d: u32,
     low: &Name,
     high: Option<&Name>,
@@ -262,7 +263,7 @@ fn may_stand(node: &Node, level: u8, seen: &BTreeSet<u64>) -> bool
 pub(crate) fn read_here(
     alloc: Global,
     files: &[FileNo],
-    entries: &[PlacedEntry],
+    entries: &Indexed<'_>,
     d: u32,
     level: u8,
     at: Lsn,

@@ -2,7 +2,7 @@ use Rattle.std.proofs.Common.{◌≡◌, ◌∙◌, ap, sym, subst, map, List, [
 use Rattle.log_entry.specs.declared.root.Root.{Root}
 use Rattle.log_trees.specs.Walk.{Walk, each, read_root, read_roots}
 use Rattle.log_meaning.specs.Checkpoint.{Checkpoint}
-use Rattle.recovery_je.specs.Putting.{loaded}
+use Rattle.recovery_je.specs.Putting.{loaded, are_whole}
 use Rattle.recovery_je.proofs.MeaningLaws.{handed_on}
 use Rattle.log_meaning.specs.ReadNodes.{AreLoadedEach, IsRootLoaded}
 use Rattle.recovery_je.proofs.PutLaws.{all_whole}
@@ -39,6 +39,6 @@ returns-clause-nodes g c =
     let roots : c.as_slice.result.now ≡ c.args.end.now.roots = c.as_slice.ensures ∙ ap (λ (k : Checkpoint). k.roots) c.end.view_is in
     record {
       keeps = c.are_whole.result;
-      whole = λ t. all_whole es (sym c.are_whole.ensures ∙ t);
+      whole = λ t. all_whole es (sym (c.are_whole.ensures ∙ ap are_whole c.entries.view_is) ∙ t);
       put = λ most le. subst (λ (l : List Root). AreLoadedEach (IsRootLoaded es c.are_whole.result most) l (loaded g.T.Loads.nodes g.T.Loads.read c.args.trees) (loaded g.T.Loads.nodes g.T.Loads.read after.trees)) roots (c.in_ok-read_each.ensures.nodes.puts most le);
     }

@@ -1,0 +1,6 @@
+use Rattle.std.proofs.Common.{◌≡◌, ◌++◌, drop}
+use Rattle.recovery_je.proofs.LookupLaws.{lsns_of}
+use Rattle.recovery_je.proofs.indexed.Indexed.new.Given as goal
+
+abbrev pub invariant-loop-placed : goal.invariant-loop-placed
+invariant-loop-placed l = l.lsns.items ++ lsns_of (drop l.placed-index l.entries) ≡ lsns_of l.entries
