@@ -61,6 +61,11 @@ commits_step events at x before now all within is so_far counted =
     sum : (before now one old new last all : ℕ) → now ≡ before + one → old ≡ one + last → new ≡ last → before + old ≡ all → now + new ≡ all
     sum before now one old new last all a b c d = omega (arith, a, b, c, d)
 
+-- one event is one commit at most
+pub counted_most : (before at now : ℕ) (is : Bool) → before ≤ at → now ≡ before + cond is 1 0 → now ≤ at + 1
+counted_most before at now true within counted = omega (arith, within, counted)
+counted_most before at now false within counted = omega (arith, within, counted)
+
 -- all are counted
 pub commits_all : (events : List Event) (at counted all : ℕ) → length events ≤ at → counted + commits_in (take at events) (drop at events) ≡ all → counted ≡ all
 commits_all events at counted all past h = sum counted (commits_in (take at events) (drop at events)) all (ap (commits_in (take at events)) (drop_all at events past)) h

@@ -12,3 +12,5 @@ mod WaitingCalls
 mod CommitCounts
 -- What the words of a get spell.
 mod GetCalls
+-- The values of hexadecimal digits, by a table, and the bytes that pairs of them spell.
+mod HexValues

@@ -1,12 +1,13 @@
 -- The lines of a report, as they are sent.
-use Rattle.std.proofs.Common.{◌≡◌, ℕ, List, [], ◌++◌, true, Option, Some, None, is_some, unwrap_or, codes, decimal, refl}
+use Rattle.std.proofs.Common.{◌≡◌, ℕ, List, [], ◌++◌, true, Option, Some, None, is_some, unwrap_or, codes, decimal, refl, subst}
 use Rattle.je_order.specs.declared.txn_id.TxnId.{TxnId}
 use Rattle.store_model.specs.declared.lock_target.LockTarget.{LockTarget}
 use Rattle.store_model.specs.declared.answer.Answer.{Answer}
 use Rattle.store_model.specs.declared.answer.Answer.TheVariants.{Rec, IndexRec, Names, Waiting, Deadlock, MustAbort}
+use Rattle.store_model.specs.declared.totals.Totals.{Totals}
 use Rattle.text_out.specs.OutBuffer.{Point, Adds}
 use Rattle.text_out.proofs.BufferedText.{adds_then}
-use Rattle.script_text.specs.Report.{answer_text, line_if_any, short_text, step_line}
+use Rattle.script_text.specs.Report.{answer_text, end_line, line_if_any, short_text, step_line}
 
 -- a line of a call whose answer has a text
 pub adds_line : {a b c d : Point} (session line : ℕ) (text : Option (List ℕ)) → true ≡ is_some text →
@@ -31,3 +32,7 @@ short_is (Waiting at owner) rec index_rec names waiting deadlock abort = absurd 
 short_is (Deadlock cycle) rec index_rec names waiting deadlock abort = absurd (deadlock cycle refl)
 short_is (MustAbort cycle) rec index_rec names waiting deadlock abort = absurd (abort cycle refl)
 short_is a rec index_rec names waiting deadlock abort = refl
+
+-- the last line, with the number of commits that were counted
+pub last_line : {a b : Point} {counted commits : ℕ} (totals : Totals) → counted ≡ commits → Adds a b (end_line counted totals) → Adds a b (end_line commits totals)
+last_line {a} {b} {counted} {commits} totals is adds = subst (λ (n : ℕ). Adds a b (end_line n totals)) is adds

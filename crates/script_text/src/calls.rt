@@ -13,8 +13,21 @@ use je_order::Word;
 use std::alloc::{AllocError, Global};
 use store_model::{Call, Durability, Isolation, Kind, PutMode};
 
-// The call that a verb and the words behind it spell, if they spell one.
+// The call that a verb and the words behind it spell, if they spell one. What scripts have most of is looked at first.
 pub fn call_of(alloc: Global, verb: &[u8], words: Words) -> Result<Option<Call>, AllocError>
+    ensures { IfOk result (λ call. call ≡ call_of verb.now words.entry) }
+{
+    if verb == b"get".as_slice() {
+        get_of(alloc, words)
+    } else if verb == b"put".as_slice() {
+        put_of(alloc, PutMode::Overwrite, words)
+    } else {
+        any_call_of(alloc, verb, words)
+    }
+}
+
+// The same for any verb.
+fn any_call_of(alloc: Global, verb: &[u8], words: Words) -> Result<Option<Call>, AllocError>
     ensures { IfOk result (λ call. call ≡ call_of verb.now words.entry) }
 {
     if verb == b"begin".as_slice() {

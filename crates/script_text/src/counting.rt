@@ -1,5 +1,5 @@
 // How many commits a journal has.
-ghost use Rattle.std.specs.Prelude.{◌≡◌, []};
+ghost use Rattle.std.specs.Prelude.{◌≡◌, ◌≤◌, ◌+◌, [], length, if◌then◌else◌};
 ghost use Rattle.store_model.specs.Journal.{is_logged};
 ghost use Rattle.script_text.specs.Report.{changed_after, changes_when_done, commits_in, has_changed, is_commit, is_no_sync, is_unlogged, none_changed};
 
@@ -94,15 +94,25 @@ fn is_commit(before: &[Event], event: &Event) -> bool
     }
 }
 
+// A count of commits, with an event that comes after others.
+pub fn counted(commits: usize, before: &[Event], event: &Event) -> usize
+    requires { commits ≤ length before.now }
+    ensures { result ≡ commits + (if is_commit before.now event.now then 1 else 0) }
+{
+    if is_commit(before, event) {
+        commits + 1
+    } else {
+        commits
+    }
+}
+
 // How many commits of changes there are.
 pub fn commits_of(events: &[Event]) -> usize
     ensures { result ≡ commits_in [] events.now }
 {
     let mut commits = 0;
     for at in 0..events.len() {
-        if is_commit(&events[..at], &events[at]) {
-            commits += 1;
-        }
+        commits = counted(commits, &events[..at], &events[at]);
     }
     commits
 }

@@ -98,10 +98,15 @@ fn given_by_line(alloc: Global, line: u32, text: &[u8]) -> Result<Option<ScriptL
     }
 }
 
+// Whether each byte is one of ASCII: it looks for the greatest.
 fn is_ascii(text: &[u8]) -> bool
     ensures { result ≡ list_all (λ c. nat_lt c 128) text.now }
 {
-    text.iter().all(|c| *c < 128)
+    let mut greatest = 0u8;
+    for c in text {
+        greatest = greatest.max(*c);
+    }
+    greatest < 128
 }
 
 fn is_skipped(text: &[u8]) -> bool

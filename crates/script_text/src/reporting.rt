@@ -6,7 +6,7 @@ ghost use Rattle.je_io.specs.Sink.{Gains, GainsPart};
 ghost use Rattle.text_out.specs.OutBuffer.{Adds, point};
 ghost use Rattle.script_text.specs.Report.{commits_in, end_line, NoneWaits, event_text, events_text, none_begun, report_text, settled_line, waiting_after, waiting_if};
 
-use crate::counting::commits_of;
+use crate::counting::{commits_of, counted};
 use crate::event_lines::{put_own_line, put_victims};
 use crate::logged_call::LoggedCall;
 use crate::texts::put_line;
@@ -27,8 +27,8 @@ pub fn report<K: Sink>(events: &[Event], totals: &Totals, out: &mut K) -> Result
     ensures cause { OnErr result (HasRisen (K.faults out.old) (K.faults out.new)) }
 {
     let mut buffer = OutBuffer::new();
-    put_events(&mut buffer, out, events);
-    put_last_line(&mut buffer, out, events, totals);
+    let commits = put_events(&mut buffer, out, events);
+    put_end(&mut buffer, out, commits, totals);
     buffer.flush(out);
     if buffer.has_failed() {
         Err(Failed)
@@ -66,16 +66,22 @@ fn put_end<K: Sink>(buffer: &mut OutBuffer, out: &mut K, commits: usize, totals:
     buffer.put(out, b"\n");
 }
 
-fn put_events<K: Sink>(buffer: &mut OutBuffer, out: &mut K, events: &[Event])
-    ensures { Adds (point (K.written out.old) (K.faults out.old) buffer.old)
+// Sends the lines of all events, and answers how many commits there are.
+fn put_events<K: Sink>(buffer: &mut OutBuffer, out: &mut K, events: &[Event]) -> usize
+    ensures commits { result ≡ commits_in [] events.now }
+    ensures adds { Adds (point (K.written out.old) (K.faults out.old) buffer.old)
         (point (K.written out.new) (K.faults out.new) buffer.new)
         (events_text [] events.now) }
 {
     let mut first = 0;
+    let mut commits = 0;
     for at in 0..events.len() {
-        put_event(buffer, out, &events[..at], first, &events[at]);
+        let event = &events[at];
+        put_event(buffer, out, &events[..at], first, event);
         first = next_first(events, first, at);
+        commits = counted(commits, &events[..at], event);
     }
+    commits
 }
 
 // Where the first call that waits after the event at `at` may stand: before `first` none does.

@@ -2,8 +2,9 @@ use Rattle.std.proofs.Common.{List, [], ◌++◌, take, drop, refl, sym, ap, sub
 use Rattle.std.proofs.lemmas.List.{append-nil, drop_all, take-take}
 use Rattle.store_model.specs.declared.event.Event.{Event}
 use Rattle.text_out.specs.OutBuffer.{point}
-use Rattle.script_text.specs.Report.{NoneWaits, events_text, none_begun}
+use Rattle.script_text.specs.Report.{NoneWaits, commits_in, events_text, is_commit, none_begun}
 use Rattle.text_out.proofs.BufferedText.{adds_none, adds_same, adds_then}
+use Rattle.script_text.proofs.CommitCounts.{commits_all, commits_step, counted_most}
 use Rattle.script_text.proofs.WaitingCalls.{events_step}
 use Rattle.script_text.proofs.reporting.put_events.Goals as goal
 
@@ -12,6 +13,8 @@ loop-at-init g c = (
   omega arith,
   tt,
   ([], adds_none (point (g.K.Sink.written c.args.out.now) (g.K.Sink.faults c.args.out.now) c.args.buffer.now), refl),
+  omega arith,
+  omega arith,
 )
 
 pub put_event-requires-clause-none : goal.put_event-requires-clause-none
@@ -31,10 +34,15 @@ loop-at-preserved g c =
         adds_then kept.2.1 c.put_event.ensures,
         events_step events c.loop-at.at c.index-events-at.result kept.2.0 (events_text [] events) c.loop-at-test.true c.index-events-at.is kept.2.2,
       ),
+      counted_most c.loop-at.commits c.loop-at.at c.counted-commits.result (is_commit (take c.loop-at.at events) c.index-events-at.result) kept.3 c.counted-commits.ensures,
+      commits_step events c.loop-at.at c.index-events-at.result c.loop-at.commits c.counted-commits.result (commits_in [] events) c.loop-at-test.true c.index-events-at.is kept.4 c.counted-commits.ensures,
     )
 
-pub returns : goal.returns
-returns g c =
+pub returns-clause-commits : goal.returns-clause-commits
+returns-clause-commits g c = commits_all c.args.events.now c.loop-at.at c.loop-at.commits (commits_in [] c.args.events.now) c.loop-at-test.false c.loop-at.invariant.4
+
+pub returns-clause-adds : goal.returns-clause-adds
+returns-clause-adds g c =
     let events = c.args.events.now in
     let kept = c.loop-at.invariant.2 in
     adds_same _ _
