@@ -2,16 +2,22 @@
 use Rattle.std.proofs.Common.{◌≡◌, ◌≤◌, ◌<◌, ◌+◌, ◌⊎◌, inl, inr, ℕ, List, [], ◌∷◌, ◌++◌, Bool, true, false, cond, Option, None, Some, IfSome, option_map, length, set, get_or, refl, ap, ap₂, sym, subst, ◌∙◌, arith, is_eq, get_or-set_same, get_or-set_other}
 use Rattle.std.proofs.lemmas.Bool.{true≢false, cases_eq, cases_lt}
 use Rattle.std.proofs.lemmas.List.{get_or_append_left, get_or_default, get_or_past, get_or_push, length-set, length_push}
+use Rattle.std.proofs.lemmas.List.Sums.{sum_by-cons}
+use Rattle.std.specs.BTreeMap.{is_at}
+use Rattle.std.specs.List.Sorted.{IsStrictlySortedBy}
+use Rattle.std.specs.Map.{remove_entry}
 use Rattle.std.proofs.lemmas.Option.{none-some, same_Some}
 use Rattle.je_order.specs.Order.{name_cmp}
 use Rattle.je_order.specs.declared.name.Name.{Name}
-use Rattle.record_map.specs.Cells.{value_at}
+use Rattle.record_map.specs.Cells.{value_at, IsRising}
 use Rattle.record_map.proofs.NameLaws.{same_or_other, name_same, other_stays, same_gets}
 use Rattle.tree_nodes.specs.declared.node.Node.{Node}
 use Rattle.tree_nodes.specs.Nodes.{ArePlaces, is_dirty, is_due, node_at, no_node, noted_as, placed}
-use Rattle.tree_nodes.specs.Noted.{IsNextDue, NoneDue}
-use Rattle.tree_nodes.specs.Due.{AreDue, IsLeastNumber, due_number, name_in, number_in, without}
-use Rattle.tree_nodes.proofs.Places.{HasNoPlace, HasPlace, read_at, sets_places, value_placed}
+use Rattle.tree_nodes.specs.Noted.{IsNextDue, NoneDue, count_due}
+use Rattle.tree_nodes.specs.Due.{AreDue, IsLeastNumber, count_numbers, due_number, name_in, number_in, without}
+use Rattle.tree_nodes.proofs.Places.{HasNoPlace, HasPlace, read_at, sets_places, takes_places, value_placed}
+use Rattle.tree_nodes.proofs.RisingLists.{found_between, none_behind}
+use Rattle.tree_nodes.proofs.LeastNumbers.{count_no, count_set, one_if}
 
 -- ---- the next one
 
@@ -279,3 +285,51 @@ pub noted_is : (nodes : List Node) (k : ℕ) (first second m : Node) (b : Bool) 
     m ≡ noted_as (is_dirty (node_at nodes k)) (node_at nodes k)
 noted_is nodes k first second m b within at again is made =
     made ∙ ap₂ (λ (t : Bool) (n : Node). noted_as t n) (is ∙ ap is_dirty (read_at nodes k first within at)) (read_at nodes k second within again)
+
+-- ---- how many
+
+abbrev one_due_if : Name × Node → ℕ
+one_due_if e = cond (is_due e.1) 1 0
+
+abbrev one_where : Bool → ℕ
+one_where b = cond b 1 0
+
+one_due : (x : Name) (n : Node) → one_if (due_number (Some x) n) ≡ one_due_if (x, n)
+one_due x n = by_test (is_due n)
+  where
+    by_test : (b : Bool) → one_if (cond b (Some n.number) None) ≡ one_where b
+    by_test true = refl
+    by_test false = refl
+
+-- the lows behind the first one are those without it
+tail_has : (e : Name × ℕ) (lows : List (Name × ℕ)) → IsRising (e ∷ lows) → HasNoPlace (e ∷ lows) lows e.0
+unfolding IsStrictlySortedBy
+tail_has e lows up x = by_name (same_or_other x e.0) (same_or_other e.0 x)
+  where
+    by_name : (x ≡ e.0) ⊎ (is_eq (name_cmp x e.0) ≡ false) → (e.0 ≡ x) ⊎ (is_eq (name_cmp e.0 x) ≡ false) → value_at x lows ≡ cond (is_eq (name_cmp e.0 x)) None (value_at x (e ∷ lows))
+    by_name (inl same) other =
+        subst (λ (y : Name). value_at y lows ≡ cond (is_eq (name_cmp e.0 y)) None (value_at y (e ∷ lows))) (sym same) (none_behind e.0 lows up.0 ∙ sym (same_gets e.0 None (value_at e.0 (e ∷ lows))))
+    by_name (inr apart) (inl same) = absurd (true≢false (sym (ap is_eq (name_same e.0)) ∙ subst (λ (y : Name). is_eq (name_cmp y e.0) ≡ false) (sym same) apart))
+    by_name (inr apart) (inr behind) = sym (other_stays x e.0 (Some e.1) (value_at x lows) apart) ∙ sym (other_stays e.0 x None (value_at x (e ∷ lows)) behind)
+
+tail_rises : (e : Name × ℕ) (lows : List (Name × ℕ)) → IsRising (e ∷ lows) → IsRising lows
+unfolding IsStrictlySortedBy
+tail_rises e lows up = up.1
+
+pub count_is : (lows : List (Name × ℕ)) (nodes : List Node) (names : List (Option Name)) (due : List (Option ℕ)) → AreDue lows nodes names due → count_due (placed lows nodes) ≡ count_numbers due
+count_is [] nodes names due are = sym (count_no due (λ i. are.numbers i ∙ by_name i (name_in names i) refl))
+  where
+    by_name : (i : ℕ) (o : Option Name) → name_in names i ≡ o → due_number o (node_at nodes i) ≡ None
+    by_name i None named = refl
+    by_name i (Some x) named = absurd (none-some i (are.here x i named))
+count_is (e ∷ lows) nodes names due are =
+    let there : value_at e.0 (e ∷ lows) ≡ Some e.1 = found_between [] e lows are.places.rising in
+    let has : HasNoPlace (e ∷ lows) lows e.0 = tail_has e lows are.places.rising in
+    let tail : ArePlaces lows nodes = takes_places (e ∷ lows) lows nodes e.0 are.places has (sym (same_gets e.0 lows (e ∷ remove_entry (is_at (name_cmp e.0)) lows))) (tail_rises e lows are.places.rising) in
+    let rest : count_due (placed lows nodes) ≡ count_numbers (set due e.1 None) = count_is lows nodes (set names e.1 None) (set due e.1 None) (due_taken (e ∷ lows) lows nodes names due e.0 e.1 are there has tail) in
+    let within : e.1 < length nodes = are.places.within e.0 e.1 there in
+    let covers = are.covers in
+    let one : one_if (number_in due e.1) ≡ one_due_if (e.0, node_at nodes e.1) = ap one_if (number_at (e ∷ lows) nodes names due are e.0 e.1 there) ∙ one_due e.0 (node_at nodes e.1) in
+    let all = count_set due e.1 None (omega (arith, within, covers)) in
+    let first = sum_by-cons one_due_if (e.0, node_at nodes e.1) (placed lows nodes) in
+    omega (arith, rest, one, all, first)

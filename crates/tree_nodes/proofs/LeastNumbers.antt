@@ -1,10 +1,11 @@
 -- The least of numbers by their places.
-use Rattle.std.proofs.Common.{◌≡◌, ◌≤◌, ◌<◌, ◌+◌, ◌*◌, ◌-◌, ◌/◌, ◌⊎◌, inl, inr, ℕ, zero, suc, List, [], ◌∷◌, ◌++◌, Bool, true, false, cond, Option, None, Some, option_map, length, set, get_or, nat_lt, refl, ap, ap₂, sym, subst, ◌∙◌, arith, get_or-set_same, get_or-set_other}
+use Rattle.std.proofs.Common.{◌≡◌, ◌≤◌, ◌<◌, ◌+◌, ◌*◌, ◌-◌, ◌/◌, ◌⊎◌, inl, inr, ℕ, zero, suc, List, [], ◌∷◌, ◌++◌, Bool, true, false, cond, Option, None, Some, is_some, option_map, length, set, get_or, nat_lt, refl, ap, ap₂, sym, subst, ◌∙◌, arith, get_or-set_same, get_or-set_other}
 use Rattle.std.proofs.lemmas.Bool.{true≢false, cases_eq, cases_lt}
 use Rattle.std.proofs.lemmas.Bool.Decides.{nat_tests}
 use Rattle.std.proofs.lemmas.List.{get_or_past, length-set, length_push, set-get_or}
+use Rattle.std.proofs.lemmas.List.Sums.{count_by-le-length, sum_by-append, sum_by-cons, sum_by-set}
 use Rattle.std.proofs.lemmas.Option.{none-some, same_Some}
-use Rattle.tree_nodes.specs.Due.{AreLeast, AreLeastBut, IsLeastNumber, found_in, least_at, lesser, number_in, own_in}
+use Rattle.tree_nodes.specs.Due.{AreLeast, AreLeastBut, IsLeastNumber, count_numbers, found_in, least_at, lesser, number_in, own_in}
 
 -- ---- a number changes
 
@@ -79,6 +80,62 @@ pub one_more : (numbers kept new : List (Option ℕ)) (least kept_least new_leas
 one_more numbers kept new least kept_least new_least same is same_least is_least are =
     subst (λ (l : List (Option ℕ)). AreLeast l new_least) (sym (is ∙ ap (λ (l : List (Option ℕ)). l ++ None ∷ []) same))
     (subst (λ (l : List (Option (ℕ × ℕ))). AreLeast (numbers ++ None ∷ []) l) (sym (is_least ∙ ap (λ (l : List (Option (ℕ × ℕ))). l ++ None ∷ []) same_least)) (more numbers least are))
+
+-- ---- how many
+
+-- one number, or none
+abbrev pub one_if : Option ℕ → ℕ
+one_if o = cond (is_some o) 1 0
+
+pub count_set : (numbers : List (Option ℕ)) (place : ℕ) (n : Option ℕ) → place < length numbers → count_numbers (set numbers place n) + one_if (number_in numbers place) ≡ count_numbers numbers + one_if n
+count_set numbers place n within = sum_by-set one_if numbers place n None within
+
+-- with one number more or less, or as many
+pub count_stays : (numbers : List (Option ℕ)) (place count a b : ℕ) → place < length numbers → count ≡ count_numbers numbers → number_in numbers place ≡ Some a → count ≡ count_numbers (set numbers place (Some b))
+count_stays numbers place count a b within is was =
+    let all = count_set numbers place (Some b) within in
+    let one : one_if (number_in numbers place) ≡ 1 = ap one_if was in
+    omega (arith, all, one, is)
+
+pub count_none : (numbers : List (Option ℕ)) (place count : ℕ) → place < length numbers → count ≡ count_numbers numbers → number_in numbers place ≡ None → count ≡ count_numbers (set numbers place None)
+count_none numbers place count within is was =
+    let all = count_set numbers place None within in
+    let one : one_if (number_in numbers place) ≡ 0 = ap one_if was in
+    omega (arith, all, one, is)
+
+pub count_less : (numbers : List (Option ℕ)) (place count a : ℕ) → place < length numbers → count ≡ count_numbers numbers → number_in numbers place ≡ Some a → (1 ≤ count) × (count - 1 ≡ count_numbers (set numbers place None))
+count_less numbers place count a within is was =
+    let all = count_set numbers place None within in
+    let one : one_if (number_in numbers place) ≡ 1 = ap one_if was in (
+      omega (arith, all, one, is),
+      omega (arith, all, one, is),
+    )
+
+pub count_more : (numbers : List (Option ℕ)) (place count b : ℕ) → place < length numbers → count ≡ count_numbers numbers → number_in numbers place ≡ None → (count + 1 ≤ length numbers) × (count + 1 ≡ count_numbers (set numbers place (Some b)))
+count_more numbers place count b within is was =
+    let all = count_set numbers place (Some b) within in
+    let one : one_if (number_in numbers place) ≡ 0 = ap one_if was in
+    let most = count_by-le-length is_some (set numbers place (Some b)) in
+    let size = length-set numbers place (Some b) in (
+      omega (arith, all, one, is, most, size),
+      omega (arith, all, one, is),
+    )
+
+-- a place without a number more
+pub count_push : (numbers kept new : List (Option ℕ)) (count : ℕ) → kept ≡ numbers → new ≡ kept ++ None ∷ [] → count ≡ count_numbers numbers → count ≡ count_numbers new
+count_push numbers kept new count same is all =
+    let made : count_numbers new ≡ count_numbers (numbers ++ None ∷ []) = ap (λ (l : List (Option ℕ)). count_numbers l) (is ∙ ap (λ (l : List (Option ℕ)). l ++ None ∷ []) same) in
+    let split = sum_by-append one_if numbers (None ∷ []) in
+    omega (arith, made, split, all)
+
+-- no number
+pub count_no : (numbers : List (Option ℕ)) → ((i : ℕ) → number_in numbers i ≡ None) → count_numbers numbers ≡ 0
+count_no [] none = refl
+count_no (x ∷ numbers) none =
+    let first : one_if x ≡ 0 = ap one_if (none 0) in
+    let rest : count_numbers numbers ≡ 0 = count_no numbers (λ i. none (suc i)) in
+    let split = sum_by-cons one_if x numbers in
+    omega (arith, first, rest, split)
 
 -- ---- the least one stands at the first place
 

@@ -1,5 +1,6 @@
 -- The numbers of due nodes by their places, and how the least of them is found.
-use Rattle.std.specs.Prelude.{◌≡◌, ◌≤◌, ◌+◌, ◌*◌, ℕ, nat_lt, List, Option, None, Some, length, option_map, set, slice_index_or, if◌then◌else◌}
+use Rattle.std.specs.Prelude.{◌≡◌, ◌≤◌, ◌+◌, ◌*◌, ℕ, nat_lt, List, Option, None, Some, is_some, length, option_map, set, slice_index_or, if◌then◌else◌}
+use Rattle.std.specs.List.{count_by}
 use Rattle.je_order.specs.declared.name.Name.{Name}
 use Rattle.record_map.specs.Cells.{value_at}
 use Rattle.tree_nodes.specs.declared.node.Node.{Node}
@@ -49,6 +50,15 @@ pub record IsLeastNumber (numbers : List (Option ℕ)) (place : ℕ) : Type 0 wh
 abbrev pub IsLeastOf : List (Option ℕ) → Option ℕ → Type 0
 IsLeastOf numbers None = (i : ℕ) → number_in numbers i ≡ None
 IsLeastOf numbers (Some place) = IsLeastNumber numbers place
+
+-- how many numbers there are
+abbrev pub count_numbers : List (Option ℕ) → ℕ
+count_numbers numbers = count_by is_some numbers
+
+-- the least ones are found for all places, and there are so many numbers
+pub record AreFound (numbers : List (Option ℕ)) (least : List (Option (ℕ × ℕ))) (count : ℕ) : Type 0 where
+  pub found : AreLeast numbers least
+  pub counted : count ≡ count_numbers numbers
 
 -- ---- the due nodes of a level
 

@@ -1,6 +1,6 @@
 // The numbers of the due nodes of a level, by their places.
 ghost use Rattle.std.specs.Prelude.{◌≡◌, ◌<◌, ◌≤◌, ◌++◌, ◌∷◌, ℕ, [], None, Option, length, set, slice_index_or, true, vec_len, vec_capacity, OnOk};
-ghost use Rattle.tree_nodes.specs.Due.{AreLeast, AreLeastBut, IsLeastOf, least_at, lesser, number_in};
+ghost use Rattle.tree_nodes.specs.Due.{AreLeast, AreLeastBut, IsLeastOf, count_numbers, least_at, lesser, number_in};
 
 use std::alloc::{AllocError, Global};
 use std::marker::Model;
@@ -13,17 +13,19 @@ pub(crate) struct DueNumbers {
     numbers: Vec<Option<u64>>,
     /// For each place i the least of its number and of those that stand here at the places 2i + 1 and 2i + 2, with its place.
     least: Vec<Option<(u64, usize)>>,
+    /// How many places have a number.
+    count: usize,
 }
 
 impl Model for DueNumbers {
     ghost use Rattle.std.specs.Prelude.{ℕ, List as Items, Option as Maybe};
-    ghost use Rattle.tree_nodes.specs.Due.{AreLeast};
+    ghost use Rattle.tree_nodes.specs.Due.{AreFound};
 
     ghost Value = { Items (Maybe ℕ) };
 
     ghost view = { λ a. a.numbers.items };
 
-    ghost invariant = { λ a. AreLeast a.numbers.items a.least.items };
+    ghost invariant = { λ a. AreFound a.numbers.items a.least.items a.count };
 }
 
 // The lesser of two numbers with their places, where there are both.
@@ -90,6 +92,24 @@ fn is_same(a: Option<u64>, b: Option<u64>) -> bool
     }
 }
 
+// How many numbers there are once that of a place is set.
+fn recount(numbers: &[Option<u64>], count: usize, place: usize, number: Option<u64>) -> usize
+    requires within { place < length numbers.now }
+    requires count { count ≡ count_numbers numbers.now }
+    ensures { result ≡ count_numbers (set numbers.now place number) }
+{
+    match numbers[place] {
+        Some(_) => match number {
+            Some(_) => count,
+            None => count - 1,
+        },
+        None => match number {
+            Some(_) => count + 1,
+            None => count,
+        },
+    }
+}
+
 // Puts a place without a number behind the others, for which there is room.
 fn push_none(numbers: &mut Vec<Option<u64>>, least: &mut Vec<Option<(u64, usize)>>)
     requires room { vec_len numbers.old < vec_capacity numbers.old }
@@ -115,6 +135,7 @@ impl DueNumbers {
         DueNumbers {
             numbers: Vec::new(alloc),
             least: Vec::new(alloc),
+            count: 0,
         }
     }
 
@@ -125,7 +146,11 @@ impl DueNumbers {
         ensures longer { length self.old ≤ length self.new }
         ensures there { OnOk result (place < length self.new) }
     {
-        let DueNumbers { numbers, least } = self;
+        let DueNumbers {
+            numbers,
+            least,
+            count: _,
+        } = self;
         if place < numbers.as_slice().len() {
             return Ok(());
         }
@@ -140,10 +165,15 @@ impl DueNumbers {
         requires { place < length self.old }
         ensures { self.new ≡ set self.old place number }
     {
-        let DueNumbers { numbers, least } = self;
+        let DueNumbers {
+            numbers,
+            least,
+            count,
+        } = self;
         if is_same(numbers[place], number) {
             return;
         }
+        *count = recount(numbers.as_slice(), *count, place, number);
         numbers[place] = number;
         settle(numbers.as_slice(), least.as_mut_slice(), place);
     }
@@ -152,10 +182,21 @@ impl DueNumbers {
     pub(crate) fn least(&self) -> Option<usize>
         ensures { IsLeastOf self.now result }
     {
-        let DueNumbers { numbers: _, least } = self;
+        let DueNumbers {
+            numbers: _,
+            least,
+            count: _,
+        } = self;
         match at(least.as_slice(), 0) {
             Some((_, place)) => Some(place),
             None => None,
         }
+    }
+
+    /// How many places have a number.
+    pub(crate) fn count(&self) -> usize
+        ensures { result ≡ count_numbers self.now }
+    {
+        self.count
     }
 }

@@ -304,21 +304,6 @@ fn push_placed(
     note_due(nodes.as_slice(), names.as_slice(), due, place);
 }
 
-// How many of the nodes at the places of some lows are due.
-fn count_due(lows: &BTreeMap<SortKey, usize>, nodes: &[Node]) -> u64
-    requires { AllByRecursion (λ e. e.1 < length nodes.now) lows.now.entries }
-    ensures { result ≡ count_due (placed lows.now.entries nodes.now) }
-{
-    let _len = lows.len();
-    let mut count = 0u64;
-    for (_low, place) in lows {
-        if nodes[*place].is_due() {
-            count += 1;
-        }
-    }
-    count
-}
-
 // Notes the nodes of a level over the lows whose nodes are noted, of those at the places of some lows.
 fn note_parents(row: &mut Level, lows: &BTreeMap<SortKey, usize>, nodes: &[Node])
     requires least { IsSome (value_at least row.old) }
@@ -613,17 +598,17 @@ impl Level {
         }
     }
 
-    /// How many nodes are noted and dirty. It goes over the level.
+    /// How many nodes are noted and dirty.
     pub fn count_due(&self) -> u64
         ensures { result ≡ count_due self.now }
     {
         let Level {
-            lows,
-            nodes,
+            lows: _,
+            nodes: _,
             names: _,
-            due: _,
+            due,
         } = self;
-        count_due(lows, nodes.as_slice())
+        due.count() as u64
     }
 
     /// Whether a node waits to be logged, or its last image lacks what was logged before an LSN. It goes over the level.

@@ -333,7 +333,7 @@ impl Levels {
         None
     }
 
-    /// How many nodes are noted and dirty; None where these are 2^64 or more. It goes over all nodes.
+    /// How many nodes are noted and dirty; None where these are 2^64 or more. It goes over the levels.
     pub fn count_due(&self) -> Option<u64>
         ensures { IfSome result (λ count. count ≡ count_all_due self.now) }
     {
