@@ -90,37 +90,6 @@ one_if o = cond (is_some o) 1 0
 pub count_set : (numbers : List (Option ℕ)) (place : ℕ) (n : Option ℕ) → place < length numbers → count_numbers (set numbers place n) + one_if (number_in numbers place) ≡ count_numbers numbers + one_if n
 count_set numbers place n within = sum_by-set one_if numbers place n None within
 
--- with one number more or less, or as many
-pub count_stays : (numbers : List (Option ℕ)) (place count a b : ℕ) → place < length numbers → count ≡ count_numbers numbers → number_in numbers place ≡ Some a → count ≡ count_numbers (set numbers place (Some b))
-count_stays numbers place count a b within is was =
-    let all = count_set numbers place (Some b) within in
-    let one : one_if (number_in numbers place) ≡ 1 = ap one_if was in
-    omega (arith, all, one, is)
-
-pub count_none : (numbers : List (Option ℕ)) (place count : ℕ) → place < length numbers → count ≡ count_numbers numbers → number_in numbers place ≡ None → count ≡ count_numbers (set numbers place None)
-count_none numbers place count within is was =
-    let all = count_set numbers place None within in
-    let one : one_if (number_in numbers place) ≡ 0 = ap one_if was in
-    omega (arith, all, one, is)
-
-pub count_less : (numbers : List (Option ℕ)) (place count a : ℕ) → place < length numbers → count ≡ count_numbers numbers → number_in numbers place ≡ Some a → (1 ≤ count) × (count - 1 ≡ count_numbers (set numbers place None))
-count_less numbers place count a within is was =
-    let all = count_set numbers place None within in
-    let one : one_if (number_in numbers place) ≡ 1 = ap one_if was in (
-      omega (arith, all, one, is),
-      omega (arith, all, one, is),
-    )
-
-pub count_more : (numbers : List (Option ℕ)) (place count b : ℕ) → place < length numbers → count ≡ count_numbers numbers → number_in numbers place ≡ None → (count + 1 ≤ length numbers) × (count + 1 ≡ count_numbers (set numbers place (Some b)))
-count_more numbers place count b within is was =
-    let all = count_set numbers place (Some b) within in
-    let one : one_if (number_in numbers place) ≡ 0 = ap one_if was in
-    let most = count_by-le-length is_some (set numbers place (Some b)) in
-    let size = length-set numbers place (Some b) in (
-      omega (arith, all, one, is, most, size),
-      omega (arith, all, one, is),
-    )
-
 -- a place without a number more
 pub count_push : (numbers kept new : List (Option ℕ)) (count : ℕ) → kept ≡ numbers → new ≡ kept ++ None ∷ [] → count ≡ count_numbers numbers → count ≡ count_numbers new
 count_push numbers kept new count same is all =
