@@ -1,7 +1,7 @@
 -- Entries by their LSNs.
-use Rattle.std.proofs.Common.{◌≡◌, ◌≢◌, ◌<◌, ◌≤◌, ◌+◌, ◌==◌, ◌⊎◌, ℕ, zero, suc, cond, List, [], ◌∷◌, ◌++◌, map, Bool, true, false, None, Some, Ok, Err, nat_cmp, length, drop, get_or, refl, sym, ap, subst, ◌∙◌, arith, inl, inr, append_assoc}
+use Rattle.std.proofs.Common.{◌≡◌, ◌≢◌, ◌<◌, ◌≤◌, ◌==◌, ◌⊎◌, ℕ, zero, suc, cond, List, [], ◌∷◌, map, Bool, true, false, None, Some, Ok, Err, nat_cmp, length, get_or, refl, sym, subst, ◌∙◌, arith, inl, inr}
 use Rattle.std.proofs.lemmas.Bool.{cond-true, cond-false, ne_eqb, eq-eqb, cases_lt}
-use Rattle.std.proofs.lemmas.List.{drop_more, length-map}
+use Rattle.std.proofs.lemmas.List.{length-map}
 use Rattle.std.proofs.lemmas.List.Sorted.{searched}
 use Rattle.std.specs.List.{AllByRecursion}
 use Rattle.std.specs.List.Sorted.{IsBinarySearchResult}
@@ -11,14 +11,6 @@ use Rattle.log_trees.specs.Placed.{Placed, AreInOrder, entry_at}
 -- the LSNs of entries
 abbrev pub lsns_of : List Placed → List ℕ
 lsns_of es = map (λ (p : Placed). p.0) es
-
--- the LSN of one entry more was taken
-pub one_more : (taken : List ℕ) (es : List Placed) (i : ℕ) (p : Placed) → i < length es → p ≡ get_or es i p → taken ++ lsns_of (drop i es) ≡ lsns_of es → (taken ++ p.0 ∷ []) ++ lsns_of (drop (i + 1) es) ≡ lsns_of es
-one_more taken es i p lt is so_far =
-    append_assoc taken (p.0 ∷ []) (lsns_of (drop (i + 1) es))
-    ∙ ap (λ (q : Placed). taken ++ q.0 ∷ lsns_of (drop (i + 1) es)) is
-    ∙ ap (λ (l : List Placed). taken ++ lsns_of l) (sym (drop_more es i p lt))
-    ∙ so_far
 
 -- an item that is there is the same whatever stands for one that is not
 pub any_default : {A : Type 0} (a b : A) (xs : List A) (i : ℕ) → i < length xs → get_or xs i a ≡ get_or xs i b

@@ -9,6 +9,7 @@ mod checkpoint_end;
 mod descending;
 mod finishing;
 mod gaps;
+mod giving_back;
 mod images;
 mod indexed;
 mod indexes;

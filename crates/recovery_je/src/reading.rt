@@ -11,6 +11,7 @@ ghost use Rattle.log_replay.specs.declared.corruption.Corruption.TheVariants.{Da
 ghost use Rattle.log_replay.specs.Reading.{corruption_behind, lsn_at};
 ghost use Rattle.recovery_je.specs.Files.{IsReadOf, IsFileRead, AreRead};
 
+use crate::giving_back::give_back;
 use crate::placed_entry::PlacedEntry;
 use je_disk::{Disk, DiskErr};
 use je_lsn::{FileNo, Lsn};
@@ -120,13 +121,16 @@ fn push_entry(placed: &mut Vec<PlacedEntry>, at: Lsn, entry: Entry) -> Result<()
     Ok(())
 }
 
-// Puts the entries of a file behind the others, each with its LSN.
+// Puts the entries of a file behind the others, each with its LSN. The room that it had in the file's list is free again soon after it.
 fn hold(placed: &mut Vec<PlacedEntry>, f: FileNo, entries: List<Entry>) -> Result<(), AllocError>
     requires { AreFileEntries entries }
     ensures { OnOk result (placed.new.items ≡ placed.old.items ++ placed_from f.0 26 entries) }
 {
+    let mut left = entries.into_vec();
+    left.reverse();
     let mut at = HEADER_BYTES;
-    for entry in entries.into_vec() {
+    while let Some(entry) = left.pop() {
+        give_back(&mut left);
         let len = size(&entry);
         push_entry(placed, Lsn::new(f, at), entry)?;
         at += len;

@@ -104,7 +104,7 @@ fn redo_corruption(files: &[FileNo], end: &Option<CheckpointEnd>) -> Option<Corr
 fn read_trees<T: Loads + Drop>(
     alloc: Global,
     files: &[FileNo],
-    entries: &[PlacedEntry],
+    entries: &Indexed<'_>,
     end: &CheckpointEnd,
     corruption: Option<Corruption>,
     trees: T,
@@ -117,9 +117,7 @@ fn read_trees<T: Loads + Drop>(
     ensures right { IfOk result (λ walked. corruption ≡ None) }
     ensures found { IfErr result (λ e. IsFoundBy e (λ c. and_then (read_roots_of (map (λ f. f.0) files.now) entries.now end.now.at end.now.roots) (λ walk. unless corruption (Ok walk)) ≡ Err c)) }
 {
-    let indexed = Indexed::new(alloc, entries)?;
-    let walked = read_roots(alloc, files, &indexed, end, trees)?;
-    drop(indexed);
+    let walked = read_roots(alloc, files, entries, end, trees)?;
     match corruption {
         Some(corruption) => {
             drop(walked);
@@ -149,13 +147,15 @@ pub(crate) fn recover_entries<T: Loads + Drop>(
     let end = last_end(alloc, &entries)?;
     let corruption = redo_corruption(files, &end);
     let end = or_none(alloc, end);
-    let walked = read_trees(alloc, files, &entries, &end, corruption, trees)?;
+    let indexed = Indexed::new(alloc, &entries)?;
+    let walked = read_trees(alloc, files, &indexed, &end, corruption, trees)?;
+    let redone = count_from(&indexed, end.redo);
+    drop(indexed);
     let Walked {
         mut trees,
         numbers: in_trees,
     } = walked;
     let numbers = Numbers::of(&entries, end.redo);
-    let redone = count_from(&entries, end.redo);
     let from = redo_begin(files, end.redo);
     let last_node = end.last_node.max(in_trees.node.max(numbers.node));
     trees.begin_redo(last_node, from);

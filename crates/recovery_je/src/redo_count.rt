@@ -3,17 +3,16 @@ ghost use Rattle.std.specs.Prelude.{◌≡◌, nat_le};
 ghost use Rattle.std.specs.List.{count_by};
 ghost use Rattle.recovery_je.specs.Putting.{count_from as counted_from};
 
-use crate::placed_entry::PlacedEntry;
-use crate::walking::are_whole;
+use crate::indexed::Indexed;
 use je_lsn::Lsn;
 
-// How many entries stand at an LSN or behind it.
-fn count_behind(entries: &[PlacedEntry], redo: Lsn) -> u64
-    ensures { result ≡ count_by (λ p. nat_le redo p.0) entries.now }
+// How many LSNs are this one or behind it.
+fn count_behind(lsns: &[u64], redo: Lsn) -> u64
+    ensures { result ≡ count_by (nat_le redo) lsns.now }
 {
     let mut count = 0u64;
-    for placed in entries {
-        if redo.as_u64() <= placed.at.as_u64() {
+    for at in lsns {
+        if redo.as_u64() <= *at {
             count += 1;
         }
     }
@@ -22,12 +21,12 @@ fn count_behind(entries: &[PlacedEntry], redo: Lsn) -> u64
 
 /// How many entries count for the nodes that are made where those from an LSN on are redone: these; or all, where one is a
 /// delta, since then each node that was read waits to be logged.
-pub(crate) fn count_from(entries: &[PlacedEntry], redo: Lsn) -> u64
+pub(crate) fn count_from(entries: &Indexed<'_>, redo: Lsn) -> u64
     ensures { result ≡ counted_from redo entries.now }
 {
-    if are_whole(entries) {
-        count_behind(entries, redo)
+    if entries.whole {
+        count_behind(entries.lsns.as_slice(), redo)
     } else {
-        entries.len() as u64
+        entries.entries.len() as u64
     }
 }

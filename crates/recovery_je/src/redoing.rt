@@ -7,6 +7,7 @@ ghost use Rattle.log_trees.specs.Placed.{Placed};
 ghost use Rattle.recovery_je.specs.Putting.{IsLogged, IsIn, FitsRedo, first_lsn};
 ghost use Rattle.recovery_je.specs.Redoing.{HasMade, IsRedoAt, named_by};
 
+use crate::giving_back::give_back;
 use crate::placed_entry::PlacedEntry;
 use crate::waiting::Waiting;
 use crate::waiting_change::WaitingChange;
@@ -19,9 +20,6 @@ use std::alloc::Global;
 
 /// The number of the catalog, whose records are the other databases' names and numbers.
 const CATALOG: u32 = 0;
-
-// How many items are taken before their room is given back.
-const GIVEN_BACK: usize = 4096;
 
 /// A redo under way: the trees, and the changes that wait for their transactions' commits. After an error
 /// nothing is known of the trees.
@@ -98,15 +96,6 @@ fn first_of(changes: &[WaitingChange]) -> Lsn
     match changes {
         [first, ..] => first.at,
         [] => Lsn::from_u64(0),
-    }
-}
-
-// Gives the room back that items took which are gone, each time that so many are.
-fn give_back<T>(left: &mut Vec<T>)
-    ensures { left.new.items ≡ left.old.items }
-{
-    if left.len() % GIVEN_BACK == 0 {
-        left.shrink_to_fit();
     }
 }
 

@@ -15,7 +15,7 @@ use crate::descending::read_node;
 use crate::images::{nowhere, read_image};
 use crate::indexed::Indexed;
 use crate::read_err::ReadErr;
-use crate::walking::{Walking, are_whole};
+use crate::walking::Walking;
 use je_lsn::{FileNo, Lsn};
 use je_order::{Name, Octets};
 use log_entry::Root;
@@ -164,7 +164,7 @@ pub(crate) fn read_roots<T: Loads + Drop>(
     let least = least_of_all(alloc);
     let mut walking = Walking {
         trees,
-        keeps: are_whole(entries.entries),
+        keeps: entries.whole,
         seen: BTreeSet::new(alloc),
         node: 0,
         db: 0,

@@ -1,6 +1,6 @@
 // Reading trees.
-ghost use Rattle.std.specs.Prelude.{◌≡◌, ◌≤◌, ◌-◌, ℕ, not, IsSome, OnOk, map, option_map, option_copied};
-ghost use Rattle.std.specs.List.{AllByRecursion, flat_map, list_all};
+ghost use Rattle.std.specs.Prelude.{◌≡◌, ◌≤◌, ◌-◌, ℕ, IsSome, OnOk, map, option_map, option_copied};
+ghost use Rattle.std.specs.List.{AllByRecursion, flat_map};
 ghost use Rattle.je_order.specs.declared.name.Name.{Name as Named};
 ghost use Rattle.log_entry.specs.Body.{IsEntry};
 ghost use Rattle.node_log.specs.Slots.{lsn_in};
@@ -11,14 +11,12 @@ ghost use Rattle.log_trees.specs.Trees.{data_in};
 ghost use Rattle.log_trees.specs.Walk.{Walk, each, met, with_record, read_record as record_at, read_here as node_here, may_stand as node_may_stand};
 ghost use Rattle.record_tree.specs.LoadedNodes.{AllNodes, node_read, HasPutNode};
 ghost use Rattle.record_tree.specs.LoadedSlots.{shows_deletion_inside, HasGone};
-ghost use Rattle.log_meaning.specs.ReadNodes.{is_delta};
-ghost use Rattle.recovery_je.specs.Putting.{HasPut, loaded, none_put, are_whole as are_all_whole};
+ghost use Rattle.recovery_je.specs.Putting.{HasPut, loaded, none_put};
 ghost use Rattle.recovery_je.specs.Walking.{Answers, IsWalking, GoesOn};
 
 use crate::images::{nowhere, read_image};
 use crate::indexed::Indexed;
 use crate::lookup::entry_at;
-use crate::placed_entry::PlacedEntry;
 use crate::read_err::ReadErr;
 use crate::redoing::number_in;
 use je_lsn::{FileNo, Lsn};
@@ -39,28 +37,6 @@ pub(crate) struct Walking<T> {
     pub(crate) seen: BTreeSet<u64>,
     pub(crate) node: u64,
     pub(crate) db: u32,
-}
-
-// Whether an entry is whole: it is no delta.
-fn is_whole(entry: &Entry) -> bool
-    ensures { result ≡ not (is_delta entry.now) }
-{
-    match entry {
-        Entry::BinDelta { .. } => false,
-        _ => true,
-    }
-}
-
-/// Whether each entry is whole.
-pub(crate) fn are_whole(entries: &[PlacedEntry]) -> bool
-    ensures { result ≡ are_all_whole entries.now }
-{
-    for placed in entries {
-        if !is_whole(&placed.entry) {
-            return false;
-        }
-    }
-    true
 }
 
 /// Puts a node that was read, whose names lie within these bounds.

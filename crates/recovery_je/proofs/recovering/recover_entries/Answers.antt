@@ -23,7 +23,7 @@ returns-in_err-settled-clause-found g c =
     let walk = c.in_ok-walked.ensures.read.0 in
     let before = g.T.Loads.stored c.in_ok-walked.walked.trees in
     let walked = subst (λ (k : Checkpoint). IsWalked files es k c.in_ok-walked.walked.numbers before walk) (sym c.end.view_is)
-    (subst (λ (l : List Placed). IsWalked files l c.or_none-end.result c.in_ok-walked.walked.numbers before walk) c.deref-2.ensures.value c.in_ok-walked.ensures.read.1) in
+    (subst (λ (l : List Placed). IsWalked files l c.or_none-end.result c.in_ok-walked.walked.numbers before walk) (c.in_ok-indexed.ensures ∙ c.deref-2.ensures.value) c.in_ok-walked.ensures.read.1) in
     let redo = behind walk.rows (redone e.redo es) in
     handed_on (IsWrong redo) (λ f. meaning_in files es ≡ Err f) c.from_residual-in_err-settled.result c.in_err-settled.field-0.0 c.from_residual-in_err-settled.ensures.1
     (c.in_err-settled.ensures.found redo (c.in_ok-trees.ensures.redone walk.rows (same_stored walk.rows before (g.T.Loads.stored c.begin_redo.new.self) c.begin_redo.ensures.stored walked.records)))
@@ -40,7 +40,7 @@ returns-clause-meant g c =
     let walk = c.in_ok-walked.ensures.read.0 in
     let before = g.T.Loads.stored c.in_ok-walked.walked.trees in
     let walked = subst (λ (k : Checkpoint). IsWalked files es k c.in_ok-walked.walked.numbers before walk) (sym c.end.view_is)
-    (subst (λ (l : List Placed). IsWalked files l c.or_none-end.result c.in_ok-walked.walked.numbers before walk) c.deref-2.ensures.value c.in_ok-walked.ensures.read.1) in
+    (subst (λ (l : List Placed). IsWalked files l c.or_none-end.result c.in_ok-walked.walked.numbers before walk) (c.in_ok-indexed.ensures ∙ c.deref-2.ensures.value) c.in_ok-walked.ensures.read.1) in
     let redo = behind walk.rows (redone e.redo es) in
     meant files es e c.redo_corruption-corruption.result c.in_ok-walked.walked.numbers before (g.T.Loads.stored c.in_ok-settled.settled.trees) (g.T.Loads.has_tree c.in_ok-settled.settled.trees) c.in_ok-settled.settled.opening
     c.in_ok-settled.settled.databases c.in_ok-settled.settled.records c.max-2.result c.max-last_node.result c.max-5.result walk at right c.in_ok-walked.ensures.right walked
@@ -59,7 +59,7 @@ returns-clause-redone g c =
     let e : Checkpoint = record { at = c.end.inside.at; number = c.end.inside.number; redo = c.end.inside.redo; last_txn = c.end.inside.last_txn; last_node = c.end.inside.last_node; last_db = c.end.inside.last_db; roots = c.end.inside.roots } in
     let found_end : c.in_ok-end.end ≡ last_end es = c.in_ok-end.ensures ∙ ap last_end c.deref.ensures.value in
     let at : e ≡ last_checkpoint es = c.end.view_is ∙ c.or_none-end.ensures ∙ ap (λ (o : Option Checkpoint). unwrap_or o no_checkpoint) found_end in
-    c.count_from-redone.ensures ∙ ap (λ (l : List Placed). count_from e.redo l) c.deref-4.ensures.value ∙ ap (λ (k : Checkpoint). count_from k.redo es) at
+    c.count_from-redone.ensures ∙ ap (λ (l : List Placed). count_from e.redo l) (c.in_ok-indexed.ensures ∙ c.deref-2.ensures.value) ∙ ap (λ (k : Checkpoint). count_from k.redo es) at
 
 pub returns-clause-fits : goal.returns-clause-fits
 returns-clause-fits g c =
@@ -76,9 +76,9 @@ returns-clause-fits g c =
     let begun = state c.args.trees in
     let read = c.begin_redo.new.self in
     let walked = subst (λ (k : Checkpoint). IsWalked files es k numbers before walk) (sym c.end.view_is)
-    (subst (λ (l : List Placed). IsWalked files l c.or_none-end.result numbers before walk) c.deref-2.ensures.value c.in_ok-walked.ensures.read.1) in
+    (subst (λ (l : List Placed). IsWalked files l c.or_none-end.result numbers before walk) (c.in_ok-indexed.ensures ∙ c.deref-2.ensures.value) c.in_ok-walked.ensures.read.1) in
     let put = subst (λ (k : Checkpoint). AreRootsPut es k.roots numbers.node begun after) (sym c.end.view_is)
-    (subst (λ (l : List Placed). AreRootsPut l c.or_none-end.result.roots numbers.node begun after) c.deref-2.ensures.value c.in_ok-walked.ensures.nodes) in
+    (subst (λ (l : List Placed). AreRootsPut l c.or_none-end.result.roots numbers.node begun after) (c.in_ok-indexed.ensures ∙ c.deref-2.ensures.value) c.in_ok-walked.ensures.nodes) in
     let first = c.max.ensures in
     let next = c.max-last_node.ensures in
     let le : numbers.node ≤ c.max-last_node.result = omega (arith, first, next) in

@@ -38,7 +38,7 @@ returns-clause-nodes g c =
     let after = c.read_each.new.walking in
     let roots : c.as_slice.result.now ≡ c.args.end.now.roots = c.as_slice.ensures ∙ ap (λ (k : Checkpoint). k.roots) c.end.view_is in
     record {
-      keeps = c.are_whole.result;
-      whole = λ t. all_whole es (sym (c.are_whole.ensures ∙ ap are_whole c.entries.view_is) ∙ t);
-      put = λ most le. subst (λ (l : List Root). AreLoadedEach (IsRootLoaded es c.are_whole.result most) l (loaded g.T.Loads.nodes g.T.Loads.read c.args.trees) (loaded g.T.Loads.nodes g.T.Loads.read after.trees)) roots (c.in_ok-read_each.ensures.nodes.puts most le);
+      keeps = c.entries.inside.whole;
+      whole = λ t. all_whole es (sym (c.entries.invariant.1 ∙ ap are_whole c.entries.view_is) ∙ t);
+      put = λ most le. subst (λ (l : List Root). AreLoadedEach (IsRootLoaded es c.entries.inside.whole most) l (loaded g.T.Loads.nodes g.T.Loads.read c.args.trees) (loaded g.T.Loads.nodes g.T.Loads.read after.trees)) roots (c.in_ok-read_each.ensures.nodes.puts most le);
     }
