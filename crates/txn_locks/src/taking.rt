@@ -1,15 +1,16 @@
 // Taking what a call needs, one need after another.
-ghost use Rattle.std.specs.Prelude.{◌≡◌, ◌<◌, ◌++◌, ◌∷◌, [], None, Some, reverse, vec_len, vec_capacity, IfOk, OnOk, OnErr};
+ghost use Rattle.std.specs.Prelude.{◌≡◌, ◌<◌, ◌++◌, ◌∷◌, [], true, None, Some, reverse, vec_len, vec_capacity, IfOk, OnOk, OnErr};
 ghost use Rattle.std.specs.Option.{IfNone, IfSome};
 ghost use Rattle.std.specs.List.{slice_get};
+ghost use Rattle.je_order.specs.declared.txn_id.TxnId.{TxnId};
+ghost use Rattle.lock_mode.specs.declared.lock_type.LockType.TheVariants.{RangeInsert};
 ghost use Rattle.lock_table.specs.Table.{pending_at};
 ghost use Rattle.lock_mgr.specs.Deadlock.{NoDeadlock};
 ghost use Rattle.store_model.specs.declared.isolation.Isolation.{Isolation};
 ghost use Rattle.je_answers.specs.Standing.{LockState};
-ghost use Rattle.je_answers.specs.Locking.{record_of};
-ghost use Rattle.txn_locks.specs.declared.got.Got.{Got};
-ghost use Rattle.txn_locks.specs.Taking.{state_of, stop_of, IsTurn, IsLocked, IfAnswered};
-ghost use Rattle.txn_locks.specs.Undoing.{IsOneGot, AreGot, HasNoRead, AreReadsAmong};
+ghost use Rattle.je_answers.specs.Locking.{record_of, owner_before};
+ghost use Rattle.txn_locks.specs.Taking.{state_of, with_got, stop_of, IsTurn, IsLocked, IfAnswered};
+ghost use Rattle.txn_locks.specs.Undoing.{HasGot, AreGot, HasNoRead, AreReadsAmong};
 
 use crate::undoing::give_back_all;
 use crate::{Got, Locked};
@@ -55,7 +56,25 @@ fn note_got(got: &mut Vec<Got>, stop: &Option<Locked>, at: RecordId, was: Option
     }
 }
 
-// Asks for one need, at this place of the list. Running out of memory changes nothing.
+// Whether the type is RANGE_INSERT.
+fn is_insert(asked: LockType) -> bool
+    ensures { result ≡ true → asked ≡ RangeInsert }
+{
+    matches!(asked, LockType::RangeInsert)
+}
+
+// Whether a need asks for RANGE_INSERT, and no owner has a lock of a range type: nobody is in its way, and it
+// would hold nothing.
+fn is_free_insert(locks: &LockMgr, need: &Need) -> bool
+    ensures { result ≡ true → (t : TxnId) → (owner_before t need.now (state_of locks.now).at ≡ None) × (state_of locks.now ≡ with_got t need.now (state_of locks.now)) }
+{
+    if !is_insert(need.asked) {
+        return false;
+    }
+    !locks.has_ranges()
+}
+
+// Takes one need, at this place of the list. Running out of memory changes nothing.
 fn take_one(
     locks: &mut LockMgr,
     got: &mut Vec<Got>,
@@ -67,7 +86,30 @@ fn take_one(
 ) -> Result<Option<Locked>, AllocError>
     requires { pending_at txn locks.old ≡ None }
     ensures turn { IfOk result (λ stop. IsTurn stop txn need.now place wait (state_of locks.old) (state_of locks.new)) }
-    ensures got { IfOk result (λ stop. IfNone stop ((g : Got) × (g.at ≡ record_of need.now) × (got.new.items ≡ got.old.items ++ g ∷ []) × IsOneGot txn g (state_of locks.old) (state_of locks.new))) }
+    ensures got { IfOk result (λ stop. IfNone stop (HasGot txn need.now got.old.items got.new.items (state_of locks.old) (state_of locks.new))) }
+    ensures kept { IfOk result (λ stop. IfSome stop (λ locked. got.new.items ≡ got.old.items)) }
+    ensures err { OnErr result (state_of locks.new ≡ state_of locks.old) }
+    ensures err_got { OnErr result (got.new.items ≡ got.old.items) }
+{
+    if is_free_insert(locks, need) {
+        return Ok(None);
+    }
+    ask_one(locks, got, alloc, txn, need, place, wait)
+}
+
+// Asks for one need, at this place of the list. Running out of memory changes nothing.
+fn ask_one(
+    locks: &mut LockMgr,
+    got: &mut Vec<Got>,
+    alloc: Global,
+    txn: TxnId,
+    need: &Need,
+    place: usize,
+    wait: bool,
+) -> Result<Option<Locked>, AllocError>
+    requires { pending_at txn locks.old ≡ None }
+    ensures turn { IfOk result (λ stop. IsTurn stop txn need.now place wait (state_of locks.old) (state_of locks.new)) }
+    ensures got { IfOk result (λ stop. IfNone stop (HasGot txn need.now got.old.items got.new.items (state_of locks.old) (state_of locks.new))) }
     ensures kept { IfOk result (λ stop. IfSome stop (λ locked. got.new.items ≡ got.old.items)) }
     ensures err { OnErr result (state_of locks.new ≡ state_of locks.old) }
     ensures err_got { OnErr result (got.new.items ≡ got.old.items) }

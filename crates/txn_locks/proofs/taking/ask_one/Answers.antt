@@ -3,7 +3,7 @@ use Rattle.lock_table.specs.declared.record_id.RecordId.{RecordId}
 use Rattle.txn_locks.specs.declared.locked.Locked.{Locked}
 use Rattle.txn_locks.specs.Taking.{state_of, IsTurn}
 use Rattle.txn_locks.proofs.Asking.{IsRequested, turn_is, got_noted}
-use Rattle.txn_locks.proofs.taking.take_one.Goals as goal
+use Rattle.txn_locks.proofs.taking.ask_one.Goals as goal
 
 pub returns-clause-turn : goal.returns-clause-turn
 returns-clause-turn c =
