@@ -9,7 +9,7 @@ ghost use Rattle.lock_mgr.specs.Deadlock.{NoDeadlock};
 ghost use Rattle.store_model.specs.declared.isolation.Isolation.{Isolation};
 ghost use Rattle.je_answers.specs.Standing.{LockState};
 ghost use Rattle.je_answers.specs.Locking.{record_of, owner_before};
-ghost use Rattle.txn_locks.specs.Taking.{state_of, with_got, stop_of, IsTurn, IsLocked, IfAnswered};
+ghost use Rattle.txn_locks.specs.Taking.{state_of, with_got, was_in, stop_of, IsTurn, IsLocked, IfAnswered};
 ghost use Rattle.txn_locks.specs.Undoing.{HasGot, AreGot, HasNoRead, AreReadsAmong};
 
 use crate::undoing::give_back_all;
@@ -34,7 +34,7 @@ fn stop_of(place: usize, requested: Requested) -> Option<Locked>
     ensures { result ≡ stop_of place requested }
 {
     match requested {
-        Requested::Granted => None,
+        Requested::Granted { .. } => None,
         Requested::Waiting { owner } => Some(Locked::Waiting { at: place, owner }),
         Requested::NotAvailable { owner } => Some(Locked::NotAvailable { owner }),
         Requested::Victims { owner, victims } => Some(Locked::Victims {
@@ -42,6 +42,16 @@ fn stop_of(place: usize, requested: Requested) -> Option<Locked>
             owner,
             victims,
         }),
+    }
+}
+
+// What a transaction held before its request was granted.
+fn was_of(requested: &Requested) -> Option<LockType>
+    ensures { result ≡ was_in requested.now }
+{
+    match requested {
+        Requested::Granted { was } => *was,
+        _ => None,
     }
 }
 
@@ -117,8 +127,8 @@ fn ask_one(
     let at = place_of(need)?;
     got.reserve(1)?;
     locks.have_no_cycle();
-    let was = locks.held(txn, &at);
     let requested = locks.request(alloc, txn, &at, need.asked, wait)?;
+    let was = was_of(&requested);
     let stop = stop_of(place, requested);
     note_got(got, &stop, at, was);
     Ok(stop)

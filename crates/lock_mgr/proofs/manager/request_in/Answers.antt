@@ -7,7 +7,7 @@ use Rattle.std.proofs.lemmas.Option.{IfSome_then}
 use Rattle.lock_mgr.specs.Deadlock.{waits, waits_with, victims_of}
 use Rattle.je_order.proofs.Results.{if_ok}
 use Rattle.lock_mgr.proofs.CycleLaws.{same_victims}
-use Rattle.lock_mgr.proofs.NoDeadlockLaws.{free_same, free_granted, IsPut, no_wait, put_waits, put_through, put_back, put_stands, if_both, if_either}
+use Rattle.lock_mgr.proofs.NoDeadlockLaws.{free_same, free_granted, IsPut, no_wait, put_waits, put_through, put_back, put_stands, if_both, if_either, not_granted}
 use Rattle.lock_mgr.proofs.manager.request_in.Goals as goal
 
 pub returns-in_err-ask-clause-free : goal.returns-in_err-ask-clause-free
@@ -48,3 +48,9 @@ returns-in-Blocked-clause-free c =
     let p : IsPut c.args.table.now c.ask.new.self c.args.at.now (lock_of c.args.txn c.args.asked) = record { blocked = b; none = no_wait c.args.table.now c.args.txn c.requires.free.sound c.requires.none; locks = c.in_ok-ask.ensures.locks; pending = rw c.in-Blocked.is at c.in_ok-ask.ensures.pending } in
     if_either c.blocked_in.result (free_same c.args.table.now c.blocked_in.new.table c.requires.free c.blocked_in.ensures.sound) c.blocked_in.ensures.free
     (if_both c.blocked_in.result (put_back c.args.table.now c.ask.new.self c.blocked_in.new.table c.args.at.now (lock_of c.args.txn c.args.asked) c.in_ok-place.place p c.in_ok-place.ensures) c.blocked_in.ensures.err c.blocked_in.ensures.err_pending)
+
+pub returns-in-Granted-clause-was : goal.returns-in-Granted-clause-was
+returns-in-Granted-clause-was c = rw c.in-Granted.is at c.in_ok-ask.ensures.was
+
+pub returns-in-Blocked-clause-was : goal.returns-in-Blocked-clause-was
+returns-in-Blocked-clause-was c = if_ok c.blocked_in.result (λ answer e. not_granted answer c.in-Blocked.owner _ e) c.blocked_in.ensures.owner
