@@ -19,7 +19,7 @@ use Rattle.lock_table.specs.declared.record_id.RecordId.{RecordId}
 use Rattle.lock_table.specs.contracts.record_id.RecordIdPartialEq.TheImpl.{ghosts as equality}
 use Rattle.lock_table.specs.Locks.{has_lock, lesser, least}
 use Rattle.lock_table.specs.Records.{is_record, queue_at}
-use Rattle.lock_table.specs.Table.{at_db, at_txn, has_record, is_listed, OwnsIn, IsOut}
+use Rattle.lock_table.specs.Table.{at_db, at_txn, lists_record, is_listed, OwnsIn, IsOut}
 use Rattle.lock_table.proofs.LeastTxn.{lesser_none, lesser_first, lesser_second}
 use Rattle.lock_table.proofs.DatabaseOwners.{least_owner, least_more}
 use Rattle.lock_table.proofs.QueueMaps.{at_equal, record_is}
@@ -180,10 +180,10 @@ pub later_ends : (db : ℕ) (t : TxnId) (es : List Entry) (list rest : List Reco
 later_ends db t es list rest is l r there has = ⊎_elim (λ n. n) (λ k. absurd (both_ways (list_any (is_record r) rest) (ap (list_any (is_record r)) is) k)) (l r there has)
 
 -- the list of a record's database
-pub read_at : (dbs : List (ℕ × Vec RecordId Global)) (db : ℕ) (r : RecordId) (v : Vec RecordId Global) → r.db ≡ db → Some v ≡ at_db db dbs → (xs : List RecordId) → xs ≡ v.items → has_record dbs r ≡ true → list_any (is_record r) xs ≡ true
+pub read_at : (dbs : List (ℕ × Vec RecordId Global)) (db : ℕ) (r : RecordId) (v : Vec RecordId Global) → r.db ≡ db → Some v ≡ at_db db dbs → (xs : List RecordId) → xs ≡ v.items → lists_record dbs r ≡ true → list_any (is_record r) xs ≡ true
 read_at dbs db r v there has xs is listed = ap (list_any (is_record r)) is ∙ (ap (λ (o : Option (Vec RecordId Global)). option_map_or (λ s. list_any (is_record r) s.items) o false) (has ∙ ap (λ d. at_db d dbs) (sym there)) ∙ listed)
 
-pub none_read_at : (dbs : List (ℕ × Vec RecordId Global)) (db : ℕ) (r : RecordId) → r.db ≡ db → None ≡ at_db db dbs → has_record dbs r ≡ true → ⊥
+pub none_read_at : (dbs : List (ℕ × Vec RecordId Global)) (db : ℕ) (r : RecordId) → r.db ≡ db → None ≡ at_db db dbs → lists_record dbs r ≡ true → ⊥
 none_read_at dbs db r there none listed = both_ways false refl (ap (λ (o : Option (Vec RecordId Global)). option_map_or (λ s. list_any (is_record r) s.items) o false) (none ∙ ap (λ d. at_db d dbs) (sym there)) ∙ listed)
 
 -- ---- the walk over the transactions
@@ -203,7 +203,7 @@ come_begins db es lists rest is ordered listed = record {
   rising = subst (λ (xs : List (TxnId × Records)). IsStrictlySortedBy txn_cmp (keys_of xs)) (sym is) ordered;
 }
   where
-    there : (o : Option Records) (r : RecordId) → (option_map_or (λ m. has_record m.entries r) o false ≡ false → ⊥) → is_some o ≡ true
+    there : (o : Option Records) (r : RecordId) → (option_map_or (λ m. lists_record m.entries r) o false ≡ false → ⊥) → is_some o ≡ true
     there None r n = absurd (n refl)
     there (Some m) r n = refl
 
@@ -216,7 +216,7 @@ unfolding IsStrictlySortedBy
 rising_tail e less h = h.1
 
 pub come_step : (db : ℕ) (es : List Entry) (lists rest less : List (TxnId × Records)) (e : TxnId × Records) → rest ≡ e ∷ less → at_txn e.0 lists ≡ Some e.1
-    → ((t : TxnId) (r : RecordId) → is_listed lists t r ≡ false → IsOut t (queue_at r es)) → ((r : RecordId) → r.db ≡ db → has_record e.1.entries r ≡ true → has_lock e.0 (queue_at r es).0 ≡ false)
+    → ((t : TxnId) (r : RecordId) → is_listed lists t r ≡ false → IsOut t (queue_at r es)) → ((r : RecordId) → r.db ≡ db → lists_record e.1.entries r ≡ true → has_lock e.0 (queue_at r es).0 ≡ false)
     → AreToCome db es rest → AreToCome db es less
 come_step db es lists rest less e is found listed none c = record {
   owners = λ u o. later (is_eq (nat_cmp u.0 e.0.0)) u o refl (sym (ap (λ xs. is_some (at_txn u xs)) is) ∙ c.owners u o);
@@ -225,7 +225,7 @@ come_step db es lists rest less e is found listed none c = record {
   where
     other : OwnsIn db e.0 es → ⊥
     other o = ⊎_elim
-        (λ k. both_ways (has_lock e.0 (queue_at o.record_ es).0) (none o.record_ o.there (sym (ap (λ (x : Option Records). option_map_or (λ m. has_record m.entries o.record_) x false) found) ∙ k)) o.owns)
+        (λ k. both_ways (has_lock e.0 (queue_at o.record_ es).0) (none o.record_ o.there (sym (ap (λ (x : Option Records). option_map_or (λ m. lists_record m.entries o.record_) x false) found) ∙ k)) o.owns)
         (λ k. both_ways (has_lock e.0 (queue_at o.record_ es).0) (listed e.0 o.record_ k).0 o.owns)
         (cases_Bool (is_listed lists e.0 o.record_))
 

@@ -14,7 +14,7 @@ use Rattle.je_order.specs.declared.txn_id.TxnId.{TxnId}
 use Rattle.lock_table.specs.declared.record_id.RecordId.{RecordId}
 use Rattle.je_order.specs.Transactions.{is_same_txn}
 use Rattle.lock_table.specs.Records.{is_record}
-use Rattle.lock_table.specs.Table.{at_txn, at_db, has_record, is_listed}
+use Rattle.lock_table.specs.Table.{at_txn, at_db, lists_record, is_listed}
 use Rattle.je_order.proofs.TxnIds.{same_is, same_itself, at_same}
 use Rattle.lock_table.proofs.QueueMaps.{record_is}
 use Rattle.lock_table.proofs.CallSteps.{record_same, record_either, listed_from}
@@ -37,10 +37,10 @@ abbrev Records : Type 0
 Records = BTreeMap ℕ (Vec RecordId Global)
 
 abbrev reads : RecordId → Option Records → Bool
-reads r o = option_map_or (λ m. has_record m.entries r) o false
+reads r o = option_map_or (λ m. lists_record m.entries r) o false
 
 pub list_written : (old new : List (TxnId × Records)) (u : TxnId) (at : RecordId) (b : Bool) (v w : Records) → Some v ≡ at_txn u old
-    → ((r : RecordId) → has_record w.entries r ≡ cond (is_record at r) b (has_record v.entries r)) → IsChangedAt old new u (Some w)
+    → ((r : RecordId) → lists_record w.entries r ≡ cond (is_record at r) b (lists_record v.entries r)) → IsChangedAt old new u (Some w)
     → (t : TxnId) (r : RecordId) → is_listed new t r ≡ cond (is_same_txn u t && is_record at r) b (is_listed old t r)
 list_written old new u at b v w has is c t r = ⊎_elim
     (λ h. let k : Some v ≡ at_txn t old = subst (λ (x : TxnId). Some v ≡ at_txn x old) (same_is u t h) has in
@@ -48,7 +48,7 @@ list_written old new u at b v w has is c t r = ⊎_elim
     (λ h. ap (reads r) (changed_there old new u (Some w) c t h) ∙ sym (ap (λ x. cond (x && is_record at r) b (is_listed old t r)) h))
     (cases_Bool (is_same_txn u t))
 
-pub list_same : (old new : List (TxnId × Records)) (u : TxnId) (v w : Records) → Some v ≡ at_txn u old → ((r : RecordId) → has_record w.entries r ≡ has_record v.entries r) → IsChangedAt old new u (Some w)
+pub list_same : (old new : List (TxnId × Records)) (u : TxnId) (v w : Records) → Some v ≡ at_txn u old → ((r : RecordId) → lists_record w.entries r ≡ lists_record v.entries r) → IsChangedAt old new u (Some w)
     → (t : TxnId) (r : RecordId) → is_listed new t r ≡ is_listed old t r
 list_same old new u v w has is c t r = ⊎_elim
     (λ h. let k : Some v ≡ at_txn t old = subst (λ (x : TxnId). Some v ≡ at_txn x old) (same_is u t h) has in
@@ -57,7 +57,7 @@ list_same old new u v w has is c t r = ⊎_elim
     (cases_Bool (is_same_txn u t))
 
 pub list_added : (old new : List (TxnId × Records)) (u : TxnId) (at : RecordId) (w : Records) → None ≡ at_txn u old
-    → ((r : RecordId) → has_record w.entries r ≡ is_record at r) → IsChangedAt old new u (Some w)
+    → ((r : RecordId) → lists_record w.entries r ≡ is_record at r) → IsChangedAt old new u (Some w)
     → (t : TxnId) (r : RecordId) → is_listed new t r ≡ cond (is_same_txn u t && is_record at r) true (is_listed old t r)
 list_added old new u at w none is c t r = ⊎_elim
     (λ h. let k : None ≡ at_txn t old = subst (λ (x : TxnId). None ≡ at_txn x old) (same_is u t h) none in
@@ -71,7 +71,7 @@ list_added old new u at w none is c t r = ⊎_elim
 
 -- a transaction's records without one of them
 pub unlisted : (old new : List (TxnId × Records)) (u : TxnId) (at : RecordId) (v w : Records) → Some v ≡ at_txn u old
-    → ((r : RecordId) → has_record w.entries r ≡ false → (has_record v.entries r ≡ false) ⊎ (is_record at r ≡ true)) → IsChangedAt old new u (Some w)
+    → ((r : RecordId) → lists_record w.entries r ≡ false → (lists_record v.entries r ≡ false) ⊎ (is_record at r ≡ true)) → IsChangedAt old new u (Some w)
     → (t : TxnId) (r : RecordId) → is_listed new t r ≡ false → (is_listed old t r ≡ false) ⊎ ((is_same_txn u t && is_record at r) ≡ true)
 unlisted old new u at v w has is c t r n = ⊎_elim
     (λ h. let k : Some v ≡ at_txn t old = subst (λ (x : TxnId). Some v ≡ at_txn x old) (same_is u t h) has in
@@ -108,14 +108,14 @@ has_in r o = option_map_or (λ s. list_any (is_record r) s.items) o false
 
 pub db_written : (old new : List (ℕ × Vec RecordId Global)) (at : RecordId) (b : Bool) (v w : Vec RecordId Global) → Some v ≡ at_db at.db old
     → ((r : RecordId) → list_any (is_record r) w.items ≡ cond (is_record at r) b (list_any (is_record r) v.items)) → IsChangedIn old new at.db (Some w)
-    → (r : RecordId) → has_record new r ≡ cond (is_record at r) b (has_record old r)
+    → (r : RecordId) → lists_record new r ≡ cond (is_record at r) b (lists_record old r)
 db_written old new at b v w has is c r = ⊎_elim
     (λ h. let k : Some v ≡ at_db r.db old = subst (λ (x : ℕ). Some v ≡ at_db x old) (same_number at.db r.db h) has in
     ap (has_in r) (changed_in old new at.db (Some w) c r.db h) ∙ (is r ∙ ap (λ x. cond (is_record at r) b x) (ap (has_in r) k)))
-    (λ h. ap (has_in r) (changed_out old new at.db (Some w) c r.db h) ∙ sym (cond-false (is_record at r) b (has_record old r) (other_record at r h)))
+    (λ h. ap (has_in r) (changed_out old new at.db (Some w) c r.db h) ∙ sym (cond-false (is_record at r) b (lists_record old r) (other_record at r h)))
     (cases_Bool (is_eq (nat_cmp at.db r.db)))
 
-pub db_same : (old new : List (ℕ × Vec RecordId Global)) (d : ℕ) (v w : Vec RecordId Global) → Some v ≡ at_db d old → w.items ≡ v.items → IsChangedIn old new d (Some w) → (r : RecordId) → has_record new r ≡ has_record old r
+pub db_same : (old new : List (ℕ × Vec RecordId Global)) (d : ℕ) (v w : Vec RecordId Global) → Some v ≡ at_db d old → w.items ≡ v.items → IsChangedIn old new d (Some w) → (r : RecordId) → lists_record new r ≡ lists_record old r
 db_same old new d v w has is c r = ⊎_elim
     (λ h. let k : Some v ≡ at_db r.db old = subst (λ (x : ℕ). Some v ≡ at_db x old) (same_number d r.db h) has in
     ap (has_in r) (changed_in old new d (Some w) c r.db h) ∙ (ap (list_any (is_record r)) is ∙ ap (has_in r) k))
@@ -124,11 +124,11 @@ db_same old new d v w has is c r = ⊎_elim
 
 pub db_added : (old new : List (ℕ × Vec RecordId Global)) (at : RecordId) (w : Vec RecordId Global) → None ≡ at_db at.db old
     → ((r : RecordId) → list_any (is_record r) w.items ≡ cond (is_record at r) true false) → IsChangedIn old new at.db (Some w)
-    → (r : RecordId) → has_record new r ≡ cond (is_record at r) true (has_record old r)
+    → (r : RecordId) → lists_record new r ≡ cond (is_record at r) true (lists_record old r)
 db_added old new at w none is c r = ⊎_elim
     (λ h. let k : None ≡ at_db r.db old = subst (λ (x : ℕ). None ≡ at_db x old) (same_number at.db r.db h) none in
     ap (has_in r) (changed_in old new at.db (Some w) c r.db h) ∙ (is r ∙ ap (λ x. cond (is_record at r) true x) (ap (has_in r) k)))
-    (λ h. ap (has_in r) (changed_out old new at.db (Some w) c r.db h) ∙ sym (cond-false (is_record at r) true (has_record old r) (other_record at r h)))
+    (λ h. ap (has_in r) (changed_out old new at.db (Some w) c r.db h) ∙ sym (cond-false (is_record at r) true (lists_record old r) (other_record at r h)))
     (cases_Bool (is_eq (nat_cmp at.db r.db)))
 
 pub on_err : {T E P : Type 0} (r : Result T E) → P → OnErr r P
@@ -163,13 +163,13 @@ the_same xs i x at within is there = ap (is_record at) (is ∙ get_or_default xs
 
 -- a record that was found in the list of its database is there
 pub stands : (dbs : List (ℕ × Vec RecordId Global)) (at : RecordId) (v : Vec RecordId Global) → Some v ≡ at_db at.db dbs → (xs : List RecordId) → xs ≡ v.items → (o : Option ℕ)
-    → IfSome o (λ i. i < length xs) → IfSome o (λ i. is_record at (get_or xs i at) ≡ true) → is_some o ≡ true → has_record dbs at ≡ true
+    → IfSome o (λ i. i < length xs) → IfSome o (λ i. is_record at (get_or xs i at) ≡ true) → is_some o ≡ true → lists_record dbs at ≡ true
 stands dbs at v has xs is None within there h = absurd (both_ways false refl h)
 stands dbs at v has xs is (Some i) within there h = sym (ap (has_in at) has) ∙ (ap (list_any (is_record at)) (sym is) ∙ list_any_at (is_record at) xs i at within there)
 
 -- a list without one of its records
 pub db_unlisted : (old new : List (ℕ × Vec RecordId Global)) (at x : RecordId) (v w : Vec RecordId Global) → Some v ≡ at_db at.db old → IsPermutation v.items (x ∷ w.items) → is_record at x ≡ true → IsChangedIn old new at.db (Some w)
-    → (r : RecordId) → has_record new r ≡ false → (has_record old r ≡ false) ⊎ (is_record at r ≡ true)
+    → (r : RecordId) → lists_record new r ≡ false → (lists_record old r ≡ false) ⊎ (is_record at r ≡ true)
 db_unlisted old new at x v w has is same c r n = ⊎_elim
     (λ h. let k : Some v ≡ at_db r.db old = subst (λ (y : ℕ). Some v ≡ at_db y old) (same_number at.db r.db h) has in
     let m : list_any (is_record r) w.items ≡ false = sym (ap (has_in r) (changed_in old new at.db (Some w) c r.db h)) ∙ n in

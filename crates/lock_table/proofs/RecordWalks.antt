@@ -8,7 +8,7 @@ use Rattle.std.proofs.lemmas.Bool.{cases_Bool, both_ways, or_parts, cond-true, c
 use Rattle.lock_table.specs.declared.record_id.RecordId.{RecordId}
 use Rattle.lock_table.specs.Locks.{IsSettled}
 use Rattle.lock_table.specs.Records.{is_record}
-use Rattle.lock_table.specs.Table.{at_db, has_record, is_in_one}
+use Rattle.lock_table.specs.Table.{at_db, lists_record, is_in_one}
 use Rattle.lock_table.proofs.QueueMaps.{Queue}
 
 -- the record is among `all` and was changed, or it is as it was and is to come as far as it is among `all`
@@ -35,7 +35,7 @@ done_settled f old now all rest keeps s (inl d) = subst IsSettled (sym d.0) (kee
 done_settled f old now all rest keeps s (inr d) = subst IsSettled (sym d.0) s
 
 -- a record that no list has stands at no database
-pub in_none : (dbs : List (ℕ × Vec RecordId Global)) (r : RecordId) → is_in_one dbs r ≡ false → has_record dbs r ≡ false
+pub in_none : (dbs : List (ℕ × Vec RecordId Global)) (r : RecordId) → is_in_one dbs r ≡ false → lists_record dbs r ≡ false
 in_none [] r h = refl
 in_none (e ∷ es) r h = let p = or_parts (list_any (is_record r) e.1.items) (is_in_one es r) h in ⊎_elim
     (λ k. ap (reads r) (cond-true (is_eq (nat_cmp r.db e.0)) (Some e.1) (at_db r.db es) k) ∙ p.0)

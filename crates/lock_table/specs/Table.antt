@@ -94,8 +94,8 @@ abbrev pub at_db : {X : Type 0} → ℕ → List (ℕ × X) → Option X
 at_db d xs = lookup (λ k. is_eq (nat_cmp d k)) xs
 
 -- one transaction's records, by database, have this one
-abbrev pub has_record : List (ℕ × Vec RecordId Global) → RecordId → Bool
-has_record dbs r = option_map_or (λ s. list_any (is_record r) s.items) (at_db r.db dbs) false
+abbrev pub lists_record : List (ℕ × Vec RecordId Global) → RecordId → Bool
+lists_record dbs r = option_map_or (λ s. list_any (is_record r) s.items) (at_db r.db dbs) false
 
 -- one of these lists of records has this one
 abbrev pub is_in_one : List (ℕ × Vec RecordId Global) → RecordId → Bool
@@ -103,7 +103,7 @@ is_in_one dbs r = list_any (λ e. list_any (is_record r) e.1.items) dbs
 
 -- the transaction's records have this one; they may be more than those where it has a lock or a wait, and have a record twice
 abbrev pub is_listed : List (TxnId × BTreeMap ℕ (Vec RecordId Global)) → TxnId → RecordId → Bool
-is_listed lists t r = option_map_or (λ m. has_record m.entries r) (at_txn t lists) false
+is_listed lists t r = option_map_or (λ m. lists_record m.entries r) (at_txn t lists) false
 
 -- the transaction is neither an owner nor waits
 abbrev pub IsOut : TxnId → List Lock × List Lock → Type 0

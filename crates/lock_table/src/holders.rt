@@ -6,7 +6,7 @@ ghost use Rattle.lock_table.specs.declared.record_id.RecordId.{RecordId};
 ghost use Rattle.std.specs.List.{flat_map, filter, list_any};
 ghost use Rattle.lock_table.specs.Locks.{has_lock, least};
 ghost use Rattle.lock_table.specs.Records.{is_record, queue_at};
-ghost use Rattle.lock_table.specs.Table.{at_txn, has_record, is_listed, OwnsIn, IsOut, is_used, AreUsed};
+ghost use Rattle.lock_table.specs.Table.{at_txn, lists_record, is_listed, OwnsIn, IsOut, is_used, AreUsed};
 
 use crate::queue::Queue;
 use crate::queues::owners_at;
@@ -51,7 +51,7 @@ fn owns_in(
     db: u32,
 ) -> bool
     ensures owns { result ≡ true → OwnsIn db txn queues.now.entries }
-    ensures none { result ≡ false → (r : RecordId) → r.db ≡ db → has_record dbs.now.entries r ≡ true → has_lock txn (queue_at r queues.now.entries).0 ≡ false }
+    ensures none { result ≡ false → (r : RecordId) → r.db ≡ db → lists_record dbs.now.entries r ≡ true → has_lock txn (queue_at r queues.now.entries).0 ≡ false }
 {
     match dbs.get(&db) {
         Some(list) => owns_one(queues, list.as_slice(), txn, db),

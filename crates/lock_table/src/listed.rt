@@ -6,7 +6,7 @@ ghost use Rattle.lock_table.specs.declared.record_id.RecordId.{RecordId};
 ghost use Rattle.je_order.specs.Transactions.{is_same_txn};
 ghost use Rattle.lock_table.specs.Locks.{has_lock};
 ghost use Rattle.lock_table.specs.Records.{is_record};
-ghost use Rattle.lock_table.specs.Table.{has_record, is_listed};
+ghost use Rattle.lock_table.specs.Table.{lists_record, is_listed};
 
 use crate::{Lock, RecordId, lists};
 use je_order::{TxnId, copy_of};
@@ -28,8 +28,8 @@ fn push_in(
     alloc: Global,
     key: RecordId,
 ) -> Result<(), AllocError>
-    ensures ok { OnOk result ((r : RecordId) → has_record dbs.new.entries r ≡ (if is_record key r then true else has_record dbs.old.entries r)) }
-    ensures err { OnErr result ((r : RecordId) → has_record dbs.new.entries r ≡ has_record dbs.old.entries r) }
+    ensures ok { OnOk result ((r : RecordId) → lists_record dbs.new.entries r ≡ (if is_record key r then true else lists_record dbs.old.entries r)) }
+    ensures err { OnErr result ((r : RecordId) → lists_record dbs.new.entries r ≡ lists_record dbs.old.entries r) }
 {
     let db = key.db;
     if let Some(list) = dbs.get_mut(&db) {
@@ -43,7 +43,7 @@ fn push_in(
 
 // The records of a transaction that has one.
 fn dbs_of(alloc: Global, key: RecordId) -> Result<BTreeMap<u32, Vec<RecordId>>, AllocError>
-    ensures { IfOk result (λ dbs. (r : RecordId) → has_record dbs.entries r ≡ is_record key r) }
+    ensures { IfOk result (λ dbs. (r : RecordId) → lists_record dbs.entries r ≡ is_record key r) }
 {
     let mut dbs = BTreeMap::new(alloc);
     push_in(&mut dbs, alloc, key)?;
@@ -114,7 +114,7 @@ fn last_place(list: &[RecordId], at: &RecordId) -> Option<usize>
 
 // Whether a record stands among the last of its database.
 fn has_lately(dbs: &BTreeMap<u32, Vec<RecordId>>, at: &RecordId) -> bool
-    ensures { result ≡ true → has_record dbs.now.entries at.now ≡ true }
+    ensures { result ≡ true → lists_record dbs.now.entries at.now ≡ true }
 {
     let Some(list) = dbs.get(&at.db) else {
         return false;
@@ -156,7 +156,7 @@ pub(crate) fn list_wait(
 
 // Takes a record out, if it stands among the last of its database. It takes no memory.
 fn unlist_in(dbs: &mut BTreeMap<u32, Vec<RecordId>>, at: &RecordId)
-    ensures { (r : RecordId) → has_record dbs.new.entries r ≡ false → (has_record dbs.old.entries r ≡ false) ⊎ (is_record at.now r ≡ true) }
+    ensures { (r : RecordId) → lists_record dbs.new.entries r ≡ false → (lists_record dbs.old.entries r ≡ false) ⊎ (is_record at.now r ≡ true) }
 {
     let Some(list) = dbs.get_mut(&at.db) else {
         return;
