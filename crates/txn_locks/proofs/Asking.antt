@@ -25,7 +25,7 @@ use Rattle.je_answers.specs.Locking.{record_of}
 use Rattle.txn_locks.specs.declared.got.Got.{Got}
 use Rattle.txn_locks.specs.declared.locked.Locked.{Locked}
 use Rattle.txn_locks.specs.Taking.{state_of, with_got, was_in, stop_of, IsTurn}
-use Rattle.txn_locks.specs.Undoing.{IsBack, IsOneGot, HasGot}
+use Rattle.txn_locks.specs.Undoing.{IsBack, IsOneGot, NotesGot}
 use Rattle.txn_locks.proofs.States.{same_state, told_nothing, waits_nowhere}
 use Rattle.txn_locks.proofs.Backs.{back_at}
 
@@ -90,7 +90,7 @@ one_got t at m wait v w was s none q = record {
 
 pub got_if_granted : (t : TxnId) (n : Need) (wait : Bool) (place : ℕ) (v w : Locks) (q : Requested) (was : Option LockType) (old new : List Got) → NoDeadlock v → pending_at t v ≡ None → IsRequested t (record_of n) n.asked wait v w q
     → was ≡ was_in q → SaysWas q (held_by t (locks_at (record_of n) v).0) → IfNone (stop_of place q) (new ≡ old ++ record { at = record_of n; was = was } ∷ [])
-    → IfNone (stop_of place q) (HasGot t n old new (state_of v) (state_of w))
+    → IfNone (stop_of place q) (NotesGot t n old new (state_of v) (state_of w))
 got_if_granted t n wait place v w (Granted held) was old new s none q is says put =
     inl (record { at = record_of n; was = was }, refl, put, subst (λ (x : Option LockType). IsOneGot t (record { at = record_of n; was = x }) (state_of v) (state_of w)) (sym (is ∙ says)) (one_got t (record_of n) n.asked wait v w held s none q))
 got_if_granted t n wait place v w (NotAvailable owner) was old new s none q is says put = tt
@@ -104,9 +104,9 @@ err_state v w same = same_state (state_of w) (state_of v) same.locks same.pendin
 -- the same by the names that the code has
 pub got_noted : (t : TxnId) (n : Need) (wait : Bool) (place : ℕ) (v w : Locks) (q : Requested) (stop : Option Locked) (was : Option LockType) (at : RecordId) (old mid new : List Got) → stop ≡ stop_of place q → NoDeadlock v → pending_at t v ≡ None
     → at ≡ record_of n → IsRequested t at n.asked wait v w q → was ≡ was_in q → SaysWas q (held_by t (locks_at at v).0) → mid ≡ old → IfNone stop (new ≡ mid ++ record { at = at; was = was } ∷ [])
-    → IfNone stop (HasGot t n old new (state_of v) (state_of w))
-got_noted t n wait place v w q stop was at old mid new is s none e asked held says kept = subst (λ (st : Option Locked). IfNone st (new ≡ mid ++ record { at = at; was = was } ∷ []) → IfNone st (HasGot t n old new (state_of v) (state_of w))) (sym is) inner
+    → IfNone stop (NotesGot t n old new (state_of v) (state_of w))
+got_noted t n wait place v w q stop was at old mid new is s none e asked held says kept = subst (λ (st : Option Locked). IfNone st (new ≡ mid ++ record { at = at; was = was } ∷ []) → IfNone st (NotesGot t n old new (state_of v) (state_of w))) (sym is) inner
   where
-    inner : IfNone (stop_of place q) (new ≡ mid ++ record { at = at; was = was } ∷ []) → IfNone (stop_of place q) (HasGot t n old new (state_of v) (state_of w))
+    inner : IfNone (stop_of place q) (new ≡ mid ++ record { at = at; was = was } ∷ []) → IfNone (stop_of place q) (NotesGot t n old new (state_of v) (state_of w))
     inner put = got_if_granted t n wait place v w q was old new s none (subst (λ (x : RecordId). IsRequested t x n.asked wait v w q) e asked) held (subst (λ (x : RecordId). SaysWas q (held_by t (locks_at x v).0)) e says)
         (subst (λ (x : List Got). IfNone (stop_of place q) (new ≡ x ++ record { at = record_of n; was = was } ∷ [])) kept (subst (λ (x : RecordId). IfNone (stop_of place q) (new ≡ mid ++ record { at = x; was = was } ∷ [])) e put))

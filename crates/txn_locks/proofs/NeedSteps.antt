@@ -26,7 +26,7 @@ use Rattle.txn_locks.specs.declared.locked.Locked.{Locked}
 use Rattle.txn_locks.specs.declared.locked.Locked.TheVariants.{Ready, Waiting, NotAvailable, Victims}
 use Rattle.txn_locks.specs.declared.got.Got.{Got}
 use Rattle.txn_locks.specs.Taking.{with_got, with_all, with_granted, when_answered, IsStoppedAt, IsLocked, IfAnswered, IsStop, IsTurn, IsTaking}
-use Rattle.txn_locks.specs.Undoing.{IsOneGot, HasGot, AreGot, HasNoRead, AreReadsAmong}
+use Rattle.txn_locks.specs.Undoing.{IsOneGot, NotesGot, AreGot, HasNoRead, AreReadsAmong}
 use Rattle.txn_locks.proofs.Backs.{got_more}
 
 -- a need is stopped exactly where there is a least owner in its way
@@ -92,24 +92,24 @@ reads_more t gs g now next among one r h = list_any-append (λ (x : Got). is_rec
     (cases_Bool (is_record g.at r))
 
 pub locking_step : (t : TxnId) (needs : List Need) (i : ℕ) (n : Need) (s now next : LockState) (gs more : List Got) → i < length needs → n ≡ get_or needs i n → IsLocking t needs i s now gs
-    → (owner_before t n now.at ≡ None) × (next ≡ with_got t n now) → HasGot t n gs more now next → IsLocking t needs (i + 1) s next more
+    → (owner_before t n now.at ≡ None) × (next ≡ with_got t n now) → NotesGot t n gs more now next → IsLocking t needs (i + 1) s next more
 locking_step t needs i n s now next gs more within is k turn put = record {
   taking = subst (IsTaking t needs (drop (i + 1) needs) s) (sym turn.1) (taking_more t needs (drop (i + 1) needs) n s now (subst (λ (ns : List Need). IsTaking t needs ns s now) (from_place needs i n within is) k.taking) turn.0);
   got = both_got put;
   reads = both_reads put;
 }
   where
-    both_got : HasGot t n gs more now next → AreGot t (reverse more) s next
+    both_got : NotesGot t n gs more now next → AreGot t (reverse more) s next
     both_got (inl p) = got_more t gs more p.0 s now next p.2 k.got p.3
     both_got (inr p) = subst (λ (xs : List Got). AreGot t (reverse xs) s next) (sym p.0) (subst (AreGot t (reverse gs) s) (sym p.1) k.got)
 
-    both_reads : HasGot t n gs more now next → HasNoRead t s.at → AreReadsAmong t more next.at
+    both_reads : NotesGot t n gs more now next → HasNoRead t s.at → AreReadsAmong t more next.at
     both_reads (inl p) none = subst (λ (xs : List Got). AreReadsAmong t xs next.at) (sym p.2) (reads_more t gs p.0 now next (k.reads none) p.3)
     both_reads (inr p) none = subst (λ (xs : List Got). AreReadsAmong t xs next.at) (sym p.0) (subst (λ (x : LockState). AreReadsAmong t gs x.at) (sym p.1) (k.reads none))
 
 -- the same where the turn's answer is a value that is none
 pub locking_goes : (t : TxnId) (needs : List Need) (i : ℕ) (n : Need) (wait : Bool) (stop : Option Locked) (s now next : LockState) (gs more : List Got) → stop ≡ None → i < length needs → n ≡ get_or needs i n → IsLocking t needs i s now gs
-    → IsTurn stop t n i wait now next → IfNone stop (HasGot t n gs more now next) → IsLocking t needs (i + 1) s next more
+    → IsTurn stop t n i wait now next → IfNone stop (NotesGot t n gs more now next) → IsLocking t needs (i + 1) s next more
 locking_goes t needs i n wait None s now next gs more none within is k turn put = locking_step t needs i n s now next gs more within is k turn put
 locking_goes t needs i n wait (Some x) s now next gs more none within is k turn put = absurd (cc (none))
 

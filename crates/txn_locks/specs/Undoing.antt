@@ -30,8 +30,8 @@ AreGot t [] old new = new ≡ old
 AreGot t (g ∷ gs) old new = (mid : LockState) × AreGot t gs old mid × IsOneGot t g mid new
 
 -- a need was granted: its lock was got, and is noted behind the others; or nothing changed
-abbrev pub HasGot : TxnId → Need → List Got → List Got → LockState → LockState → Type 0
-HasGot t n gs more old new = ((g : Got) × (g.at ≡ record_of n) × (more ≡ gs ++ g ∷ []) × IsOneGot t g old new) ⊎ ((more ≡ gs) × (new ≡ old))
+abbrev pub NotesGot : TxnId → Need → List Got → List Got → LockState → LockState → Type 0
+NotesGot t n gs more old new = ((g : Got) × (g.at ≡ record_of n) × (more ≡ gs ++ g ∷ []) × IsOneGot t g old new) ⊎ ((more ≡ gs) × (new ≡ old))
 
 -- the transaction has no lock of no more than READ
 abbrev pub HasNoRead : TxnId → Queues → Type 0

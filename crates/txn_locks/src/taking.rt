@@ -10,7 +10,7 @@ ghost use Rattle.store_model.specs.declared.isolation.Isolation.{Isolation};
 ghost use Rattle.je_answers.specs.Standing.{LockState};
 ghost use Rattle.je_answers.specs.Locking.{record_of, owner_before};
 ghost use Rattle.txn_locks.specs.Taking.{state_of, with_got, was_in, stop_of, IsTurn, IsLocked, IfAnswered};
-ghost use Rattle.txn_locks.specs.Undoing.{HasGot, AreGot, HasNoRead, AreReadsAmong};
+ghost use Rattle.txn_locks.specs.Undoing.{NotesGot, AreGot, HasNoRead, AreReadsAmong};
 
 use crate::undoing::give_back_all;
 use crate::{Got, Locked};
@@ -96,7 +96,7 @@ fn take_one(
 ) -> Result<Option<Locked>, AllocError>
     requires { pending_at txn locks.old ≡ None }
     ensures turn { IfOk result (λ stop. IsTurn stop txn need.now place wait (state_of locks.old) (state_of locks.new)) }
-    ensures got { IfOk result (λ stop. IfNone stop (HasGot txn need.now got.old.items got.new.items (state_of locks.old) (state_of locks.new))) }
+    ensures got { IfOk result (λ stop. IfNone stop (NotesGot txn need.now got.old.items got.new.items (state_of locks.old) (state_of locks.new))) }
     ensures kept { IfOk result (λ stop. IfSome stop (λ locked. got.new.items ≡ got.old.items)) }
     ensures err { OnErr result (state_of locks.new ≡ state_of locks.old) }
     ensures err_got { OnErr result (got.new.items ≡ got.old.items) }
@@ -119,7 +119,7 @@ fn ask_one(
 ) -> Result<Option<Locked>, AllocError>
     requires { pending_at txn locks.old ≡ None }
     ensures turn { IfOk result (λ stop. IsTurn stop txn need.now place wait (state_of locks.old) (state_of locks.new)) }
-    ensures got { IfOk result (λ stop. IfNone stop (HasGot txn need.now got.old.items got.new.items (state_of locks.old) (state_of locks.new))) }
+    ensures got { IfOk result (λ stop. IfNone stop (NotesGot txn need.now got.old.items got.new.items (state_of locks.old) (state_of locks.new))) }
     ensures kept { IfOk result (λ stop. IfSome stop (λ locked. got.new.items ≡ got.old.items)) }
     ensures err { OnErr result (state_of locks.new ≡ state_of locks.old) }
     ensures err_got { OnErr result (got.new.items ≡ got.old.items) }
