@@ -26,12 +26,7 @@ fn owns_at(queues: &HashMap<RecordId, Queue>, at: &RecordId, txn: TxnId, db: u32
 }
 
 // Whether a transaction owns a lock on one of these records that is of the database.
-fn owns_one(
-    queues: &HashMap<RecordId, Queue>,
-    list: &[RecordId],
-    txn: TxnId,
-    db: u32,
-) -> bool
+fn owns_one(queues: &HashMap<RecordId, Queue>, list: &[RecordId], txn: TxnId, db: u32) -> bool
     ensures owns { result ≡ true → OwnsIn db txn queues.now.entries }
     ensures none { result ≡ false → (r : RecordId) → r.db ≡ db → list_any (is_record r) list.now ≡ true → has_lock txn (queue_at r queues.now.entries).0 ≡ false }
 {

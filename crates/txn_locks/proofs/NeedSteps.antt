@@ -183,19 +183,19 @@ no_range : (t : TxnId) (os : List Lock) → AllByRecursion (λ o. is_range o.mod
 no_range t [] all = refl
 no_range t (o ∷ os) all = or_from (is_blocking (lock_of t RangeInsert) o) (is_blocked os (lock_of t RangeInsert)) (clear o all.0) (no_range t os all.1)
   where
+    and_false : (b : Bool) → (b && false) ≡ false
+    and_false true = refl
+    and_false false = refl
+
     by_type : (b : Bool) (m : LockType) → is_range m ≡ false → (b && conflicts_with m RangeInsert) ≡ false
     by_type b Read h = and_false b
     by_type b Write h = and_false b
-    by_type b RangeRead h = absurd (both_ways true refl h)
-    by_type b RangeWrite h = absurd (both_ways true refl h)
+    by_type b RangeRead h = absurd (both_ways true h refl)
+    by_type b RangeWrite h = absurd (both_ways true h refl)
     by_type b RangeInsert h = and_false b
 
     clear : (o : Lock) → is_range o.mode ≡ false → is_blocking (lock_of t RangeInsert) o ≡ false
     clear o h = by_type (not (is_same_txn t o.txn)) o.mode h
-
-    and_false : (b : Bool) → (b && false) ≡ false
-    and_false true = refl
-    and_false false = refl
 
 pub free_insert : (t : TxnId) (n : Need) (s : LockState) → n.asked ≡ RangeInsert → ((r : RecordId) → AllByRecursion (λ o. is_range o.mode ≡ false) (s.at r).0) → (owner_before t n s.at ≡ None) × (s ≡ with_got t n s)
 free_insert t n s is none = (
@@ -211,7 +211,7 @@ free_insert t n s is none = (
 
     nobody : (o : Option TxnId) → is_some o ≡ false → o ≡ None
     nobody None h = refl
-    nobody (Some x) h = absurd (both_ways true refl h)
+    nobody (Some x) h = absurd (both_ways true h refl)
 
     unless : (b : Bool) (x y : List Lock × List Lock) → x ≡ y → cond b x y ≡ y
     unless true x y e = e
