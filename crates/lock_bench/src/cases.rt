@@ -26,7 +26,7 @@ fn take(locks: &mut LockMgr, alloc: Global, txn: u64, number: u64) -> Result<u64
         return Ok(0);
     }
     match locks.request(alloc, TxnId(txn), &at, LockType::Write, true)? {
-        Requested::Granted => Ok(1),
+        Requested::Granted { .. } => Ok(1),
         _ => Ok(0),
     }
 }

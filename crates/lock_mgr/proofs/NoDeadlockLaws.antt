@@ -19,7 +19,9 @@ use Rattle.lock_table.proofs.QueueMaps.{record_is}
 use Rattle.lock_table.proofs.RecordCalls.{cancel_nothing}
 use Rattle.lock_table.proofs.WholeTable.{cancel_asked}
 use Rattle.lock_table.proofs.CallSteps.{record_same}
-use Rattle.lock_mgr.specs.Deadlock.{waits, waits_with, HasNoCycle, NoDeadlock, AreVictims, others, without_waits}
+use Rattle.lock_mgr.specs.declared.requested.Requested.{Requested}
+use Rattle.lock_mgr.specs.declared.requested.Requested.TheVariants.{Granted, Waiting, NotAvailable, Victims}
+use Rattle.lock_mgr.specs.Deadlock.{waits, waits_with, HasNoCycle, NoDeadlock, AreVictims, owner_of, SaysWas, others, without_waits}
 use Rattle.lock_mgr.proofs.CycleLaws.{GrowsFrom, still_none, within_none, within_cycle, none_after, on_cycle, apart_cycle, victim_waits}
 use Rattle.lock_mgr.proofs.WaitsForLaws.{Queue, waits_on, wait_parts, found_without, none_without, waits_cancel, waits_release, waits_give_back, waits_read, waits_taken, waits_parts, waits_from, waits_has, waits_not, waits_none}
 
@@ -272,3 +274,10 @@ victims_stand from v R w (u ∷ us) a t m = ⊎_elim
 pub put_stands : (v w : Locks) (at : RecordId) (a : Lock) → IsPut v w at a → is_waiting a.txn w ≡ true
 put_stands v w at a p = ap (λ o. option_map_or (λ r. has_lock a.txn (locks_at r w).1) o false) (p.pending a.txn ∙ cond-true (is_same_txn a.txn a.txn) (Some at) (pending_at a.txn v) (same_itself a.txn))
     ∙ (ap (λ (q : Queue). has_lock a.txn q.1) (put_here v w at a p at (record_same at)) ∙ (list_any-append (is_of a.txn) (locks_at at v).1 (a ∷ []) ∙ or_right (has_lock a.txn (locks_at at v).1) (has_lock a.txn (a ∷ [])) (or_left (is_of a.txn a) false (same_itself a.txn))))
+
+-- an answer that names an owner does not grant
+pub not_granted : (q : Requested) (owner : TxnId) (held : Option LockType) → owner_of q ≡ Some owner → SaysWas q held
+not_granted (Granted was) owner held e = absurd (cc (e))
+not_granted (Waiting other) owner held e = tt
+not_granted (NotAvailable other) owner held e = tt
+not_granted (Victims other victims) owner held e = tt

@@ -5,6 +5,7 @@ use Rattle.std.specs.declared.option.Option.TheVariants.{None, Some}
 use Rattle.std.specs.List.{list_all, filter}
 use Rattle.std.specs.Prelude.{nat_le}
 use Rattle.je_order.specs.declared.txn_id.TxnId.{TxnId}
+use Rattle.lock_mode.specs.declared.lock_type.LockType.{LockType}
 use Rattle.waits_for.specs.Cycles.{is_in, closes_by, IsFirstCycle}
 use Rattle.je_order.specs.Transactions.{is_same_txn}
 use Rattle.lock_table.specs.declared.lock.Lock.{Lock}
@@ -46,28 +47,35 @@ AreVictims t R (v ∷ vs) = IsFirstCycle R t v.1 × (is_greatest v.0 v.1 ≡ tru
 
 -- the owner that an answer names
 abbrev pub owner_of : Requested → Option TxnId
-owner_of Granted = None
+owner_of (Granted was) = None
 owner_of (Waiting owner) = Some owner
 owner_of (NotAvailable owner) = Some owner
 owner_of (Victims owner victims) = Some owner
 
+-- an answer that grants says what the transaction held before
+abbrev pub SaysWas : Requested → Option LockType → Type 0
+SaysWas (Granted was) held = was ≡ held
+SaysWas (Waiting owner) held = Unit {0}
+SaysWas (NotAvailable owner) held = Unit {0}
+SaysWas (Victims owner victims) held = Unit {0}
+
 -- the victims of a request that waited
 abbrev pub victims_of : Requested → Option (List (TxnId × List TxnId))
-victims_of Granted = None
+victims_of (Granted was) = None
 victims_of (Waiting owner) = Some []
 victims_of (NotAvailable owner) = None
 victims_of (Victims owner victims) = Some victims
 
 -- victims are named only where there are some
 abbrev pub HasSomeVictims : Requested → Type 0
-HasSomeVictims Granted = Unit {0}
+HasSomeVictims (Granted was) = Unit {0}
 HasSomeVictims (Waiting owner) = Unit {0}
 HasSomeVictims (NotAvailable owner) = Unit {0}
 HasSomeVictims (Victims owner victims) = 0 < length victims
 
 -- those whose waits were taken back
 abbrev pub taken_back : TxnId → Requested → List TxnId
-taken_back t Granted = []
+taken_back t (Granted was) = []
 taken_back t (Waiting owner) = []
 taken_back t (NotAvailable owner) = t ∷ []
 taken_back t (Victims owner victims) = map (λ v. v.0) victims

@@ -10,7 +10,7 @@ ghost use Rattle.lock_table.specs.Locks.{lock_of, held_by, blocker, is_blocked, 
 ghost use Rattle.je_order.specs.Transactions.{is_same_txn};
 ghost use Rattle.lock_table.specs.Records.{is_record};
 ghost use Rattle.lock_table.specs.Table.{locks_at, pending_at, is_waiting, was_granted, wait_pairs, holder_of, IsToldIn, OwnsIn, IsLockTable, IsSameTable};
-ghost use Rattle.lock_mgr.specs.Deadlock.{waits, waits_with, NoDeadlock, AreVictims, owner_of, victims_of as victims_in, taken_back, without_waits, HasSomeVictims};
+ghost use Rattle.lock_mgr.specs.Deadlock.{waits, waits_with, NoDeadlock, AreVictims, owner_of, SaysWas, victims_of as victims_in, taken_back, without_waits, HasSomeVictims};
 
 use crate::Requested;
 use crate::victims::{reach, victims_of};
@@ -72,6 +72,7 @@ impl LockMgr {
     ) -> Result<Requested, AllocError>
         requires { is_waiting txn self.old ≡ false }
         ensures owner { IfOk result (λ answer. owner_of answer ≡ blocker (lock_of txn asked) (locks_at at.now self.old).0) }
+        ensures was { IfOk result (λ answer. SaysWas answer (held_by txn (locks_at at.now self.old).0)) }
         ensures waits { IfOk result (λ answer. is_some (victims_in answer) ≡ (is_some (owner_of answer) && wait)) }
         ensures victims { IfOk result (λ answer. IfSome (victims_in answer) (AreVictims txn (waits_with (lock_of txn asked) at.now self.old))) }
         ensures locks { IfOk result (λ answer. (r : RecordId) → locks_at r self.new ≡ without_waits (taken_back txn answer) (if is_record at.now r then after_ask (lock_of txn asked) (locks_at r self.old) else locks_at r self.old)) }
@@ -225,6 +226,7 @@ fn request_in(
     requires free { NoDeadlock table.old }
     requires none { is_waiting txn table.old ≡ false }
     ensures owner { IfOk result (λ answer. owner_of answer ≡ blocker (lock_of txn asked) (locks_at at.now table.old).0) }
+    ensures was { IfOk result (λ answer. SaysWas answer (held_by txn (locks_at at.now table.old).0)) }
     ensures waits { IfOk result (λ answer. is_some (victims_in answer) ≡ (is_some (owner_of answer) && wait)) }
     ensures victims { IfOk result (λ answer. IfSome (victims_in answer) (AreVictims txn (waits_with (lock_of txn asked) at.now table.old))) }
     ensures locks { IfOk result (λ answer. (r : RecordId) → locks_at r table.new ≡ without_waits (taken_back txn answer) (if is_record at.now r then after_ask (lock_of txn asked) (locks_at r table.old) else locks_at r table.old)) }
@@ -236,7 +238,7 @@ fn request_in(
 {
     let place = table.pending_place(txn)?;
     match table.ask(alloc, txn, at, asked)? {
-        Asked::Granted => Ok(Requested::Granted),
+        Asked::Granted { was } => Ok(Requested::Granted { was }),
         Asked::Blocked { owner } => blocked_in(table, alloc, txn, owner, wait, place),
     }
 }

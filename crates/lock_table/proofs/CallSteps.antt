@@ -1,23 +1,23 @@
 -- Single steps of the calls.
 use Rattle.std.proofs.Common.{◌≡◌, Bool, true, false, cond, ◌&&◌, ◌||◌, List, [], ◌∷◌, map, Some, None, Option, refl, ap, sym, ◌∙◌, subst, ◌⊎◌, inl, inr, ⊎_elim}
-use Rattle.std.specs.List.{filter, list_any}
+use Rattle.std.specs.List.{filter}
 use Rattle.std.specs.Map.{lookup}
 use Rattle.std.specs.Option.{is_some, option_map_or, unwrap_or, IsSome}
 use Rattle.std.specs.Ordering.{is_eq}
 use Rattle.std.proofs.lemmas.Cmp.{tied_itself}
-use Rattle.std.proofs.lemmas.Bool.{cases_Bool, both_ways, cond-true, cond-false, and_parts, or_cases, false_from_ne_true}
+use Rattle.std.proofs.lemmas.Bool.{cases_Bool, both_ways, cond-true, cond-false, and_parts, false_from_ne_true}
 use Rattle.je_order.specs.declared.txn_id.TxnId.{TxnId}
 use Rattle.lock_mode.specs.declared.lock_type.LockType.{LockType}
 use Rattle.lock_table.specs.declared.lock.Lock.{Lock}
 use Rattle.lock_table.specs.declared.record_id.RecordId.{RecordId}
 use Rattle.lock_table.specs.contracts.record_id.RecordIdOrd.TheImpl.Laws as order
-use Rattle.lock_table.specs.Locks.{has_lock, is_blocking, is_blocked, lesser, least, blocker, after_cancel, after_release, IsSettled}
+use Rattle.lock_table.specs.Locks.{has_lock, is_blocking, is_blocked, lesser, least, blocker, after_cancel}
 use Rattle.je_order.specs.Transactions.{is_same_txn}
 use Rattle.lock_table.specs.Records.{is_record, queue_at}
 use Rattle.lock_table.specs.Table.{IsOut}
 use Rattle.je_order.proofs.TxnIds.{same_is}
 use Rattle.lock_table.proofs.QueueMaps.{IsChanged, record_is}
-use Rattle.lock_table.proofs.RecordCalls.{settled_release, out_released, release_nothing, cancel_nothing}
+use Rattle.lock_table.proofs.RecordCalls.{cancel_nothing}
 use Rattle.lock_table.proofs.WholeTable.{Queue}
 
 pub record_same : (r : RecordId) → is_record r r ≡ true

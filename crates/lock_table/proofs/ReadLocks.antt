@@ -1,18 +1,14 @@
 -- Locks of no more than READ that go, in the map of queues.
-use Rattle.std.proofs.Common.{◌≡◌, true, false, cond, List, [], ◌∷◌, Some, None, Option, refl, ap, sym, ◌∙◌, subst, ◌⊎◌, inl, inr, ⊎_elim}
-use Rattle.std.specs.List.{list_any}
-use Rattle.std.proofs.lemmas.Bool.{cases_Bool, both_ways, or_cases, cond-true, cond-false}
+use Rattle.std.proofs.Common.{◌≡◌, cond, List, Some, None, Option, ap, sym, ◌∙◌, subst, ◌⊎◌, ⊎_elim}
+use Rattle.std.proofs.lemmas.Bool.{cases_Bool, cond-true, cond-false}
 use Rattle.je_order.specs.declared.txn_id.TxnId.{TxnId}
 use Rattle.lock_mode.specs.declared.lock_type.LockType.{LockType}
 use Rattle.lock_mode.specs.declared.lock_type.LockType.TheVariants.{Read}
 use Rattle.lock_table.specs.declared.lock.Lock.{Lock}
 use Rattle.lock_table.specs.declared.record_id.RecordId.{RecordId}
-use Rattle.lock_table.specs.Locks.{held_by, after_give_back, read_given_back, after_read, IsSettled}
-use Rattle.lock_table.specs.Records.{is_record, queue_at}
-use Rattle.lock_table.specs.Table.{IsOut}
+use Rattle.lock_table.specs.Locks.{held_by, after_give_back, read_given_back, after_read}
+use Rattle.lock_table.specs.Records.{is_record}
 use Rattle.lock_table.proofs.QueueMaps.{record_is}
-use Rattle.lock_table.proofs.CallSteps.{record_either}
-use Rattle.lock_table.proofs.QueueReads.{read_nothing, read_twice}
 
 abbrev pub Queue : Type 0
 Queue = List Lock × List Lock

@@ -80,8 +80,13 @@ pub record IsSameTable (v w : Locks) : Type 0 where
 
 -- the owner that an answer names
 abbrev pub owner_in : Asked → Option TxnId
-owner_in Granted = None
+owner_in (Granted was) = None
 owner_in (Blocked owner) = Some owner
+
+-- an answer that grants says what the transaction held before
+abbrev pub SaysHeld : Asked → Option LockType → Type 0
+SaysHeld (Granted was) held = was ≡ held
+SaysHeld (Blocked owner) held = Unit {0}
 
 -- ---- inside
 -- what stands at a database's number in a list

@@ -9,7 +9,7 @@ ghost use Rattle.lock_table.specs.declared.record_id.RecordId.{RecordId};
 ghost use Rattle.lock_table.specs.Locks.{has_lock, held_by, blocker, is_blocked, after_ask, after_cancel, after_read, after_release, after_give_back, WasHeld, IsSettled};
 ghost use Rattle.je_order.specs.Transactions.{is_same_txn};
 ghost use Rattle.lock_table.specs.Records.{is_record, queue_at};
-ghost use Rattle.lock_table.specs.Table.{at_txn, owner_in, is_in_one, is_listed, IsOut, IsSameTable, IsTable};
+ghost use Rattle.lock_table.specs.Table.{at_txn, owner_in, SaysHeld, is_in_one, is_listed, IsOut, IsSameTable, IsTable};
 
 use crate::listed::{list_at, list_new, list_wait, unlist_at};
 use crate::queue::Queue;
@@ -36,6 +36,7 @@ pub(crate) fn ask_in(
     requires free { (r : RecordId) → has_lock lock.txn (queue_at r queues.old.entries).1 ≡ false }
     ensures table { IsTable queues.new.entries lists.new.entries pending.new.entries }
     ensures answer { IfOk result (λ asked. owner_in asked ≡ blocker lock (queue_at at.now queues.old.entries).0) }
+    ensures was { IfOk result (λ asked. SaysHeld asked (held_by lock.txn (queue_at at.now queues.old.entries).0)) }
     ensures queues { OnOk result ((r : RecordId) → queue_at r queues.new.entries ≡ (if is_record at.now r then after_ask lock (queue_at r queues.old.entries) else queue_at r queues.old.entries)) }
     ensures pending { IfOk result (λ asked. (t : TxnId) → at_txn t pending.new.entries ≡ (if is_same_txn lock.txn t then option_map_or (λ _. Some at.now) (owner_in asked) None else at_txn t pending.old.entries)) }
     ensures err { OnErr result (IsSameTable (record { records = queues.old.entries; pending = pending.old.entries }) (record { records = queues.new.entries; pending = pending.new.entries })) }
@@ -46,7 +47,7 @@ pub(crate) fn ask_in(
     }
     ask_first(queues, lists, alloc, at, lock)?;
     let _ = pending.remove(&lock.txn);
-    Ok(Asked::Granted)
+    Ok(Asked::Granted { was: None })
 }
 
 // A request for a record that has owners or waits. Running out of memory changes neither.
@@ -60,6 +61,7 @@ fn ask_there(
 ) -> Result<Asked, AllocError>
     requires free { has_lock lock.txn queue.old.1 ≡ false }
     ensures answer { IfOk result (λ asked. owner_in asked ≡ blocker lock queue.old.0) }
+    ensures was { IfOk result (λ asked. SaysHeld asked (held_by lock.txn queue.old.0)) }
     ensures queue { OnOk result (queue.new ≡ after_ask lock queue.old) }
     ensures pending { IfOk result (λ asked. (t : TxnId) → at_txn t pending.new.entries ≡ (if is_same_txn lock.txn t then option_map_or (λ _. Some at.now) (owner_in asked) None else at_txn t pending.old.entries)) }
     ensures kept { (t : TxnId) (r : RecordId) → is_listed lists.new.entries t r ≡ false → is_listed lists.old.entries t r ≡ false }
@@ -68,9 +70,10 @@ fn ask_there(
     ensures err_pending { OnErr result ((t : TxnId) → at_txn t pending.new.entries ≡ at_txn t pending.old.entries) }
 {
     let Some(owner) = lists::blocker_in(queue.owners(), lock) else {
+        let was = lists::held_in(queue.owners(), lock.txn);
         grant_there(queue, lists, alloc, at, lock)?;
         let _ = pending.remove(&lock.txn);
-        return Ok(Asked::Granted);
+        return Ok(Asked::Granted { was });
     };
     wait_there(queue, lists, pending, alloc, at, lock)?;
     Ok(Asked::Blocked { owner })

@@ -11,7 +11,7 @@ ghost use Rattle.std.specs.List.{AllByRecursion};
 ghost use Rattle.lock_table.specs.Locks.{is_range, after_read, held_by, blocker, after_ask, after_cancel, after_release, after_give_back, WasHeld, lock_of, writer_in, waited_for};
 ghost use Rattle.je_order.specs.Transactions.{is_same_txn};
 ghost use Rattle.lock_table.specs.Records.{is_record, queue_at};
-ghost use Rattle.lock_table.specs.Table.{locks_at, pending_at, is_waiting, was_granted, owner_in, waits_for, wait_pairs, holder_of, IsSameTable, IsToldIn, OwnsIn, IsLockTable};
+ghost use Rattle.lock_table.specs.Table.{locks_at, pending_at, is_waiting, was_granted, owner_in, SaysHeld, waits_for, wait_pairs, holder_of, IsSameTable, IsToldIn, OwnsIn, IsLockTable};
 
 use crate::calls::{
     ask_in, cancel_in, forget_in, give_back_in, read_back_in, release_in, undo_wait_in,
@@ -89,6 +89,7 @@ impl LockTable {
     ) -> Result<Asked, AllocError>
         requires { is_waiting txn self.old ≡ false }
         ensures answer { IfOk result (λ answer. owner_in answer ≡ blocker (lock_of txn asked) (locks_at at.now self.old).0) }
+        ensures was { IfOk result (λ answer. SaysHeld answer (held_by txn (locks_at at.now self.old).0)) }
         ensures locks { OnOk result ((r : RecordId) → locks_at r self.new ≡ (if is_record at.now r then after_ask (lock_of txn asked) (locks_at r self.old) else locks_at r self.old)) }
         ensures pending { IfOk result (λ answer. (t : TxnId) → pending_at t self.new ≡ (if is_same_txn txn t then option_map_or (λ _. Some at.now) (owner_in answer) None else pending_at t self.old)) }
         ensures settled { IsLockTable self.new }

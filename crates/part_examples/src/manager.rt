@@ -36,7 +36,7 @@ enum Step {
 
 fn kind_of(answer: &Requested) -> Came {
     match answer {
-        Requested::Granted => Came::Granted,
+        Requested::Granted { .. } => Came::Granted,
         Requested::Waiting { .. } => Came::Waiting,
         Requested::NotAvailable { .. } => Came::NotAvailable,
         Requested::Victims { owner, victims } => match victims.as_slice() {

@@ -42,7 +42,7 @@ fn asks(
     let asked = table.ask(alloc, txn, &at, mode);
     drop(at);
     match asked? {
-        Asked::Granted => Ok(owner.is_none()),
+        Asked::Granted { .. } => Ok(owner.is_none()),
         Asked::Blocked { owner: found } => Ok(owner == Some(found)),
     }
 }

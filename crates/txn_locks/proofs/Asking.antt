@@ -1,5 +1,5 @@
 -- What a request comes to.
-use Rattle.std.proofs.Common.{◌≡◌, ℕ, Bool, true, false, cond, ◌&&◌, List, [], ◌∷◌, ◌++◌, map, Some, None, Option, refl, ap, sym, ◌∙◌, subst, ⊎_elim}
+use Rattle.std.proofs.Common.{◌≡◌, ℕ, Bool, true, false, cond, ◌&&◌, List, [], ◌∷◌, ◌++◌, map, Some, None, Option, refl, ap, sym, ◌∙◌, subst, ⊎_elim, inl}
 use mathlib.Core.Path.{fun_ext}
 use Rattle.std.specs.Option.{is_some, option_map_or, IfSome, IfNone}
 use Rattle.std.proofs.lemmas.Bool.{cases_Bool, cond-true, cond-false, or_from, or_left}
@@ -19,13 +19,13 @@ use Rattle.lock_table.proofs.WholeTable.{cancel_asked}
 use Rattle.lock_table.proofs.CallSteps.{record_same, blocked_some}
 use Rattle.lock_mgr.specs.declared.requested.Requested.{Requested}
 use Rattle.lock_mgr.specs.declared.requested.Requested.TheVariants.{Granted, Waiting, NotAvailable, Victims}
-use Rattle.lock_mgr.specs.Deadlock.{waits_with, NoDeadlock, AreVictims, owner_of, victims_of, taken_back, without_waits, HasSomeVictims}
+use Rattle.lock_mgr.specs.Deadlock.{waits_with, NoDeadlock, AreVictims, owner_of, SaysWas, victims_of, taken_back, without_waits, HasSomeVictims}
 use Rattle.store_model.specs.declared.need.Need.{Need}
 use Rattle.je_answers.specs.Locking.{record_of}
 use Rattle.txn_locks.specs.declared.got.Got.{Got}
 use Rattle.txn_locks.specs.declared.locked.Locked.{Locked}
-use Rattle.txn_locks.specs.Taking.{state_of, with_got, stop_of, IsTurn}
-use Rattle.txn_locks.specs.Undoing.{IsBack, IsOneGot}
+use Rattle.txn_locks.specs.Taking.{state_of, with_got, was_in, stop_of, IsTurn}
+use Rattle.txn_locks.specs.Undoing.{IsBack, IsOneGot, NotesGot}
 use Rattle.txn_locks.proofs.States.{same_state, told_nothing, waits_nowhere}
 use Rattle.txn_locks.proofs.Backs.{back_at}
 
@@ -68,7 +68,7 @@ victims_pending t at m wait owner vs v w q u = ⊎_elim
     (cases_Bool (is_in u (map (λ x. x.0) vs)))
 
 pub turn_is : (t : TxnId) (n : Need) (wait : Bool) (place : ℕ) (v w : Locks) (q : Requested) → NoDeadlock v → pending_at t v ≡ None → IsRequested t (record_of n) n.asked wait v w q → IsTurn (stop_of place q) t n place wait (state_of v) (state_of w)
-turn_is t n wait place v w Granted s none q = (sym q.owner, same_state (state_of w) (with_got t n (state_of v)) q.locks (λ u. q.pending u refl ∙ told_nothing t u v none))
+turn_is t n wait place v w (Granted was) s none q = (sym q.owner, same_state (state_of w) (with_got t n (state_of v)) q.locks (λ u. q.pending u refl ∙ told_nothing t u v none))
 turn_is t n wait place v w (NotAvailable owner) s none q =
     (sym q.waits, sym q.owner, same_state (state_of w) (state_of v) (λ r. q.locks r ∙ refused_at t (record_of n) n.asked owner v s none q.owner r) (refused_pending t (record_of n) n.asked wait owner v w none q))
 turn_is t n wait place v w (Waiting owner) s none q =
@@ -80,8 +80,8 @@ turn_is t n wait place v w (Victims owner vs) s none q =
 free_from : (w : Lock) (os : List Lock) → None ≡ blocker w os → is_blocked os w ≡ false
 free_from w os is = blocked_some w os ∙ sym (ap is_some is)
 
-pub one_got : (t : TxnId) (at : RecordId) (m : LockType) (wait : Bool) (v w : Locks) → NoDeadlock v → pending_at t v ≡ None → IsRequested t at m wait v w Granted → IsOneGot t (record { at = at; was = held_by t (locks_at at v).0 }) (state_of v) (state_of w)
-one_got t at m wait v w s none q = record {
+pub one_got : (t : TxnId) (at : RecordId) (m : LockType) (wait : Bool) (v w : Locks) (was : Option LockType) → NoDeadlock v → pending_at t v ≡ None → IsRequested t at m wait v w (Granted was) → IsOneGot t (record { at = at; was = held_by t (locks_at at v).0 }) (state_of v) (state_of w)
+one_got t at m wait v w was s none q = record {
   here = subst (IsBack t (held_by t (locks_at at v).0) (locks_at at v)) (sym (q.locks at ∙ cond-true (is_record at at) (after_ask (lock_of t m) (locks_at at v)) (locks_at at v) (record_same at)))
       (back_at t m (locks_at at v) (s.sound.settled at) (free_from (lock_of t m) (locks_at at v).0 q.owner));
   there = λ r e. q.locks r ∙ cond-false (is_record at r) (after_ask (lock_of t m) (locks_at r v)) (locks_at r v) e;
@@ -89,12 +89,13 @@ one_got t at m wait v w s none q = record {
 }
 
 pub got_if_granted : (t : TxnId) (n : Need) (wait : Bool) (place : ℕ) (v w : Locks) (q : Requested) (was : Option LockType) (old new : List Got) → NoDeadlock v → pending_at t v ≡ None → IsRequested t (record_of n) n.asked wait v w q
-    → was ≡ held_by t (locks_at (record_of n) v).0 → IfNone (stop_of place q) (new ≡ old ++ record { at = record_of n; was = was } ∷ [])
-    → IfNone (stop_of place q) ((g : Got) × (g.at ≡ record_of n) × (new ≡ old ++ g ∷ []) × IsOneGot t g (state_of v) (state_of w))
-got_if_granted t n wait place v w Granted was old new s none q is put = (record { at = record_of n; was = was }, refl, put, subst (λ (x : Option LockType). IsOneGot t (record { at = record_of n; was = x }) (state_of v) (state_of w)) (sym is) (one_got t (record_of n) n.asked wait v w s none q))
-got_if_granted t n wait place v w (NotAvailable owner) was old new s none q is put = tt
-got_if_granted t n wait place v w (Waiting owner) was old new s none q is put = tt
-got_if_granted t n wait place v w (Victims owner vs) was old new s none q is put = tt
+    → was ≡ was_in q → SaysWas q (held_by t (locks_at (record_of n) v).0) → IfNone (stop_of place q) (new ≡ old ++ record { at = record_of n; was = was } ∷ [])
+    → IfNone (stop_of place q) (NotesGot t n old new (state_of v) (state_of w))
+got_if_granted t n wait place v w (Granted held) was old new s none q is says put =
+    inl (record { at = record_of n; was = was }, refl, put, subst (λ (x : Option LockType). IsOneGot t (record { at = record_of n; was = x }) (state_of v) (state_of w)) (sym (is ∙ says)) (one_got t (record_of n) n.asked wait v w held s none q))
+got_if_granted t n wait place v w (NotAvailable owner) was old new s none q is says put = tt
+got_if_granted t n wait place v w (Waiting owner) was old new s none q is says put = tt
+got_if_granted t n wait place v w (Victims owner vs) was old new s none q is says put = tt
 
 -- out of memory
 pub err_state : (v w : Locks) → IsSameTable v w → state_of w ≡ state_of v
@@ -102,10 +103,10 @@ err_state v w same = same_state (state_of w) (state_of v) same.locks same.pendin
 
 -- the same by the names that the code has
 pub got_noted : (t : TxnId) (n : Need) (wait : Bool) (place : ℕ) (v w : Locks) (q : Requested) (stop : Option Locked) (was : Option LockType) (at : RecordId) (old mid new : List Got) → stop ≡ stop_of place q → NoDeadlock v → pending_at t v ≡ None
-    → at ≡ record_of n → IsRequested t at n.asked wait v w q → was ≡ held_by t (locks_at at v).0 → mid ≡ old → IfNone stop (new ≡ mid ++ record { at = at; was = was } ∷ [])
-    → IfNone stop ((g : Got) × (g.at ≡ record_of n) × (new ≡ old ++ g ∷ []) × IsOneGot t g (state_of v) (state_of w))
-got_noted t n wait place v w q stop was at old mid new is s none e asked held kept = subst (λ (st : Option Locked). IfNone st (new ≡ mid ++ record { at = at; was = was } ∷ []) → IfNone st ((g : Got) × (g.at ≡ record_of n) × (new ≡ old ++ g ∷ []) × IsOneGot t g (state_of v) (state_of w))) (sym is) inner
+    → at ≡ record_of n → IsRequested t at n.asked wait v w q → was ≡ was_in q → SaysWas q (held_by t (locks_at at v).0) → mid ≡ old → IfNone stop (new ≡ mid ++ record { at = at; was = was } ∷ [])
+    → IfNone stop (NotesGot t n old new (state_of v) (state_of w))
+got_noted t n wait place v w q stop was at old mid new is s none e asked held says kept = subst (λ (st : Option Locked). IfNone st (new ≡ mid ++ record { at = at; was = was } ∷ []) → IfNone st (NotesGot t n old new (state_of v) (state_of w))) (sym is) inner
   where
-    inner : IfNone (stop_of place q) (new ≡ mid ++ record { at = at; was = was } ∷ []) → IfNone (stop_of place q) ((g : Got) × (g.at ≡ record_of n) × (new ≡ old ++ g ∷ []) × IsOneGot t g (state_of v) (state_of w))
-    inner put = got_if_granted t n wait place v w q was old new s none (subst (λ (x : RecordId). IsRequested t x n.asked wait v w q) e asked) (held ∙ ap (λ (x : RecordId). held_by t (locks_at x v).0) e)
+    inner : IfNone (stop_of place q) (new ≡ mid ++ record { at = at; was = was } ∷ []) → IfNone (stop_of place q) (NotesGot t n old new (state_of v) (state_of w))
+    inner put = got_if_granted t n wait place v w q was old new s none (subst (λ (x : RecordId). IsRequested t x n.asked wait v w q) e asked) held (subst (λ (x : RecordId). SaysWas q (held_by t (locks_at x v).0)) e says)
         (subst (λ (x : List Got). IfNone (stop_of place q) (new ≡ x ++ record { at = record_of n; was = was } ∷ [])) kept (subst (λ (x : RecordId). IfNone (stop_of place q) (new ≡ mid ++ record { at = x; was = was } ∷ [])) e put))

@@ -1,15 +1,20 @@
 -- One need after another.
-use Rattle.std.proofs.Common.{◌≡◌, ℕ, ◌<◌, ◌≤◌, ◌+◌, Bool, true, false, ◌||◌, reverse, List, [], ◌∷◌, ◌++◌, length, get_or, drop, map, Some, None, Option, refl, ap, sym, ◌∙◌, subst, ⊎_elim}
-use Rattle.std.specs.List.{slice_get, list_any}
+use Rattle.std.proofs.Common.{◌≡◌, ℕ, ◌<◌, ◌≤◌, ◌+◌, Bool, true, false, cond, not, ◌&&◌, ◌||◌, reverse, List, [], ◌∷◌, ◌++◌, length, get_or, drop, map, Some, None, Option, refl, ap, sym, ◌∙◌, subst, ⊎_elim, inl, inr}
+use Rattle.std.specs.List.{slice_get, list_any, AllByRecursion}
 use Rattle.std.specs.Option.{is_some, IfNone, IfSome}
 use Rattle.std.proofs.lemmas.List.{drop_more, drop_all}
 use Rattle.std.proofs.lemmas.List.Folds.{list_any-append}
 use Rattle.std.proofs.lemmas.Option.{slice_get-get_or}
-use Rattle.std.proofs.lemmas.Bool.{cases_Bool, cond-true, cond-false, or_left, or_right}
+use mathlib.Core.Path.{fun_ext}
+use Rattle.std.proofs.lemmas.Bool.{cases_Bool, both_ways, cond-true, cond-false, or_from, or_left, or_right}
 use Rattle.je_order.specs.declared.txn_id.TxnId.{TxnId}
 use Rattle.lock_table.specs.declared.lock.Lock.{Lock}
 use Rattle.lock_table.specs.declared.record_id.RecordId.{RecordId}
-use Rattle.lock_table.specs.Locks.{lock_of, held_by}
+use Rattle.lock_mode.specs.declared.lock_type.LockType.{LockType}
+use Rattle.lock_mode.specs.declared.lock_type.LockType.TheVariants.{Read, Write, RangeRead, RangeWrite, RangeInsert}
+use Rattle.lock_mode.specs.Modes.{conflicts_with}
+use Rattle.je_order.specs.Transactions.{is_same_txn}
+use Rattle.lock_table.specs.Locks.{lock_of, held_by, is_range, is_blocking, is_blocked, with_lock, after_ask}
 use Rattle.lock_table.specs.Records.{is_record}
 use Rattle.lock_table.proofs.CallSteps.{blocked_some}
 use Rattle.lock_mgr.specs.Deadlock.{AreVictims}
@@ -21,7 +26,7 @@ use Rattle.txn_locks.specs.declared.locked.Locked.{Locked}
 use Rattle.txn_locks.specs.declared.locked.Locked.TheVariants.{Ready, Waiting, NotAvailable, Victims}
 use Rattle.txn_locks.specs.declared.got.Got.{Got}
 use Rattle.txn_locks.specs.Taking.{with_got, with_all, with_granted, when_answered, IsStoppedAt, IsLocked, IfAnswered, IsStop, IsTurn, IsTaking}
-use Rattle.txn_locks.specs.Undoing.{IsOneGot, AreGot, HasNoRead, AreReadsAmong}
+use Rattle.txn_locks.specs.Undoing.{IsOneGot, NotesGot, AreGot, HasNoRead, AreReadsAmong}
 use Rattle.txn_locks.proofs.Backs.{got_more}
 
 -- a need is stopped exactly where there is a least owner in its way
@@ -87,16 +92,24 @@ reads_more t gs g now next among one r h = list_any-append (λ (x : Got). is_rec
     (cases_Bool (is_record g.at r))
 
 pub locking_step : (t : TxnId) (needs : List Need) (i : ℕ) (n : Need) (s now next : LockState) (gs more : List Got) → i < length needs → n ≡ get_or needs i n → IsLocking t needs i s now gs
-    → (owner_before t n now.at ≡ None) × (next ≡ with_got t n now) → (g : Got) × (g.at ≡ record_of n) × (more ≡ gs ++ g ∷ []) × IsOneGot t g now next → IsLocking t needs (i + 1) s next more
+    → (owner_before t n now.at ≡ None) × (next ≡ with_got t n now) → NotesGot t n gs more now next → IsLocking t needs (i + 1) s next more
 locking_step t needs i n s now next gs more within is k turn put = record {
   taking = subst (IsTaking t needs (drop (i + 1) needs) s) (sym turn.1) (taking_more t needs (drop (i + 1) needs) n s now (subst (λ (ns : List Need). IsTaking t needs ns s now) (from_place needs i n within is) k.taking) turn.0);
-  got = got_more t gs more put.0 s now next put.2 k.got put.3;
-  reads = λ none. subst (λ (xs : List Got). AreReadsAmong t xs next.at) (sym put.2) (reads_more t gs put.0 now next (k.reads none) put.3);
+  got = both_got put;
+  reads = both_reads put;
 }
+  where
+    both_got : NotesGot t n gs more now next → AreGot t (reverse more) s next
+    both_got (inl p) = got_more t gs more p.0 s now next p.2 k.got p.3
+    both_got (inr p) = subst (λ (xs : List Got). AreGot t (reverse xs) s next) (sym p.0) (subst (AreGot t (reverse gs) s) (sym p.1) k.got)
+
+    both_reads : NotesGot t n gs more now next → HasNoRead t s.at → AreReadsAmong t more next.at
+    both_reads (inl p) none = subst (λ (xs : List Got). AreReadsAmong t xs next.at) (sym p.2) (reads_more t gs p.0 now next (k.reads none) p.3)
+    both_reads (inr p) none = subst (λ (xs : List Got). AreReadsAmong t xs next.at) (sym p.0) (subst (λ (x : LockState). AreReadsAmong t gs x.at) (sym p.1) (k.reads none))
 
 -- the same where the turn's answer is a value that is none
 pub locking_goes : (t : TxnId) (needs : List Need) (i : ℕ) (n : Need) (wait : Bool) (stop : Option Locked) (s now next : LockState) (gs more : List Got) → stop ≡ None → i < length needs → n ≡ get_or needs i n → IsLocking t needs i s now gs
-    → IsTurn stop t n i wait now next → IfNone stop ((g : Got) × (g.at ≡ record_of n) × (more ≡ gs ++ g ∷ []) × IsOneGot t g now next) → IsLocking t needs (i + 1) s next more
+    → IsTurn stop t n i wait now next → IfNone stop (NotesGot t n gs more now next) → IsLocking t needs (i + 1) s next more
 locking_goes t needs i n wait None s now next gs more none within is k turn put = locking_step t needs i n s now next gs more within is k turn put
 locking_goes t needs i n wait (Some x) s now next gs more none within is k turn put = absurd (cc (none))
 
@@ -164,3 +177,42 @@ pub locking_ends : (t : TxnId) (needs : List Need) (i : ℕ) (wait : Bool) (s no
 locking_ends t needs i wait s now gs past k =
     let e = taking_ends t needs (drop i needs) s now (drop_all i needs past) k.taking in
     (λ level. (e.0, ap (when_answered level t) e.1), k.got, k.reads)
+
+-- ---- a need of RANGE_INSERT where no owner has a lock of a range type
+no_range : (t : TxnId) (os : List Lock) → AllByRecursion (λ o. is_range o.mode ≡ false) os → is_blocked os (lock_of t RangeInsert) ≡ false
+no_range t [] all = refl
+no_range t (o ∷ os) all = or_from (is_blocking (lock_of t RangeInsert) o) (is_blocked os (lock_of t RangeInsert)) (clear o all.0) (no_range t os all.1)
+  where
+    and_false : (b : Bool) → (b && false) ≡ false
+    and_false true = refl
+    and_false false = refl
+
+    by_type : (b : Bool) (m : LockType) → is_range m ≡ false → (b && conflicts_with m RangeInsert) ≡ false
+    by_type b Read h = and_false b
+    by_type b Write h = and_false b
+    by_type b RangeRead h = absurd (both_ways true h refl)
+    by_type b RangeWrite h = absurd (both_ways true h refl)
+    by_type b RangeInsert h = and_false b
+
+    clear : (o : Lock) → is_range o.mode ≡ false → is_blocking (lock_of t RangeInsert) o ≡ false
+    clear o h = by_type (not (is_same_txn t o.txn)) o.mode h
+
+pub free_insert : (t : TxnId) (n : Need) (s : LockState) → n.asked ≡ RangeInsert → ((r : RecordId) → AllByRecursion (λ o. is_range o.mode ≡ false) (s.at r).0) → (owner_before t n s.at ≡ None) × (s ≡ with_got t n s)
+free_insert t n s is none = (
+  nobody (owner_before t n s.at) (sym (stopped_is t n s.at) ∙ clear (record_of n)),
+  ap (λ (f : Queues). record { at = f; pending = s.pending }) (fun_ext (λ r. sym (unless (is_record (record_of n) r) (after_ask (lock_of t n.asked) (s.at r)) (s.at r) (cond-false (is_blocked (s.at r).0 (lock_of t n.asked)) _ _ (clear r) ∙ kept (s.at r))))),
+)
+  where
+    clear : (r : RecordId) → is_blocked (s.at r).0 (lock_of t n.asked) ≡ false
+    clear r = ap (λ (m : LockType). is_blocked (s.at r).0 (lock_of t m)) is ∙ no_range t (s.at r).0 (none r)
+
+    kept : (q : List Lock × List Lock) → (with_lock (lock_of t n.asked) q.0, q.1) ≡ q
+    kept q = ap (λ (m : LockType). (with_lock (lock_of t m) q.0, q.1)) is
+
+    nobody : (o : Option TxnId) → is_some o ≡ false → o ≡ None
+    nobody None h = refl
+    nobody (Some x) h = absurd (both_ways true h refl)
+
+    unless : (b : Bool) (x y : List Lock × List Lock) → x ≡ y → cond b x y ≡ y
+    unless true x y e = e
+    unless false x y e = refl

@@ -84,9 +84,16 @@ pub record HasToWait (t : TxnId) (needs : List Need) (wait : Bool) (s : LockStat
   pub owner : TxnId
   pub stopped : IsStoppedAt t needs s need owner
 
+-- what a request says that the transaction held before
+abbrev pub was_in : Requested → Option LockType
+was_in (Granted was) = was
+was_in (Blocked owner) = None
+was_in (Refused owner) = None
+was_in (Chosen owner victims) = None
+
 -- what a request of one need came to, where it was stopped
 abbrev pub stop_of : ℕ → Requested → Option Locked
-stop_of place Granted = None
+stop_of place (Granted was) = None
 stop_of place (Blocked owner) = Some (Waiting place owner)
 stop_of place (Refused owner) = Some (NotAvailable owner)
 stop_of place (Chosen owner victims) = Some (Victims place owner victims)

@@ -1,5 +1,5 @@
 -- What a call got can be given back, the last first, where it cannot be answered after all.
-use Rattle.std.specs.Prelude.{◌≡◌, List, [], ◌∷◌, Option, None, Some, true, false}
+use Rattle.std.specs.Prelude.{◌≡◌, List, [], ◌∷◌, ◌++◌, ◌⊎◌, Option, None, Some, true, false}
 use Rattle.std.specs.List.{list_any}
 use Rattle.je_order.specs.declared.txn_id.TxnId.{TxnId}
 use Rattle.lock_mode.specs.declared.lock_type.LockType.{LockType}
@@ -9,7 +9,8 @@ use Rattle.lock_table.specs.declared.record_id.RecordId.{RecordId}
 use Rattle.lock_table.specs.Locks.{held_by, after_give_back, WasHeld}
 use Rattle.lock_table.specs.Records.{is_record}
 use Rattle.je_answers.specs.Standing.{LockState}
-use Rattle.je_answers.specs.Locking.{Queues}
+use Rattle.store_model.specs.declared.need.Need.{Need}
+use Rattle.je_answers.specs.Locking.{Queues, record_of}
 use Rattle.txn_locks.specs.declared.got.Got.{Got}
 
 -- the record is as it was once the transaction's lock is what it was; where it holds none, the record is as it was already
@@ -27,6 +28,10 @@ pub record IsOneGot (t : TxnId) (g : Got) (old new : LockState) : Type 0 where
 abbrev pub AreGot : TxnId → List Got → LockState → LockState → Type 0
 AreGot t [] old new = new ≡ old
 AreGot t (g ∷ gs) old new = (mid : LockState) × AreGot t gs old mid × IsOneGot t g mid new
+
+-- a need was granted: its lock was got, and is noted behind the others; or nothing changed
+abbrev pub NotesGot : TxnId → Need → List Got → List Got → LockState → LockState → Type 0
+NotesGot t n gs more old new = ((g : Got) × (g.at ≡ record_of n) × (more ≡ gs ++ g ∷ []) × IsOneGot t g old new) ⊎ ((more ≡ gs) × (new ≡ old))
 
 -- the transaction has no lock of no more than READ
 abbrev pub HasNoRead : TxnId → Queues → Type 0

@@ -2,11 +2,11 @@ use Rattle.std.proofs.Common.{◌≡◌, cond, Some, None, Option, List, [], ap,
 use Rattle.std.specs.Map.{lookup}
 use Rattle.std.specs.Option.{is_some, option_map_or, unwrap_or}
 use Rattle.lock_table.specs.declared.lock.Lock.{Lock}
-use Rattle.lock_table.specs.Locks.{has_lock, is_blocked, blocker, after_ask}
+use Rattle.lock_table.specs.Locks.{has_lock, held_by, is_blocked, blocker, after_ask}
 use Rattle.std.proofs.lemmas.Bool.{both_ways}
 use Rattle.lock_table.specs.declared.record_id.RecordId.{RecordId}
 use Rattle.lock_table.specs.Records.{is_record, queue_at}
-use Rattle.lock_table.specs.Table.{at_txn, is_listed, owner_in, IsOut, IsSameTable}
+use Rattle.lock_table.specs.Table.{at_txn, is_listed, owner_in, SaysHeld, IsOut, IsSameTable}
 use Rattle.lock_table.proofs.WholeTable.{sound_told, sound_same}
 use Rattle.lock_table.proofs.QueueMaps.{at_equal, changed_equal, queue_written, same_written}
 use Rattle.lock_table.proofs.RecordLists.{changed_at, on_err}
@@ -65,3 +65,9 @@ returns-in-Some-clause-answer c = c.in_ok-asked.ensures.answer ∙ ap (λ (q : L
 
 pub returns-clause-answer : goal.returns-clause-answer
 returns-clause-answer c = ap (λ (o : Option (List Lock × List Lock)). blocker c.args.lock (unwrap_or o ([], [])).0) (c.in_default.ensures.value ∙ at_equal c.args.at.now c.args.queues.now.entries)
+
+pub returns-in-Some-clause-was : goal.returns-in-Some-clause-was
+returns-in-Some-clause-was c = subst (λ (q : List Lock × List Lock). SaysHeld c.in_ok-asked.asked (held_by c.args.lock.txn q.0)) (queue_there c.args.queues.now.entries c.args.at.now c.in-Some.queue.now (c.in-Some.ensures.value ∙ at_equal c.args.at.now c.args.queues.now.entries)) c.in_ok-asked.ensures.was
+
+pub returns-clause-was : goal.returns-clause-was
+returns-clause-was c = ap (λ (o : Option (List Lock × List Lock)). held_by c.args.lock.txn (unwrap_or o ([], [])).0) (c.in_default.ensures.value ∙ at_equal c.args.at.now c.args.queues.now.entries)

@@ -1,4 +1,3 @@
-use Rattle.std.proofs.Common.{◌≡◌, ℕ, false, true, ap, sym, subst, ◌∙◌, List}
 use Rattle.lock_table.proofs.HolderFound.{read_at, none_read_at}
 use Rattle.lock_table.proofs.holders.owns_in.Goals as goal
 
