@@ -37,7 +37,7 @@ use Rattle.txn_log.proofs.RedoLsns.{waits_from}
 use Rattle.txn_views.specs.Laws.{own_name}
 use Rattle.environment.specs.declared.written.OwnNames.{OwnNames}
 use Rattle.environment.specs.Valid.{waiting_in}
-use Rattle.environment.specs.Written.{AreFirstsOf, AreNamesOf, IsFirstIn, first_at, first_for, first_in, names_at}
+use Rattle.environment.specs.Written.{AreFirstsOf, AreNamesOf, IsFirstIn, first_at, first_for, first_noted, names_at}
 
 abbrev Entries : Type 0
 Entries = List (TxnId × OwnNames)
@@ -51,11 +51,11 @@ none_mapped f (x ∷ xs) is = cc
 pub first_none : (t : TxnId) (entries : Entries) → names_at t entries ≡ [] → first_at t entries ≡ 0
 first_none t entries none = by_own (at_txn t entries) none
   where
-    by_names : (names : List TreeName) (first : ℕ) → names ≡ [] → first_in names first ≡ 0
+    by_names : (names : List TreeName) (first : ℕ) → names ≡ [] → first_noted names first ≡ 0
     by_names [] first is = refl
     by_names (name ∷ names) first is = cc
 
-    by_own : (o : Option OwnNames) → option_map_or (λ (x : OwnNames). x.names.items) o [] ≡ [] → option_map_or (λ (x : OwnNames). first_in x.names.items x.first) o 0 ≡ 0
+    by_own : (o : Option OwnNames) → option_map_or (λ (x : OwnNames). x.names.items) o [] ≡ [] → option_map_or (λ (x : OwnNames). first_noted x.names.items x.first) o 0 ≡ 0
     by_own None is = refl
     by_own (Some own) is = by_names own.names.items own.first is
 
@@ -108,7 +108,7 @@ IsFirst changes lsn end = IsFirstIn changes lsn × AllByRecursion (λ c. lsn ≤
 pub firsts_written : (old new : Entries) (logged : ℕ → List LoggedChange) (end first : ℕ) (txn : TxnId) (more : List TreeName) →
     (names_at txn old ≡ [] → more ≢ [] → IsFirst (logged txn.0) first end) →
     ((t : TxnId) → names_at t new ≡ cond (is_same_txn txn t) (names_at txn old ++ more) (names_at t old)) →
-    ((t : TxnId) → first_at t new ≡ cond (is_same_txn txn t) (first_in (names_at txn old ++ more) (first_for (names_at txn old) (first_at txn old) first)) (first_at t old)) →
+    ((t : TxnId) → first_at t new ≡ cond (is_same_txn txn t) (first_noted (names_at txn old ++ more) (first_for (names_at txn old) (first_at txn old) first)) (first_at t old)) →
     AreFirstsOf old logged end → AreFirstsOf new logged end
 firsts_written old new logged end first txn more its names lsns firsts = record {
   is = λ t named. (each t).0 named;
@@ -122,23 +122,23 @@ firsts_written old new logged end first txn more its names lsns firsts = record 
   nothing_before [] = tt
   nothing_before (c ∷ cs) = (omega arith, nothing_before cs)
 
-  new_names : (l : List TreeName) → names_at txn old ≡ [] → more ≡ l → Holds txn.0 l (first_in l first)
+  new_names : (l : List TreeName) → names_at txn old ≡ [] → more ≡ l → Holds txn.0 l (first_noted l first)
   new_names [] none is = ((λ named. absurd (named refl)), nothing_before (logged txn.0), omega arith)
   new_names (name ∷ l) none is = let now = its none (λ empty. absurd (not_none name l (sym is ∙ empty))) in ((λ named. now.0), now.1, now.2)
     where
       not_none : (n : TreeName) (ns : List TreeName) → n ∷ ns ≡ [] → ⊥
       not_none n ns h = absurd cc
 
-  by_names : (had : List TreeName) → names_at txn old ≡ had → Holds txn.0 (had ++ more) (first_in (had ++ more) (first_for had (first_at txn old) first))
+  by_names : (had : List TreeName) → names_at txn old ≡ had → Holds txn.0 (had ++ more) (first_noted (had ++ more) (first_for had (first_at txn old) first))
   by_names [] none = new_names more none refl
   by_names (name ∷ had) is = ((λ named. firsts.is txn.0 (λ none. absurd (not_none name had (sym is ∙ none)))), firsts.before txn.0, firsts.reached txn.0)
     where
       not_none : (n : TreeName) (ns : List TreeName) → n ∷ ns ≡ [] → ⊥
       not_none n ns h = absurd cc
 
-  by_test : (t : ℕ) (b : Bool) → is_same_txn txn (txn_id t) ≡ b → Holds t (cond b (names_at txn old ++ more) (names_at (txn_id t) old)) (cond b (first_in (names_at txn old ++ more) (first_for (names_at txn old) (first_at txn old) first)) (first_at (txn_id t) old))
+  by_test : (t : ℕ) (b : Bool) → is_same_txn txn (txn_id t) ≡ b → Holds t (cond b (names_at txn old ++ more) (names_at (txn_id t) old)) (cond b (first_noted (names_at txn old ++ more) (first_for (names_at txn old) (first_at txn old) first)) (first_at (txn_id t) old))
   by_test t true same =
-      subst (λ (u : TxnId). Holds u.0 (names_at txn old ++ more) (first_in (names_at txn old ++ more) (first_for (names_at txn old) (first_at txn old) first))) (same_is txn (txn_id t) same) (by_names (names_at txn old) refl)
+      subst (λ (u : TxnId). Holds u.0 (names_at txn old ++ more) (first_noted (names_at txn old ++ more) (first_for (names_at txn old) (first_at txn old) first))) (same_is txn (txn_id t) same) (by_names (names_at txn old) refl)
   by_test t false other = (firsts.is t, firsts.before t, firsts.reached t)
 
   each : (t : ℕ) → Holds t (names_at (txn_id t) new) (first_at (txn_id t) new)

@@ -10,7 +10,7 @@ use Rattle.lock_table.specs.Table.{at_txn}
 use Rattle.lock_table.proofs.RecordLists.{IsChangedAt, changed_here, changed_there}
 use Rattle.record_tree.specs.declared.tree_name.TreeName.{TreeName}
 use Rattle.environment.specs.declared.written.OwnNames.{OwnNames}
-use Rattle.environment.specs.Written.{HasRoomAt, had_at, names_at, first_at, first_for, first_in}
+use Rattle.environment.specs.Written.{HasRoomAt, had_at, names_at, first_at, first_for, first_noted}
 
 abbrev pub Entries : Type 0
 Entries = List (TxnId × OwnNames)
@@ -22,7 +22,7 @@ abbrev had_in : Option OwnNames → ℕ
 had_in o = option_map_or (λ (x : OwnNames). x.had) o 0
 
 abbrev first_of : Option OwnNames → ℕ
-first_of o = option_map_or (λ (x : OwnNames). first_in x.names.items x.first) o 0
+first_of o = option_map_or (λ (x : OwnNames). first_noted x.names.items x.first) o 0
 
 -- one transaction's entry is another one, with the names and the count that it had
 pub names_stay : (old new : Entries) (u : TxnId) (o : Option OwnNames) (w : OwnNames) → o ≡ at_txn u old → IsChangedAt old new u (Some w) → w.names.items ≡ names_in o → (t : TxnId) → names_at t new ≡ names_at t old
@@ -41,7 +41,7 @@ had_stays old new u o w has c is t = ⊎_elim
 pub firsts_stay : (old new : Entries) (u : TxnId) (was w : OwnNames) → Some was ≡ at_txn u old → IsChangedAt old new u (Some w) → w.names.items ≡ was.names.items → w.first ≡ was.first →
     (t : TxnId) → first_at t new ≡ first_at t old
 firsts_stay old new u was w has c names is t = ⊎_elim
-    (λ h. ap first_of (changed_here old new u (Some w) c t h) ∙ ap₂ (λ (l : List TreeName) (n : ℕ). first_in l n) names is
+    (λ h. ap first_of (changed_here old new u (Some w) c t h) ∙ ap₂ (λ (l : List TreeName) (n : ℕ). first_noted l n) names is
     ∙ ap first_of (subst (λ (x : TxnId). Some was ≡ at_txn x old) (same_is u t h) has))
     (λ h. ap first_of (changed_there old new u (Some w) c t h))
     (cases_Bool (is_same_txn u t))
@@ -55,7 +55,7 @@ firsts_same old new u was has c t = ⊎_elim
 -- an entry more, without names
 pub firsts_made : (old new : Entries) (u : TxnId) (w : OwnNames) → None ≡ at_txn u old → IsChangedAt old new u (Some w) → w.names.items ≡ [] → (t : TxnId) → first_at t new ≡ first_at t old
 firsts_made old new u w has c none t = ⊎_elim
-    (λ h. ap first_of (changed_here old new u (Some w) c t h) ∙ ap (λ (l : List TreeName). first_in l w.first) none ∙ ap first_of (subst (λ (x : TxnId). None ≡ at_txn x old) (same_is u t h) has))
+    (λ h. ap first_of (changed_here old new u (Some w) c t h) ∙ ap (λ (l : List TreeName). first_noted l w.first) none ∙ ap first_of (subst (λ (x : TxnId). None ≡ at_txn x old) (same_is u t h) has))
     (λ h. ap first_of (changed_there old new u (Some w) c t h))
     (cases_Bool (is_same_txn u t))
 
@@ -67,23 +67,23 @@ firsts_less old new u c t = ⊎_elim
     (cases_Bool (is_same_txn u t))
 
 -- names at the end of those that were there
-first_more : (had more : List TreeName) (own first : ℕ) → first_in (had ++ more) (first_for had own first) ≡ first_in (had ++ more) (first_for had (first_in had own) first)
+first_more : (had more : List TreeName) (own first : ℕ) → first_noted (had ++ more) (first_for had own first) ≡ first_noted (had ++ more) (first_for had (first_noted had own) first)
 first_more [] more own first = refl
 first_more (n ∷ had) more own first = refl
 
 pub firsts_more : (old new : Entries) (u : TxnId) (was w : OwnNames) (first : ℕ) (more : List TreeName) → Some was ≡ at_txn u old → IsChangedAt old new u (Some w) → w.names.items ≡ was.names.items ++ more →
     w.first ≡ first_for was.names.items was.first first →
-    (t : TxnId) → first_at t new ≡ cond (is_same_txn u t) (first_in (names_at u old ++ more) (first_for (names_at u old) (first_at u old) first)) (first_at t old)
+    (t : TxnId) → first_at t new ≡ cond (is_same_txn u t) (first_noted (names_at u old ++ more) (first_for (names_at u old) (first_at u old) first)) (first_at t old)
 firsts_more old new u was w first more has c names is t = ⊎_elim
-    (λ h. here h ∙ sym (ap (λ (b : Bool). cond b (first_in (names_at u old ++ more) (first_for (names_at u old) (first_at u old) first)) (first_at t old)) h))
+    (λ h. here h ∙ sym (ap (λ (b : Bool). cond b (first_noted (names_at u old ++ more) (first_for (names_at u old) (first_at u old) first)) (first_at t old)) h))
     (λ h. ap first_of (changed_there old new u (Some w) c t h)
-    ∙ sym (ap (λ (b : Bool). cond b (first_in (names_at u old ++ more) (first_for (names_at u old) (first_at u old) first)) (first_at t old)) h))
+    ∙ sym (ap (λ (b : Bool). cond b (first_noted (names_at u old ++ more) (first_for (names_at u old) (first_at u old) first)) (first_at t old)) h))
     (cases_Bool (is_same_txn u t))
   where
-    here : is_same_txn u t ≡ true → first_at t new ≡ first_in (names_at u old ++ more) (first_for (names_at u old) (first_at u old) first)
+    here : is_same_txn u t ≡ true → first_at t new ≡ first_noted (names_at u old ++ more) (first_for (names_at u old) (first_at u old) first)
     here h =
-        ap first_of (changed_here old new u (Some w) c t h) ∙ ap₂ (λ (l : List TreeName) (n : ℕ). first_in l n) names is ∙ first_more was.names.items more was.first first
-        ∙ ap (λ (o : Option OwnNames). first_in (names_in o ++ more) (first_for (names_in o) (first_of o) first)) has
+        ap first_of (changed_here old new u (Some w) c t h) ∙ ap₂ (λ (l : List TreeName) (n : ℕ). first_noted l n) names is ∙ first_more was.names.items more was.first first
+        ∙ ap (λ (o : Option OwnNames). first_noted (names_in o ++ more) (first_for (names_in o) (first_of o) first)) has
 
 -- the entry that is there has the room
 pub has_room : (old new : Entries) (u : TxnId) (w : OwnNames) (count had : ℕ) → IsChangedAt old new u (Some w) → length w.names.items + count ≤ vec_capacity w.names → w.had + had < 2 ^ 64 → HasRoomAt u count had new

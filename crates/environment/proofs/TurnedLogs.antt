@@ -49,7 +49,7 @@ use Rattle.environment.specs.declared.written.OwnNames.{OwnNames}
 use Rattle.environment.specs.Steps.{RecoversWith}
 use Rattle.environment.specs.Turning.{IsAtMost, IsFirstOf}
 use Rattle.environment.specs.Valid.{Forest, IsValidWith, Lives, active_number}
-use Rattle.environment.specs.Written.{first_at, first_in, names_at}
+use Rattle.environment.specs.Written.{first_at, first_noted, names_at}
 use Rattle.environment.proofs.Bases.{ends_later, firsts_grow, lives_on}
 use Rattle.environment.proofs.Firsts.{firsts_behind, neutral_no_commit}
 
@@ -185,12 +185,12 @@ module _ {D : Type 0} (observable : Bool) (history : D → History) (sync_out re
     below_first : (o : Option ℕ) (start redo : ℕ) → redo ≤ earlier_of start o → IsFirstOf written o → (t : ℕ) → names_at (txn_id t) written ≢ [] → redo ≤ first_at (txn_id t) written
     below_first o start redo low first t some = by_own (at_txn (txn_id t) written) refl some
       where
-        by_names : (own : OwnNames) (names : List TreeName) → at_txn (txn_id t) written ≡ Some own → own.names.items ≢ [] → names ≢ [] → redo ≤ first_in names own.first
+        by_names : (own : OwnNames) (names : List TreeName) → at_txn (txn_id t) written ≡ Some own → own.names.items ≢ [] → names ≢ [] → redo ≤ first_noted names own.first
         by_names own [] is named none = absurd (none refl)
         by_names own (name ∷ names) is named none = at_least o start redo own.first low (first.least (txn_id t) own is named)
 
         by_own : (found : Option OwnNames) → at_txn (txn_id t) written ≡ found → option_map_or (λ (w : OwnNames). w.names.items) found [] ≢ [] →
-            redo ≤ option_map_or (λ (w : OwnNames). first_in w.names.items w.first) found 0
+            redo ≤ option_map_or (λ (w : OwnNames). first_noted w.names.items w.first) found 0
         by_own None is none = absurd (none refl)
         by_own (Some own) is none = by_names own own.names.items is none none
 

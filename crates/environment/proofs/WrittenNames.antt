@@ -4,7 +4,7 @@ use Rattle.je_order.specs.declared.txn_id.TxnId.{TxnId}
 use Rattle.je_order.specs.Transactions.{is_same_txn}
 use Rattle.record_tree.specs.declared.tree_name.TreeName.{TreeName}
 use Rattle.environment.specs.declared.written.OwnNames.{OwnNames}
-use Rattle.environment.specs.Written.{first_at, first_for, first_in, had_at, names_at}
+use Rattle.environment.specs.Written.{first_at, first_for, first_noted, had_at, names_at}
 
 abbrev Entries : Type 0
 Entries = List (TxnId × OwnNames)
@@ -23,10 +23,10 @@ had_through old roomy new txn more count counted same is t =
     ∙ ap (λ (n : ℕ). cond (is_same_txn txn t) (had_at txn old + n) (had_at t old)) counted
 
 pub firsts_through : (old roomy new : Entries) (txn : TxnId) (more : List TreeName) (first : ℕ) → ((t : TxnId) → names_at t roomy ≡ names_at t old) → ((t : TxnId) → first_at t roomy ≡ first_at t old) →
-    ((t : TxnId) → first_at t new ≡ cond (is_same_txn txn t) (first_in (names_at txn roomy ++ more) (first_for (names_at txn roomy) (first_at txn roomy) first)) (first_at t roomy)) →
-    (t : TxnId) → first_at t new ≡ cond (is_same_txn txn t) (first_in (names_at txn old ++ more) (first_for (names_at txn old) (first_at txn old) first)) (first_at t old)
+    ((t : TxnId) → first_at t new ≡ cond (is_same_txn txn t) (first_noted (names_at txn roomy ++ more) (first_for (names_at txn roomy) (first_at txn roomy) first)) (first_at t roomy)) →
+    (t : TxnId) → first_at t new ≡ cond (is_same_txn txn t) (first_noted (names_at txn old ++ more) (first_for (names_at txn old) (first_at txn old) first)) (first_at t old)
 firsts_through old roomy new txn more first names same is t =
     is t
-    ∙ ap (λ (l : List TreeName). cond (is_same_txn txn t) (first_in (l ++ more) (first_for l (first_at txn roomy) first)) (first_at t roomy)) (names txn)
-    ∙ ap (λ (n : ℕ). cond (is_same_txn txn t) (first_in (names_at txn old ++ more) (first_for (names_at txn old) n first)) (first_at t roomy)) (same txn)
-    ∙ ap (λ (n : ℕ). cond (is_same_txn txn t) (first_in (names_at txn old ++ more) (first_for (names_at txn old) (first_at txn old) first)) n) (same t)
+    ∙ ap (λ (l : List TreeName). cond (is_same_txn txn t) (first_noted (l ++ more) (first_for l (first_at txn roomy) first)) (first_at t roomy)) (names txn)
+    ∙ ap (λ (n : ℕ). cond (is_same_txn txn t) (first_noted (names_at txn old ++ more) (first_for (names_at txn old) n first)) (first_at t roomy)) (same txn)
+    ∙ ap (λ (n : ℕ). cond (is_same_txn txn t) (first_noted (names_at txn old ++ more) (first_for (names_at txn old) (first_at txn old) first)) n) (same t)

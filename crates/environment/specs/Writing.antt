@@ -47,7 +47,7 @@ use Rattle.environment.specs.Changing.{AreApartIn, IsRightIn}
 use Rattle.environment.specs.Steps.{HasFailedWith, HasLoggedCall}
 use Rattle.environment.specs.Valid.{IsValidWith, fitting}
 use Rattle.environment.specs.Whole.{HasLimit}
-use Rattle.environment.specs.Written.{first_at, first_for, first_in, had_at, names_at}
+use Rattle.environment.specs.Written.{first_at, first_for, first_noted, had_at, names_at}
 
 -- whether the name of a change has a record that a transaction sees, with its own changes
 abbrev pub has_record : TxnId → AllCells → TreeChange → Bool
@@ -129,7 +129,7 @@ module _ {D : Type 0} where
       pub had : (t : TxnId) → had_at t new.written.by_txn.entries
           ≡ (if is_same_txn txn t then had_at txn old.written.by_txn.entries + count_by (has_record txn (cells_of old.engine.trees)) changes else had_at t old.written.by_txn.entries)
       pub firsts : (t : TxnId) → first_at t new.written.by_txn.entries
-          ≡ (if is_same_txn txn t then first_in (names_at txn old.written.by_txn.entries ++ more) (first_for (names_at txn old.written.by_txn.entries) (first_at txn old.written.by_txn.entries) first)
+          ≡ (if is_same_txn txn t then first_noted (names_at txn old.written.by_txn.entries ++ more) (first_for (names_at txn old.written.by_txn.entries) (first_at txn old.written.by_txn.entries) first)
           else first_at t old.written.by_txn.entries)
 
     -- what changes that are to be logged come to, whatever the model is

@@ -22,13 +22,13 @@ abbrev pub had_at : TxnId → List (TxnId × OwnNames) → ℕ
 had_at t entries = option_map_or (λ o. o.had) (at_txn t entries) 0
 
 -- an LSN where there are names; 0 where there are none
-abbrev pub first_in : List TreeName → ℕ → ℕ
-first_in [] first = 0
-first_in (name ∷ names) first = first
+abbrev pub first_noted : List TreeName → ℕ → ℕ
+first_noted [] first = 0
+first_noted (name ∷ names) first = first
 
 -- the LSN of its first change; 0 where it wrote none
 abbrev pub first_at : TxnId → List (TxnId × OwnNames) → ℕ
-first_at t entries = option_map_or (λ o. first_in o.names.items o.first) (at_txn t entries) 0
+first_at t entries = option_map_or (λ o. first_noted o.names.items o.first) (at_txn t entries) 0
 
 -- the LSN that it had where it had names, else this one
 abbrev pub first_for : List TreeName → ℕ → ℕ → ℕ

@@ -2,7 +2,7 @@
 ghost use Rattle.std.specs.Prelude.{◌≡◌, ◌<◌, ◌+◌, ◌^◌, ◌++◌, true, length, OnOk, IfOk, if◌then◌else◌};
 ghost use Rattle.je_order.specs.declared.txn_id.TxnId.{TxnId as Txn};
 ghost use Rattle.je_order.specs.Transactions.{is_same_txn};
-ghost use Rattle.environment.specs.Written.{HasRoomAt, IsRoomFor, first_at, first_for, first_in, had_at, names_at};
+ghost use Rattle.environment.specs.Written.{HasRoomAt, IsRoomFor, first_at, first_for, first_noted, had_at, names_at};
 
 use crate::written::OwnNames;
 use je_lsn::Lsn;
@@ -77,7 +77,7 @@ pub(crate) fn append_at(
     ensures names { (t : Txn) → names_at t written.new.entries ≡ (if is_same_txn txn t then names_at txn written.old.entries ++ names.items else names_at t written.old.entries) }
     ensures had { (t : Txn) → had_at t written.new.entries ≡ (if is_same_txn txn t then had_at txn written.old.entries + had else had_at t written.old.entries) }
     ensures firsts { (t : Txn) → first_at t written.new.entries
-        ≡ (if is_same_txn txn t then first_in (names_at txn written.old.entries ++ names.items) (first_for (names_at txn written.old.entries) (first_at txn written.old.entries) first) else first_at t written.old.entries) }
+        ≡ (if is_same_txn txn t then first_noted (names_at txn written.old.entries ++ names.items) (first_for (names_at txn written.old.entries) (first_at txn written.old.entries) first) else first_at t written.old.entries) }
 {
     let mut names = names;
     match written.get_mut(&txn) {
