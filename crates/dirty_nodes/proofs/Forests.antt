@@ -15,7 +15,7 @@ use Rattle.db_tree.specs.declared.tree.DbTree.{DbTree}
 use Rattle.tree_nodes.specs.Levels.{AreParts}
 use Rattle.dirty_nodes.specs.Marks.{AllFrom, AllSince, IsMark, IsMarkOr}
 use Rattle.dirty_nodes.specs.Forest.{IsMarkOrIn}
-use Rattle.dirty_nodes.proofs.Marking.{marked_less}
+use Rattle.tree_nodes.proofs.MarkLaws.{marked_less}
 
 abbrev Entries : Type 0
 Entries = List (ℕ × DbTree)

@@ -1,7 +1,3 @@
--- the nodes of a level, listed by the slots that they make
-pub mod Listing
--- what is said of each node that was listed
-pub mod Marking
 -- the trees of all databases, one after another
 pub mod Forests
 -- the roots of trees, by their databases' numbers

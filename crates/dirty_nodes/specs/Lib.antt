@@ -1,4 +1,3 @@
 pub mod Marks
-pub mod Walks
 pub mod Forest
 pub mod Steps

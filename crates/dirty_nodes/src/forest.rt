@@ -1,14 +1,16 @@
 // The nodes of the trees of all databases.
-ghost use Rattle.std.specs.Prelude.{◌≡◌, ◌≤◌, ◌++◌, ◌∷◌, ◌&&◌, [], IfOk, IfSome, OnOk};
+ghost use Rattle.std.specs.Prelude.{◌≡◌, ◌≤◌, ◌++◌, ◌∷◌, ◌&&◌, [], true, IfOk, IfSome, OnOk};
 ghost use Rattle.std.specs.Ordering.{nat_cmp};
 ghost use Rattle.std.specs.BTreeMap.{get};
 ghost use Rattle.db_tree.specs.declared.tree.DbTree.{DbTree as Tree};
 ghost use Rattle.tree_images.specs.Roots.{AreRootsOf, root_image};
+ghost use Rattle.record_map.specs.Cells.{IsRising};
+ghost use Rattle.tree_nodes.specs.Levels.{AreParts};
 ghost use Rattle.record_tree.specs.Nodes.{IsNext, place_cmp};
+ghost use Rattle.dirty_nodes.specs.Marks.{AllFrom, IsMarkOr};
 ghost use Rattle.dirty_nodes.specs.Forest.{AreNotedTrees, HasAllNumbers, IsFrom, IsMarkOrIn, IsSince, is_dirty_in, is_noted_in, left_in, root_for};
 ghost use Rattle.dirty_nodes.specs.Steps.{AreNotedFor, IsNextAt, is_first};
 
-use crate::{least_mark, places_before};
 use db_tree::DbTree;
 use je_lsn::Lsn;
 use log_entry::Root;
@@ -107,7 +109,7 @@ pub fn next_in(
     Ok(found)
 }
 
-/// How many nodes are noted and dirty; None where these are 2^64 or more. It goes over all nodes.
+/// How many nodes are noted and dirty; None where these are 2^64 or more. It goes over the levels.
 pub fn count_in(forest: &BTreeMap<u32, DbTree>) -> Option<u64>
     ensures { IfSome result (λ count. count ≡ left_in forest.now) }
 {
@@ -118,37 +120,41 @@ pub fn count_in(forest: &BTreeMap<u32, DbTree>) -> Option<u64>
     Some(count)
 }
 
-/// The places of the nodes that wait to be logged, or whose images lack what was logged before an LSN. It goes over all
-/// nodes.
-pub fn early_in(
-    forest: &BTreeMap<u32, DbTree>,
-    alloc: Global,
-    since: Lsn,
-) -> Result<Vec<NodePlace>, AllocError>
-    ensures { IfOk result (λ places. places.items ≡ [] → IsSince forest.now since) }
+/// Whether no node waits to be logged, and no image lacks what was logged before an LSN. It goes over all nodes.
+pub fn is_since_in(forest: &BTreeMap<u32, DbTree>, since: Lsn) -> bool
+    ensures { result ≡ true → IsSince forest.now since }
 {
-    let mut places = Vec::new(alloc);
-    for (db, tree) in forest {
-        places_before(&mut places, tree, alloc, *db, since)?;
+    for (_db, tree) in forest {
+        if !tree.levels.is_since(since) {
+            return false;
+        }
     }
-    Ok(places)
+    true
+}
+
+// The least of an LSN and of those from which on images of nodes of a tree lack something.
+fn least_mark(tree: &DbTree, bound: Lsn) -> Lsn
+    ensures upto { result ≤ bound }
+    ensures all { AllFrom result tree.now.levels }
+    ensures some { IsMarkOr bound tree.now.levels result }
+    ensures parts { AreParts tree.now.levels }
+    ensures rising { IsRising tree.now.cells }
+{
+    let _len = tree.cells.len();
+    tree.levels.least_mark(bound)
 }
 
 /// The least of an LSN and of those from which on images of nodes lack something. It goes over all nodes.
-pub fn least_mark_in(
-    forest: &BTreeMap<u32, DbTree>,
-    alloc: Global,
-    bound: Lsn,
-) -> Result<Lsn, AllocError>
-    ensures upto { IfOk result (λ least. least ≤ bound) }
-    ensures all { IfOk result (λ least. IsFrom forest.now least) }
-    ensures some { IfOk result (λ least. IsMarkOrIn bound forest.now least) }
+pub fn least_mark_in(forest: &BTreeMap<u32, DbTree>, bound: Lsn) -> Lsn
+    ensures upto { result ≤ bound }
+    ensures all { IsFrom forest.now result }
+    ensures some { IsMarkOrIn bound forest.now result }
 {
     let mut least = bound;
     for (_db, tree) in forest {
-        least = least_mark(tree, alloc, least)?;
+        least = least_mark(tree, least);
     }
-    Ok(least)
+    least
 }
 
 // Where the last image of a tree's root stands, if it has one.

@@ -11,7 +11,7 @@ ghost use Rattle.in_tree.specs.Checkpoints.{IsEndEntry};
 
 use crate::LogTrees;
 use crate::logging_checkpoints::{image_at, log_alone};
-use dirty_nodes::{count_in, databases_in, early_in, least_mark_in, next_in, note_in, roots_in};
+use dirty_nodes::{count_in, databases_in, is_since_in, least_mark_in, next_in, note_in, roots_in};
 use je_disk::Disk;
 use je_lsn::Lsn;
 use je_order::{List, TxnId};
@@ -80,7 +80,7 @@ impl<D: Disk> LogTrees<D> {
         if bound >= self.log.end() {
             return Err(AllocError);
         }
-        let redo = least_mark_in(&self.trees.forest, alloc, bound)?;
+        let redo = least_mark_in(&self.trees.forest, bound);
         let roots = roots_in(&self.trees.forest, alloc)?;
         if roots.len() > MOST_ROOTS {
             drop(roots);
@@ -144,11 +144,8 @@ impl<D: Disk> Nodes for LogTrees<D> {
         count_in(&self.trees.forest)
     }
 
-    fn is_since(&self, alloc: Global, since: Lsn) -> Result<bool, AllocError> {
-        let early = early_in(&self.trees.forest, alloc, since)?;
-        let none = early.is_empty();
-        drop(early);
-        Ok(none)
+    fn is_since(&self, _alloc: Global, since: Lsn) -> Result<bool, AllocError> {
+        Ok(is_since_in(&self.trees.forest, since))
     }
 
     fn log_start(&mut self, alloc: Global, number: u64, owed: u32) -> Result<Lsn, TreeErr> {

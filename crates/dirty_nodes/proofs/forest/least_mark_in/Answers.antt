@@ -8,11 +8,11 @@ loop-db-init c = (le_refl c.args.bound, done_start (all_from_in c.args.bound) c.
 
 pub loop-db-preserved : goal.loop-db-preserved
 loop-db-preserved c = (
-  le_trans c.in_ok-least.ensures.upto c.loop-db.invariant.0,
-  done_next (all_from_in c.loop-db.least) (all_from_in c.in_ok-least.least) c.args.forest.now.entries c.loop-db._db-iterator c.next.new.self (c.in-Some._db.now, c.in-Some.tree.now)
-      (from_less c.loop-db.least c.in_ok-least.least c.in_ok-least.ensures.upto) c.in-Some.ensures.steps (c.in_ok-least.ensures.all, c.least_mark.ensures.parts, c.least_mark.ensures.rising) c.loop-db.invariant.1,
-  mark_in c.args.forest.now.entries c.args.bound c.loop-db.least c.in_ok-least.least (all_from_in c.loop-db.least) c.loop-db._db-iterator c.next.new.self (c.in-Some._db.now, c.in-Some.tree.now) c.loop-db.invariant.1 c.in-Some.ensures.steps
-      c.in_ok-least.ensures.some c.loop-db.invariant.2,
+  le_trans c.least_mark-least.ensures.upto c.loop-db.invariant.0,
+  done_next (all_from_in c.loop-db.least) (all_from_in c.least_mark-least.result) c.args.forest.now.entries c.loop-db._db-iterator c.next.new.self (c.in-Some._db.now, c.in-Some.tree.now)
+      (from_less c.loop-db.least c.least_mark-least.result c.least_mark-least.ensures.upto) c.in-Some.ensures.steps (c.least_mark-least.ensures.all, c.least_mark-least.ensures.parts, c.least_mark-least.ensures.rising) c.loop-db.invariant.1,
+  mark_in c.args.forest.now.entries c.args.bound c.loop-db.least c.least_mark-least.result (all_from_in c.loop-db.least) c.loop-db._db-iterator c.next.new.self (c.in-Some._db.now, c.in-Some.tree.now) c.loop-db.invariant.1 c.in-Some.ensures.steps
+      c.least_mark-least.ensures.some c.loop-db.invariant.2,
 )
 
 pub returns-clause-upto : goal.returns-clause-upto

@@ -15,9 +15,9 @@ returns g c = record {
   roots = c.in_ok-roots.roots.items;
   entry_is = c.entry_of-entry.ensures.entry;
   is_entry = c.entry_of-entry.ensures.is_entry;
-  upto = c.in_ok-redo.ensures.upto;
-  all = c.in_ok-redo.ensures.all;
-  some = c.in_ok-redo.ensures.some;
+  upto = c.least_mark_in-redo.ensures.upto;
+  all = c.least_mark_in-redo.ensures.all;
+  some = c.least_mark_in-redo.ensures.some;
   roots_are = c.in_ok-roots.ensures;
   below = search rules;
 }
