@@ -1,5 +1,7 @@
 -- The end of a run.
 pub mod FinishLaws
+-- A journal in which no answer ends the run otherwise than well.
+mod JournalEnds
 -- Reading a script.
 pub mod ReadingLaws
 -- Writing one text after another.

@@ -1,7 +1,7 @@
 -- How a run ends.
 use Rattle.std.specs.Prelude.{ℕ, [], ◌∷◌, List, Option, Some, Bool, true, false, if◌then◌else◌}
 use Rattle.store_model.specs.declared.answer.Answer.{Answer}
-use Rattle.store_model.specs.declared.answer.Answer.TheVariants.{LogFull, IdsEnded}
+use Rattle.store_model.specs.declared.answer.Answer.TheVariants.{LogFull, IdsEnded, DiskFault}
 use Rattle.store_model.specs.declared.event.Event.{Event}
 use Rattle.store_model.specs.Journal.{answer_of, is_disk_fault}
 use Rattle.je_answers.specs.Journal.{has_answer}
@@ -18,6 +18,13 @@ cause_of_answer answer later = later
 abbrev pub cause_of_room : List Event → Cause
 cause_of_room [] = Done
 cause_of_room (event ∷ events) = cause_of_answer (answer_of event) (cause_of_room events)
+
+-- an answer by which a run may end otherwise than well
+abbrev pub ends_otherwise : Answer → Bool
+ends_otherwise DiskFault = true
+ends_otherwise LogFull = true
+ends_otherwise IdsEnded = true
+ends_otherwise answer = false
 
 -- how a run with this journal ends, if there was memory for all of it and closing met no fault
 abbrev pub cause_of_journal : List Event → Cause

@@ -2,7 +2,7 @@
 ghost use Rattle.std.specs.Prelude.{◌≡◌, option_map};
 ghost use Rattle.store_model.specs.Journal.{answer_of, answers_some, is_disk_fault};
 ghost use Rattle.je_answers.specs.Journal.{has_answer};
-ghost use Rattle.je_program.specs.Run.{cause_of_answer, cause_of_journal, cause_of_room};
+ghost use Rattle.je_program.specs.Run.{cause_of_answer, cause_of_journal, cause_of_room, ends_otherwise};
 
 use crate::cause::Cause;
 use store_model::{Answer, Event};
@@ -48,12 +48,30 @@ fn room_cause(journal: &[Event]) -> Cause
     Cause::Done
 }
 
+fn ends_otherwise(event: &Event) -> bool
+    ensures { result ≡ answers_some ends_otherwise event.now }
+{
+    matches!(
+        answer_in(event),
+        Some(Answer::DiskFault | Answer::LogFull | Answer::IdsEnded)
+    )
+}
+
+// Whether the run may end otherwise than well. A long journal is gone over once for that.
+fn may_end_otherwise(journal: &[Event]) -> bool
+    ensures { result ≡ has_answer ends_otherwise journal.now }
+{
+    journal.iter().any(|event| ends_otherwise(event))
+}
+
 /// How a run with this journal ends, if there was memory for all of it and closing meets no fault. It
 /// takes no memory.
 pub fn journal_cause(journal: &[Event]) -> Cause
     ensures { result ≡ cause_of_journal journal.now }
 {
-    if has_fault(journal) {
+    if !may_end_otherwise(journal) {
+        Cause::Done
+    } else if has_fault(journal) {
         Cause::Disk
     } else {
         room_cause(journal)
