@@ -1,5 +1,6 @@
 -- A journal in which no answer ends the run otherwise than well.
-use Rattle.std.proofs.Common.{◌≡◌, ◌||◌, List, [], ◌∷◌, Bool, true, false, Option, Some, None, option_map_or, cond, refl, ap, ◌∙◌}
+use Rattle.std.proofs.Common.{◌≡◌, ◌||◌, List, [], ◌∷◌, Bool, true, false, Option, Some, None, refl, ◌∙◌}
+use Rattle.std.specs.Option.{option_map_or}
 use Rattle.store_model.specs.declared.answer.Answer.{Answer}
 use Rattle.store_model.specs.declared.answer.Answer.TheVariants.{DiskFault, LogFull, IdsEnded}
 use Rattle.store_model.specs.declared.event.Event.{Event}
@@ -10,10 +11,9 @@ use Rattle.je_program.specs.declared.cause.Cause.TheVariants.{Done}
 use Rattle.je_program.specs.Run.{cause_of_answer, cause_of_journal, cause_of_room, ends_otherwise}
 
 -- where one of two tests fails, so does the other
-both_fail : (a b c d : Bool) → (a ≡ false → c ≡ false) → (b ≡ false → d ≡ false) → a || b ≡ false → (c || d) ≡ false
+both_fail : (a b c d : Bool) → (a ≡ false → c ≡ false) → (b ≡ false → d ≡ false) → (a || b) ≡ false → (c || d) ≡ false
 both_fail true b c d first second none = cc
-both_fail false b true d first second none = cc
-both_fail false b false d first second none = second none
+both_fail false b c d first second none = rw (first refl) (second none)
 
 -- an answer that does not end the run is no disk fault, and leaves the cause to the others
 no_fault : (answer : Option Answer) → option_map_or ends_otherwise answer false ≡ false → option_map_or is_disk_fault answer false ≡ false
@@ -27,11 +27,11 @@ leaves_cause (Some LogFull) later none = cc
 leaves_cause (Some IdsEnded) later none = cc
 leaves_cause (Some answer) later none = refl
 
-front_fails : (a b : Bool) → a || b ≡ false → a ≡ false
+front_fails : (a b : Bool) → (a || b) ≡ false → a ≡ false
 front_fails true b none = cc
 front_fails false b none = refl
 
-rest_fails : (a b : Bool) → a || b ≡ false → b ≡ false
+rest_fails : (a b : Bool) → (a || b) ≡ false → b ≡ false
 rest_fails true b none = cc
 rest_fails false b none = none
 
