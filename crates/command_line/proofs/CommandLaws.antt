@@ -1,13 +1,12 @@
 -- Valid arguments name a folder, and give a command with its options.
-use Rattle.std.proofs.Common.{◌≡◌, ◌∙◌, ◌≤◌, ◌||◌, ◌⊎◌, ℕ, arith, Bool, true, false, ap, refl, sym, subst, inl, inr, codes, length, List, [], ◌∷◌, ◌++◌, Option, Some, None, is_some, cond, true≢false}
-use Rattle.std.specs.Prelude.{find, option_map, option_and_then}
-use Rattle.std.specs.List.{AllByRecursion}
+use Rattle.std.proofs.Common.{◌≡◌, ◌∙◌, ◌≤◌, ◌||◌, ℕ, arith, Bool, true, false, ap, refl, sym, subst, inl, inr, codes, List, [], ◌∷◌, ◌++◌, Option, Some, None, is_some, cond, true≢false}
+use Rattle.std.specs.Prelude.{IfSome, find, option_map, option_and_then, if◌then◌else◌}
 use Rattle.std.specs.Option.{option_map_or}
 use Rattle.std.specs.Str.{bytes_eq}
 use Rattle.std.proofs.lemmas.Slice.Eq.{bytes_eq-Decides}
 use Rattle.clap.specs.Facts.{explicit_source}
-use Rattle.clap.specs.Lexer.{without_minus}
-use Rattle.clap.specs.Walk.{Row, Rule, Text, answers_to, finished, has_row, is_empty, nothing_held, one_of, settled, walk, walk_from}
+use Rattle.je_order.specs.Words.{is_word}
+use Rattle.clap.specs.Walk.{Row, Text, answers_to, finished, first_of, has_row, is_empty, nothing_held, settled, walk, walk_from}
 use Rattle.clap.specs.Simple.{App, Shape, built, built_leaf, entered, filled_from, help_rule, help_shape, names_of, rows_at, subcommand_of}
 use Rattle.clap.specs.Takes.{is_given}
 use Rattle.clap.specs.Kinds.{Kinds, or_else}
@@ -15,23 +14,31 @@ use Rattle.clap.specs.Faults.{built_fault, check_fault, defaults_fault, entered_
 use Rattle.clap.specs.declared.builder.value_parser.Reading.{Reading}
 use Rattle.command_line.specs.declared.command.RunSettings.{RunSettings}
 use Rattle.command_line.specs.declared.command.Command.{Command}
-use Rattle.command_line.specs.declared.command.Command.TheVariants.{Run, Soak, PrintLog}
-use Rattle.command_line.specs.Arguments.{AreSettings, IsBounded, command_of, home_of, is_taken, jedb, number_of, number_read, printlog_command, run_command, settings_of, soak_command, soak_of}
+use Rattle.command_line.specs.declared.command.Command.TheVariants.{Run, Soak, Dump, PrintLog}
+use Rattle.command_line.specs.Arguments.{AreSettings, IsBounded, command_of, dump_command, dump_if, home_of, is_given as is_given_flag, is_named, is_parsed, jedb, number_of, number_read, printlog_command, run_command, settings_of, soak_command}
 use Rattle.command_line.proofs.WalkLaws.{neither}
 use Rattle.command_line.proofs.StopLaws.{StopsOther, walk_other}
-use Rattle.command_line.proofs.RowLaws.{AreFilled, IsNumber, IsNumberIf, IsValue, Number, first_there, number_there, row_there}
-use Rattle.command_line.proofs.NumberLaws.{IsReadIn, number_spelled}
-use Rattle.command_line.proofs.LevelLaws.{AreRead, help_kept, home_kept, level_read, number_kept, uses_kept}
+use Rattle.command_line.proofs.RowLaws.{AreFilled, IsNumberIf, IsValue, Number, first_there, number_there, row_there}
+use Rattle.command_line.proofs.NumberLaws.{number_spelled}
+use Rattle.command_line.proofs.LevelLaws.{AreRead, help_kept, level_read, number_kept, print_kept, text_kept, uses_kept}
 
 -- ---- options in rows that were read
 
--- what valid arguments give: a folder, and a command with settings in their bounds
+-- what arguments give at which a parse meets no fault: a folder, and a command with settings in their bounds, if a database that they name has such a name
 pub record HasLine (found : Option (Text × List Row)) : Type 0 where
   pub home : Text
   pub home_is : home_of found ≡ Some home
-  pub command : Command
-  pub command_is : option_and_then command_of found ≡ Some command
-  pub bounded : IsBounded command
+  pub command_there : is_some (option_and_then command_of found) ≡ is_named found
+  pub bounded : IfSome (option_and_then command_of found) IsBounded
+
+-- the same of a command that is given in any case
+with_command : (found : Option (Text × List Row)) (home : Text) (command : Command) → home_of found ≡ Some home → option_and_then command_of found ≡ Some command → is_named found ≡ true → IsBounded command → HasLine found
+with_command found home command home_is command_is named bounded = record {
+  home = home;
+  home_is = home_is;
+  command_there = ap is_some command_is ∙ sym named;
+  bounded = subst (λ (o : Option Command). IfSome o IsBounded) (sym command_is) bounded;
+}
 
 -- an option has a number in its bounds
 pub record HasNumber (number : Number) (rows : List Row) : Type 0 where
@@ -103,7 +110,7 @@ run_has_line args none =
     let rows = (rows_at s args).1 in
     let read : AreRead settings_numbers s rows = level_read settings_numbers s args
     (uses_kept settings_numbers s.rules (
-      home_kept settings_numbers (λ v. (apart, (apart, tt))),
+      text_kept settings_numbers (codes "home") (λ v. (apart, (apart, tt))),
       (
         number_kept settings_numbers (codes "file-max") 4096 1073741824 (codes "10000000" ∷ []) false (λ v is. ((λ same. (refl, is)), (apart, tt))),
         (
@@ -117,7 +124,7 @@ run_has_line args none =
     let settings = settings_there rows
     (number_defaulted settings_numbers rows read.filled file_max_number (omega arith) (λ id how v is. is.0) (read.defaulted.1.0 refl))
     (number_defaulted settings_numbers rows read.filled fanout_number (omega arith) (λ id how v is. is.1.0) (read.defaulted.1.1.0 refl)) in
-    record { home = home.0; home_is = home.1; command = Run settings.0; command_is = ap (option_map Run) settings.1; bounded = settings.2 }
+    with_command (Some (rows_at s args)) home.0 (Run settings.0) home.1 (ap (option_map Run) settings.1) refl settings.2
 
 soak_has_line : (args : List Text) → level_fault (leaf_of soak_command) [] nothing_held args false [] ≡ [] → HasLine (Some (rows_at (leaf_of soak_command) args))
 soak_has_line args none =
@@ -125,7 +132,7 @@ soak_has_line args none =
     let rows = (rows_at s args).1 in
     let read : AreRead soak_numbers s rows = level_read soak_numbers s args
     (uses_kept soak_numbers s.rules (
-      home_kept soak_numbers (λ v. (apart, (apart, (apart, tt)))),
+      text_kept soak_numbers (codes "home") (λ v. (apart, (apart, (apart, tt)))),
       (
         number_kept soak_numbers (codes "seed") 0 4294967295 [] true (λ v is. ((λ same. (refl, is)), (apart, (apart, tt)))),
         (
@@ -143,21 +150,43 @@ soak_has_line args none =
     let settings = settings_there rows
     (number_defaulted soak_numbers rows read.filled file_max_number (omega arith) (λ id how v is. is.1.0) (read.defaulted.1.1.0 refl))
     (number_defaulted soak_numbers rows read.filled fanout_number (omega arith) (λ id how v is. is.1.1.0) (read.defaulted.1.1.1.0 refl)) in
-    record {
-      home = home.0;
-      home_is = home.1;
-      command = Soak seed.value settings.0;
-      command_is = rw seed.is (ap (option_map (Soak seed.value)) settings.1);
-      bounded = settings.2;
-    }
+    with_command (Some (rows_at s args)) home.0 (Soak seed.value settings.0) home.1 (rw seed.is (ap (option_map (Soak seed.value)) settings.1)) refl settings.2
 
 printlog_has_line : (args : List Text) → level_fault (leaf_of printlog_command) [] nothing_held args false [] ≡ [] → HasLine (Some (rows_at (leaf_of printlog_command) args))
 printlog_has_line args none =
     let s = leaf_of printlog_command in
     let rows = (rows_at s args).1 in
-    let read : AreRead [] s rows = level_read [] s args (uses_kept [] s.rules (home_kept [] (λ v. tt), (help_kept [], tt))) (inl refl, (inl refl, tt)) none in
+    let read : AreRead [] s rows = level_read [] s args (uses_kept [] s.rules (text_kept [] (codes "home") (λ v. tt), (help_kept [], tt))) (inl refl, (inl refl, tt)) none in
     let home = has_home [] rows read.filled (read.given.0 refl) in
-    record { home = home.0; home_is = home.1; command = PrintLog; command_is = refl; bounded = tt }
+    with_command (Some (rows_at s args)) home.0 PrintLog home.1 refl refl tt
+
+dump_there : (printed : Bool) (db : Option Text) → is_some (option_and_then (dump_if printed) db) ≡ option_map_or is_word db false
+dump_there printed None = refl
+dump_there printed (Some db) = by (is_word db)
+  where
+    by : (b : Bool) → is_some (if b then Some (Dump db printed) else None) ≡ b
+    by true = refl
+    by false = refl
+
+dump_bounded : (printed : Bool) (db : Option Text) → IfSome (option_and_then (dump_if printed) db) IsBounded
+dump_bounded printed None = tt
+dump_bounded printed (Some db) = by (is_word db)
+  where
+    by : (b : Bool) → IfSome (if b then Some (Dump db printed) else None) IsBounded
+    by true = tt
+    by false = tt
+
+dump_has_line : (args : List Text) → level_fault (leaf_of dump_command) [] nothing_held args false [] ≡ [] → HasLine (Some (rows_at (leaf_of dump_command) args))
+dump_has_line args none =
+    let s = leaf_of dump_command in
+    let rows = (rows_at s args).1 in
+    let read : AreRead [] s rows = level_read [] s args
+    (uses_kept [] s.rules (text_kept [] (codes "home") (λ v. tt), (text_kept [] (codes "db") (λ v. tt), (print_kept [] tt, (help_kept [], tt)))))
+    (inl refl, (inl refl, (inr tt, (inl refl, tt)))) none in
+    let home = has_home [] rows read.filled (read.given.0 refl) in
+    let printed = is_given_flag (codes "print") rows in
+    let db = first_of (codes "db") rows in
+    record { home = home.0; home_is = home.1; command_there = dump_there printed db; bounded = dump_bounded printed db }
 
 -- ---- the whole command line
 
@@ -184,18 +213,20 @@ wanted rows false none = cc
 entered_has_line : (stop : Option (Text × List Text)) → StopsOther stop → entered_fault jedb_built stop ≡ [] → is_some (entered jedb_built stop) ≡ true → HasLine (entered jedb_built stop)
 entered_has_line None other none in_one = cc
 entered_has_line (Some p) other none in_one =
-    go (answers_to p.0 (codes "run", [])) (answers_to p.0 (codes "soak", [])) (answers_to p.0 (codes "printlog", [])) (answers_to p.0 (codes "help", [])) (help_apart p.0 other) none in_one
+    go (answers_to p.0 (codes "run", [])) (answers_to p.0 (codes "soak", [])) (answers_to p.0 (codes "printlog", [])) (answers_to p.0 (codes "dump", [])) (answers_to p.0 (codes "help", [])) (help_apart p.0 other) none in_one
   where
-    chosen : Bool → Bool → Bool → Bool → Option Shape
-    chosen b₁ b₂ b₃ b₄ = cond b₁ (Some (leaf_of run_command)) (cond b₂ (Some (leaf_of soak_command)) (cond b₃ (Some (leaf_of printlog_command)) (cond b₄ (Some help_built) None)))
+    chosen : Bool → Bool → Bool → Bool → Bool → Option Shape
+    chosen b₁ b₂ b₃ b₄ b₅ =
+        cond b₁ (Some (leaf_of run_command)) (cond b₂ (Some (leaf_of soak_command)) (cond b₃ (Some (leaf_of printlog_command)) (cond b₄ (Some (leaf_of dump_command)) (cond b₅ (Some help_built) None))))
 
-    go : (b₁ b₂ b₃ b₄ : Bool) → b₄ ≡ false → option_map_or (λ s. level_fault s [] nothing_held p.1 false []) (chosen b₁ b₂ b₃ b₄) [] ≡ [] →
-        is_some (option_map (λ s. rows_at s p.1) (chosen b₁ b₂ b₃ b₄)) ≡ true → HasLine (option_map (λ s. rows_at s p.1) (chosen b₁ b₂ b₃ b₄))
-    go true b₂ b₃ b₄ apart none in_one = run_has_line p.1 none
-    go false true b₃ b₄ apart none in_one = soak_has_line p.1 none
-    go false false true b₄ apart none in_one = printlog_has_line p.1 none
-    go false false false true apart none in_one = absurd (true≢false apart)
-    go false false false false apart none in_one = cc
+    go : (b₁ b₂ b₃ b₄ b₅ : Bool) → b₅ ≡ false → option_map_or (λ s. level_fault s [] nothing_held p.1 false []) (chosen b₁ b₂ b₃ b₄ b₅) [] ≡ [] →
+        is_some (option_map (λ s. rows_at s p.1) (chosen b₁ b₂ b₃ b₄ b₅)) ≡ true → HasLine (option_map (λ s. rows_at s p.1) (chosen b₁ b₂ b₃ b₄ b₅))
+    go true b₂ b₃ b₄ b₅ apart none in_one = run_has_line p.1 none
+    go false true b₃ b₄ b₅ apart none in_one = soak_has_line p.1 none
+    go false false true b₄ b₅ apart none in_one = printlog_has_line p.1 none
+    go false false false true b₅ apart none in_one = dump_has_line p.1 none
+    go false false false false true apart none in_one = absurd (true≢false apart)
+    go false false false false false apart none in_one = cc
 
 faultless_has_line : (args : List Text) → built_fault jedb_built nothing_held args ≡ [] → HasLine (entered jedb_built (walk jedb_built.top.rules (names_of jedb_built) nothing_held args).stopped)
 faultless_has_line args none =
@@ -218,7 +249,7 @@ nothing : (kinds : Kinds) → is_empty kinds ≡ true → kinds ≡ []
 nothing [] empty = refl
 nothing (k ∷ ks) empty = grind arith
 
--- valid arguments name a folder and give a command
-pub right_has_line : (args : List Text) → is_taken args ≡ true → HasLine (subcommand_of jedb args)
-unfolding is_taken
+-- arguments at which a parse meets no fault name a folder and give a command
+pub right_has_line : (args : List Text) → is_parsed args ≡ true → HasLine (subcommand_of jedb args)
+unfolding is_parsed
 right_has_line args right = faultless_has_line args (nothing (fault_of jedb args) right)

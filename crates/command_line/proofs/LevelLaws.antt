@@ -1,9 +1,9 @@
 -- A command's arguments at which a parse meets no fault, for any rules and any table of options that are numbers: each option that is
 -- required or has a default has a value, and that of a number is in its bounds.
-use Rattle.std.proofs.Common.{◌≡◌, ◌∙◌, ◌&&◌, ◌||◌, ◌⊎◌, ℕ, Bool, true, false, not, ap, refl, sym, subst, inl, inr, ⊎_elim, codes, length, List, [], ◌∷◌, Option, Some, None, cond, true≢false}
+use Rattle.std.proofs.Common.{◌≡◌, ◌∙◌, ◌&&◌, ◌||◌, ◌⊎◌, ◌==◌, ℕ, arith, Bool, true, false, not, ap, refl, sym, subst, ⊎_elim, codes, length, List, [], ◌∷◌, Some, cond}
 use Rattle.std.specs.Prelude.{find, fold, unwrap_or, if◌then◌else◌}
 use Rattle.std.specs.List.{AllByRecursion, list_any}
-use Rattle.std.specs.Str.{bytes_eq}
+use Rattle.std.proofs.lemmas.Bool.{eqb-true}
 use Rattle.std.proofs.lemmas.Slice.Eq.{bytes_eq-Decides}
 use Rattle.clap.specs.ValueTests.{accepts}
 use Rattle.clap.specs.Values.{refused_kind}
@@ -11,13 +11,13 @@ use Rattle.clap.specs.Facts.{parser_of_value}
 use Rattle.clap.specs.Walk.{Row, Rule, Text, finished, has_row, is_empty, nothing_held, reading_by, settled, used, walk, walk_from, with_default}
 use Rattle.clap.specs.Simple.{Shape, filled, help_rule}
 use Rattle.clap.specs.Takes.{is_given}
-use Rattle.clap.specs.Kinds.{Kinds, check_kinds, or_else, range_kinds, value_kinds, values_kinds}
+use Rattle.clap.specs.Kinds.{check_kinds, or_else, range_kinds, value_kinds, values_kinds}
 use Rattle.clap.specs.Faults.{action_fault, check_fault, defaults_fault, level_fault, repeat_fault, settle_fault, use_fault, values_fault, walk_fault}
-use Rattle.clap.specs.declared.builder.action.ArgAction.TheVariants.{Set}
+use Rattle.clap.specs.declared.builder.action.ArgAction.TheVariants.{Set, SetTrue}
 use Rattle.clap.specs.declared.builder.value_parser.Reading.TheVariants.{WithoutMinus}
 use Rattle.clap.specs.declared.error.kind.ErrorKind.{ErrorKind}
-use Rattle.clap.specs.declared.error.kind.ErrorKind.TheVariants.{DisplayHelp}
-use Rattle.command_line.specs.Arguments.{home_option, number_option}
+use Rattle.clap.specs.declared.error.kind.ErrorKind.TheVariants.{DisplayHelp, WrongNumberOfValues}
+use Rattle.command_line.specs.Arguments.{number_option, print_option, text_option}
 use Rattle.command_line.proofs.WalkLaws.{UseKeeps, neither, settled_keeps, walk_keeps}
 use Rattle.command_line.proofs.RowLaws.{AreFilled, AreValues, IsNumber, IsValue, Number, default_filled, default_stays, default_there, no_default, set_filled}
 
@@ -43,14 +43,27 @@ found_in P test (r ∷ rs) a all found = go (test r) (found_in P test rs a all.1
     go true later is = subst P (ap (λ o. unwrap_or o a) is) all.0
     go false later is = later is
 
+-- where no value is wanted, a value is one too many
+some_values : (v : Text) (vs : List Text) → range_kinds 0 0 (length (v ∷ vs)) ≡ [] → ⊥
+some_values v vs none = go (0 == length (v ∷ vs)) refl none
+  where
+    go : (b : Bool) → (0 == length (v ∷ vs)) ≡ b → cond b [] (WrongNumberOfValues ∷ []) ≡ [] → ⊥
+    go false is none = cc
+    go true is none = (let same : 0 ≡ length (v ∷ vs) = eqb-true 0 (length (v ∷ vs)) is in omega (arith, same))
+
 module _ (table : List Number) where
   -- a use without fault fills the option's row
   abbrev pub Kept : Rule → Type 0
   Kept a = (values : List Text) (rows : List Row) → use_fault false a values rows ≡ [] → AreFilled table rows → AreFilled table (used a values rows)
 
-  pub home_kept : ((v : Text) → IsValue table (codes "home") (reading_by (filled home_option)) v) → Kept (filled home_option)
-  home_kept any [] rows none held = cc
-  home_kept any (v ∷ vs) rows none held = set_filled table (codes "home") (reading_by (filled home_option)) (v ∷ vs) rows (any v) held
+  pub text_kept : (name : Text) → ((v : Text) → IsValue table name (reading_by (filled (text_option name))) v) → Kept (filled (text_option name))
+  text_kept name any [] rows none held = cc
+  text_kept name any (v ∷ vs) rows none held = set_filled table name (reading_by (filled (text_option name))) (v ∷ vs) rows (any v) held
+
+  pub print_kept : IsValue table (codes "print") (reading_by (filled print_option)) (codes "true") → Kept (filled print_option)
+  print_kept is [] rows none held = set_filled table (codes "print") (reading_by (filled print_option)) (codes "true" ∷ []) rows is held
+  print_kept is (v ∷ vs) rows none held =
+      absurd (some_values v vs (neither (range_kinds 0 0 (length (v ∷ vs))) (action_fault SetTrue false (filled print_option) (v ∷ vs) rows) none).0)
 
   pub number_kept : (name : Text) (low high : ℕ) (defaults : List Text) (required : Bool) → ((v : Text) → IsNumber low high v → IsValue table name WithoutMinus v) →
       Kept (filled (number_option name low high defaults required))

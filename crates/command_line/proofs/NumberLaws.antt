@@ -1,5 +1,5 @@
 -- A value that the parser of a number takes is read as a number in its bounds.
-use Rattle.std.proofs.Common.{◌≡◌, ◌∙◌, ◌==◌, ◌≤◌, ◌<◌, ◌^◌, ℕ, arith, Bool, true, false, ap, cond, refl, sym, subst, List, [], ◌∷◌, Option, Some, None, drop, true≢false}
+use Rattle.std.proofs.Common.{◌≡◌, ◌∙◌, ◌==◌, ◌≤◌, ◌<◌, ◌^◌, ℕ, arith, Bool, true, false, ap, cond, refl, sym, subst, [], ◌∷◌, Option, Some, None, drop, true≢false}
 use Rattle.std.proofs.lemmas.Bool.{eqb-true}
 use Rattle.std.specs.Prelude.{pos, unwrap_or, if◌then◌else◌}
 use Rattle.std.specs.Char.{digit_value}

@@ -1,6 +1,6 @@
 -- Each row that a walk over a command's arguments makes has a value, and that of a number one in its bounds; of any table of
 -- options that are numbers.
-use Rattle.std.proofs.Common.{◌≡◌, ◌∙◌, ◌++◌, ◌||◌, ℕ, Bool, true, false, ap, refl, sym, subst, codes, List, [], ◌∷◌, Option, Some, None, is_some, cond, pos}
+use Rattle.std.proofs.Common.{◌≡◌, ◌∙◌, ◌++◌, ◌||◌, ℕ, Bool, true, false, ap, refl, sym, subst, List, [], ◌∷◌, Option, Some, None, is_some, cond, pos}
 use Rattle.std.specs.Prelude.{find, option_map, option_and_then, slice_get, unwrap_or}
 use Rattle.std.specs.List.{AllByRecursion}
 use Rattle.std.specs.Str.{bytes_eq}

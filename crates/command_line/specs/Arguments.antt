@@ -1,21 +1,36 @@
 -- The command line of `jedb`, as the command parser takes it.
-use Rattle.std.specs.Prelude.{ℕ, ◌≤◌, List, [], ◌∷◌, Bool, true, false, codes, pos, Option, Some, None, option_and_then, option_map, IfSome, if◌then◌else◌}
+use Rattle.std.specs.Prelude.{ℕ, ◌≤◌, ◌&&◌, List, [], ◌∷◌, Bool, true, false, codes, pos, Option, Some, None, option_and_then, option_map, IfSome, if◌then◌else◌}
+use Rattle.std.specs.Option.{option_map_or}
 use Rattle.std.specs.Str.{bytes_eq}
 use Rattle.std.specs.Str.Parse.{digits_value, without_leading_plus}
 use Rattle.clap.specs.ValueTests.{is_unsigned_in}
 use Rattle.clap.specs.Walk.{Row, Rule, Text, first_of, is_empty, one_of}
 use Rattle.clap.specs.Simple.{App, new_app, new_rule, on_top, subcommand_of, with_rule, with_subcommand}
 use Rattle.clap.specs.Faults.{fault_of}
+use Rattle.clap.specs.declared.builder.action.ArgAction.TheVariants.{SetTrue}
 use Rattle.clap.specs.declared.builder.value_parser.ValueParser.TheVariants as parser
+use Rattle.je_order.specs.Words.{is_word}
 use Rattle.command_line.specs.declared.command.RunSettings.{RunSettings}
 use Rattle.command_line.specs.declared.command.Command.{Command}
-use Rattle.command_line.specs.declared.command.Command.TheVariants.{Run, Soak, PrintLog}
+use Rattle.command_line.specs.declared.command.Command.TheVariants.{Run, Soak, Dump, PrintLog}
 
 -- ---- the rules
 
--- the option that names the environment's folder: it is required, and takes one value
+-- an option of this name that is required, and takes one value
+abbrev pub text_option : Text → Rule
+text_option name = record (new_rule name) { long = Some name; required = true }
+
+-- the option that names the environment's folder
 abbrev pub home_option : Rule
-home_option = record (new_rule (codes "home")) { long = Some (codes "home"); required = true }
+home_option = text_option (codes "home")
+
+-- the option that names a database
+abbrev pub db_option : Rule
+db_option = text_option (codes "db")
+
+-- the option that asks for bytes as themselves where they can be printed; it takes no value
+abbrev pub print_option : Rule
+print_option = record (new_rule (codes "print")) { long = Some (codes "print"); action = Some SetTrue }
 
 -- an option of this name that is one number in these bounds; it has these defaults, at most one, or is required
 abbrev pub number_option : Text → ℕ → ℕ → List Text → Bool → Rule
@@ -54,17 +69,33 @@ soak_command = with_settings (with_rule (with_rule (new_app (codes "soak")) home
 abbrev pub printlog_command : App
 printlog_command = with_rule (new_app (codes "printlog")) home_option
 
+-- `dump`, which takes the folder, a database and how its bytes are shown
+abbrev pub dump_command : App
+dump_command = with_rule (with_rule (with_rule (new_app (codes "dump")) home_option) db_option) print_option
+
 -- `jedb`, which takes one of its commands; no program's name is before the arguments
 abbrev pub jedb : App
-jedb = with_subcommand (with_subcommand (with_subcommand
+jedb = with_subcommand (with_subcommand (with_subcommand (with_subcommand
     (on_top (λ s. record s { no_binary_name = true; subcommand_required = true }) (new_app (codes "jedb")))
-    run_command.top) soak_command.top) printlog_command.top
+    run_command.top) soak_command.top) printlog_command.top) dump_command.top
 
 -- ---- what is read
 
--- whether the arguments are valid: a parse meets no fault at them
+-- whether a parse meets no fault at the arguments
+unfoldable pub is_parsed : List Text → Bool
+is_parsed args = is_empty (fault_of jedb args)
+
+-- whether the value of `--db` is a database's name, in what a parse finds for a command that has this option
+abbrev pub has_name : Text × List Row → Bool
+has_name given = if bytes_eq given.0 (codes "dump") then option_map_or is_word (first_of (codes "db") given.1) false else true
+
+-- the same, in what a parse finds
+abbrev pub is_named : Option (Text × List Row) → Bool
+is_named found = option_map_or has_name found true
+
+-- whether the arguments are valid: a parse meets no fault at them, and a database that they name has such a name
 unfoldable pub is_taken : List Text → Bool
-is_taken args = is_empty (fault_of jedb args)
+is_taken args = is_parsed args && is_named (subcommand_of jedb args)
 
 -- the value of `--home`, in what a parse finds for a command
 abbrev pub home_of : Option (Text × List Row) → Option Text
@@ -90,15 +121,32 @@ settings_with file_max fanout = record { file_max = file_max; fanout = fanout }
 abbrev pub settings_of : List Row → Option RunSettings
 settings_of rows = option_and_then (λ file_max. option_map (settings_with file_max) (number_of (codes "fanout") rows)) (number_of (codes "file-max") rows)
 
+-- `run` with the two settings
+abbrev pub run_of : List Row → Option Command
+run_of rows = option_map Run (settings_of rows)
+
 -- `soak` with its seed and the two settings
 abbrev pub soak_of : List Row → Option Command
 soak_of rows = option_and_then (λ seed. option_map (Soak seed) (settings_of rows)) (number_of (codes "seed") rows)
 
+-- whether an option without a value is given
+abbrev pub is_given : Text → List Row → Bool
+is_given name rows = option_map_or (λ value. bytes_eq value (codes "true")) (first_of name rows) false
+
+-- `dump` of a database, if that is the name of one
+abbrev pub dump_if : Bool → Text → Option Command
+dump_if printed db = if is_word db then Some (Dump db printed) else None
+
+-- `dump` with its options
+abbrev pub dump_of : List Row → Option Command
+dump_of rows = option_and_then (dump_if (is_given (codes "print") rows)) (first_of (codes "db") rows)
+
 -- the command of this name with its options
 abbrev pub command_of : Text × List Row → Option Command
 command_of given =
-    if bytes_eq given.0 (codes "run") then option_map Run (settings_of given.1)
+    if bytes_eq given.0 (codes "run") then run_of given.1
     else if bytes_eq given.0 (codes "soak") then soak_of given.1
+    else if bytes_eq given.0 (codes "dump") then dump_of given.1
     else Some PrintLog
 
 -- what is found when the folder and the command are there
@@ -126,6 +174,7 @@ pub record AreSettings (settings : RunSettings) : Type 0 where
 abbrev pub settings_in : Command → Option RunSettings
 settings_in (Run settings) = Some settings
 settings_in (Soak seed settings) = Some settings
+settings_in (Dump db printed) = None
 settings_in PrintLog = None
 
 -- the settings of a command are in their bounds, if it has some

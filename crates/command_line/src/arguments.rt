@@ -3,12 +3,13 @@ ghost use Rattle.std.specs.Prelude.{◌≡◌, IfOk, IfSome, false, is_some, map
 ghost use Rattle.clap.specs.declared.builder.command.Command.TheViews.{out-Command};
 ghost use Rattle.clap.specs.Matches.{found_of};
 ghost use Rattle.clap.specs.Simple.{app_of, subcommand_of, subcommand_rows_of};
-ghost use Rattle.clap.specs.Walk.{rows_of, rule_of};
-ghost use Rattle.command_line.specs.Arguments.{IsBounded, command_in, command_of as command_named, fanout_option, file_max_option, home_in, home_of, home_option, is_taken, jedb, line_of, number_of, printlog_command, run_command, seed_option, settings_of, soak_command, soak_of};
+ghost use Rattle.clap.specs.Walk.{first_of, rows_of, rule_of};
+ghost use Rattle.command_line.specs.Arguments.{IsBounded, command_in, command_of as command_named, db_option, dump_command, dump_of, fanout_option, file_max_option, home_in, home_of, home_option, is_given, is_parsed, is_taken, jedb, line_of, number_of, print_option, printlog_command, run_command, run_of, seed_option, settings_of, soak_command, soak_of};
 
 use crate::command::{Command, CommandLine, RunSettings};
 use clap::error::ErrorKind;
-use clap::{Arg, ArgMatches, value_parser};
+use clap::{Arg, ArgAction, ArgMatches, value_parser};
+use je_order::Word;
 use std::alloc::{AllocError, Global};
 
 // `--home DIR`.
@@ -17,6 +18,24 @@ fn home<'a>(alloc: Global) -> Arg<'a>
     ensures local { result.global ≡ false }
 {
     Arg::new(alloc, "home").long("home").required(true)
+}
+
+// `--db NAME`.
+fn db<'a>(alloc: Global) -> Arg<'a>
+    ensures rule { rule_of result ≡ db_option }
+    ensures local { result.global ≡ false }
+{
+    Arg::new(alloc, "db").long("db").required(true)
+}
+
+// `--print`.
+fn print<'a>(alloc: Global) -> Arg<'a>
+    ensures rule { rule_of result ≡ print_option }
+    ensures local { result.global ≡ false }
+{
+    Arg::new(alloc, "print")
+        .long("print")
+        .action(ArgAction::SetTrue)
 }
 
 // `--file-max N`.
@@ -83,6 +102,17 @@ fn printlog_command<'a>(alloc: Global) -> Result<clap::Command<'a>, AllocError>
     clap::Command::new(alloc, "printlog").arg(home(alloc))
 }
 
+// `dump`.
+fn dump_command<'a>(alloc: Global) -> Result<clap::Command<'a>, AllocError>
+    ensures app { IfOk result (λ command. app_of command ≡ dump_command) }
+    ensures local { IfOk result (λ command. (out-Command command).has_globals ≡ false) }
+{
+    clap::Command::new(alloc, "dump")
+        .arg(home(alloc))?
+        .arg(db(alloc))?
+        .arg(print(alloc))
+}
+
 // The command line that the program has.
 fn jedb_command<'a>(alloc: Global) -> Result<clap::Command<'a>, AllocError>
     ensures { IfOk result (λ command. app_of command ≡ jedb) }
@@ -92,12 +122,13 @@ fn jedb_command<'a>(alloc: Global) -> Result<clap::Command<'a>, AllocError>
         .subcommand_required(true);
     jedb.subcommand(run_command(alloc)?)?
         .subcommand(soak_command(alloc)?)?
-        .subcommand(printlog_command(alloc)?)
+        .subcommand(printlog_command(alloc)?)?
+        .subcommand(dump_command(alloc)?)
 }
 
 // What a parse of the arguments finds, and None where it refuses them.
 fn found_in<'a>(alloc: Global, args: &'a [String]) -> Result<Option<ArgMatches<'a>>, AllocError>
-    ensures taken { IfOk result (λ found. is_some found ≡ is_taken (map string_bytes args.now)) }
+    ensures parsed { IfOk result (λ found. is_some found ≡ is_parsed (map string_bytes args.now)) }
     ensures found { IfOk result (λ found. IfSome found (λ m. subcommand_rows_of m ≡ subcommand_of jedb (map string_bytes args.now))) }
 {
     match jedb_command(alloc)?.try_get_matches_from(args) {
@@ -137,6 +168,14 @@ fn settings_given<'a>(given: &ArgMatches<'a>) -> Option<RunSettings>
     Some(RunSettings { file_max, fanout })
 }
 
+// `run` with its options.
+fn run_given<'a>(given: &ArgMatches<'a>) -> Option<Command>
+    ensures { result ≡ run_of (rows_of (found_of given.now)) }
+{
+    let settings = settings_given(given)?;
+    Some(Command::Run(settings))
+}
+
 // `soak` with its options.
 fn soak_given<'a>(given: &ArgMatches<'a>) -> Option<Command>
     ensures { result ≡ soak_of (rows_of (found_of given.now)) }
@@ -146,25 +185,66 @@ fn soak_given<'a>(given: &ArgMatches<'a>) -> Option<Command>
     Some(Command::Soak { seed, settings })
 }
 
+// The text of an option, in what a parse found of a command's arguments.
+fn text_given<'a>(given: &ArgMatches<'a>, name: &str) -> Option<&'a str>
+    ensures { option_map (λ text. text.now) result ≡ first_of name.now (rows_of (found_of given.now)) }
+{
+    given.get_str(name)
+}
+
+// Whether an option without a value is given.
+fn is_given<'a>(given: &ArgMatches<'a>, name: &str) -> bool
+    ensures { result ≡ is_given name.now (rows_of (found_of given.now)) }
+{
+    match text_given(given, name) {
+        Some(value) => value == "true",
+        None => false,
+    }
+}
+
+// `dump` with its options.
+fn dump_given<'a>(alloc: Global, given: &ArgMatches<'a>) -> Result<Option<Command>, AllocError>
+    ensures { IfOk result (λ command. command ≡ dump_of (rows_of (found_of given.now))) }
+{
+    let Some(db) = text_given(given, "db") else {
+        return Ok(None);
+    };
+    if !Word::is_word(db.as_bytes()) {
+        return Ok(None);
+    }
+    let db = Word::from_slice(alloc, db.as_bytes())?;
+    let printed = is_given(given, "print");
+    Ok(Some(Command::Dump { db, printed }))
+}
+
 // The command of this name with its options.
-fn command_named<'a>(name: &str, given: &ArgMatches<'a>) -> Option<Command>
-    ensures { result ≡ command_named (name.now, rows_of (found_of given.now)) }
+fn command_named<'a>(
+    alloc: Global,
+    name: &str,
+    given: &ArgMatches<'a>,
+) -> Result<Option<Command>, AllocError>
+    ensures { IfOk result (λ command. command ≡ command_named (name.now, rows_of (found_of given.now))) }
 {
     if name == "run" {
-        return Some(Command::Run(settings_given(given)?));
+        return Ok(run_given(given));
     }
     if name == "soak" {
-        return soak_given(given);
+        return Ok(soak_given(given));
     }
-    Some(Command::PrintLog)
+    if name == "dump" {
+        return dump_given(alloc, given);
+    }
+    Ok(Some(Command::PrintLog))
 }
 
 // The command, in what a parse found.
-fn command_given<'a>(found: &ArgMatches<'a>) -> Option<Command>
-    ensures { result ≡ option_and_then command_named (subcommand_rows_of found.now) }
+fn command_given<'a>(alloc: Global, found: &ArgMatches<'a>) -> Result<Option<Command>, AllocError>
+    ensures { IfOk result (λ command. command ≡ option_and_then command_named (subcommand_rows_of found.now)) }
 {
-    let (name, given) = found.subcommand()?;
-    command_named(name, given)
+    match found.subcommand() {
+        Some((name, given)) => command_named(alloc, name, given),
+        None => Ok(None),
+    }
 }
 
 // The folder and the command, in what a parse found.
@@ -174,19 +254,17 @@ fn line_given<'a>(alloc: Global, found: &ArgMatches<'a>) -> Result<Option<Comman
     let Some(home) = home_given(found) else {
         return Ok(None);
     };
-    let Some(command) = command_given(found) else {
+    let home = String::from_str(alloc, home)?;
+    let Some(command) = command_given(alloc, found)? else {
         return Ok(None);
     };
-    Ok(Some(CommandLine {
-        home: String::from_str(alloc, home)?,
-        command,
-    }))
+    Ok(Some(CommandLine { home, command }))
 }
 
 /// The folder and the command that the arguments after the program's name give, and None where these are invalid.
 /// Right are `run --home DIR`, with or without `--file-max N` and `--fanout N`; the same with `soak` and `--seed N`;
-/// and `printlog --home DIR`. The options come in any order, with `--name=VALUE` for `--name VALUE`, and `--` may end
-/// the arguments. A value that begins with `-` and is not `-` itself needs the `=`. A number is decimal, with `+` or
+/// `dump --home DIR --db NAME`, with or without `--print`, where NAME is a database's name; and `printlog --home DIR`.
+/// The options come in any order, with `--name=VALUE` for `--name VALUE`, and `--` may end the arguments. A value that begins with `-` and is not `-` itself needs the `=`. A number is decimal, with `+` or
 /// zeros before it or not: `--file-max` is from 4,096 to 1,073,741,824, and 10,000,000 where it is not given; `--fanout`
 /// from 4 to 128, and 128 where it is not given; `--seed` from 0 to 4,294,967,295. Other arguments, an option given
 /// twice and a request for help are wrong. The only error is out of memory.

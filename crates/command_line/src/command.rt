@@ -1,4 +1,5 @@
 // What the program is told to do.
+use je_order::Word;
 
 /// How an environment is opened.
 #[derive(Clone, Copy)]
@@ -10,12 +11,14 @@ pub struct RunSettings {
 }
 
 /// A command with its options, but for the environment's folder.
-#[derive(Clone, Copy)]
+#[derive(Drop)]
 pub enum Command {
     /// Runs a script, and prints its report.
     Run(RunSettings),
     /// Runs the script of a seed, and prints how it ended.
     Soak { seed: u32, settings: RunSettings },
+    /// Prints a database as a dump; with `printed`, the bytes that can be printed are shown as themselves.
+    Dump { db: Word, printed: bool },
     /// Prints the entries of the log.
     PrintLog,
 }

@@ -26,6 +26,7 @@ shown_line printed bytes = 32 ∷ shown_bytes printed bytes ++ 10 ∷ []
 abbrev pub pair_text : Bool → KeyAndData → List ℕ
 pair_text printed pair = shown_line printed pair.0 ++ shown_line printed pair.1
 
+-- the form of the bytes
 abbrev pub format_line : Bool → List ℕ
 format_line true = codes "format=print\n"
 format_line false = codes "format=bytevalue\n"
@@ -35,9 +36,11 @@ abbrev pub dupsort_line : Bool → List ℕ
 dupsort_line true = codes "dupsort=1\n"
 dupsort_line false = codes "dupsort=0\n"
 
+-- the lines before the pairs
 abbrev pub header_text : Bool → Bool → List ℕ
 header_text printed dup = codes "VERSION=3\n" ++ format_line printed ++ codes "type=btree\n" ++ dupsort_line dup ++ codes "HEADER=END\n"
 
+-- the line behind the pairs
 abbrev pub end_text : List ℕ
 end_text = codes "DATA=END\n"
 

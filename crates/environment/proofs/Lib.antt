@@ -132,3 +132,5 @@ pub mod ShortKeys
 pub mod TargetThere
 -- The databases beside that of a call.
 pub mod BesideLaws
+-- The database of a name, by the catalog's record of it.
+pub mod FoundDatabases

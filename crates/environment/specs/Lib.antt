@@ -25,3 +25,5 @@ pub mod Again
 pub mod Cursors
 -- Steps of maintenance.
 pub mod Turning
+-- A database of a store, and the records that an environment has of it.
+pub mod Databases

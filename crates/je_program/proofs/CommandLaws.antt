@@ -5,8 +5,10 @@ use Rattle.je_disk.specs.Moments.{History, now}
 use Rattle.je_disk.specs.States.{Files}
 use Rattle.store_model.specs.declared.event.Event.{Event}
 use Rattle.store_model.specs.declared.plan.RunPlan.{RunPlan}
+use Rattle.store_model.specs.declared.store.Database.{Database}
+use Rattle.store_model.specs.declared.store.Store.{Store}
 use Rattle.store_model.specs.declared.totals.Totals.{Totals}
-use Rattle.store_model.specs.Store.{no_databases}
+use Rattle.store_model.specs.Store.{database_of, no_databases}
 use Rattle.store_model.specs.Journal.{is_disk_fault}
 use Rattle.je_answers.specs.Journal.{has_answer}
 use Rattle.log_replay.specs.declared.corruption.Corruption.{Corruption}
@@ -20,30 +22,58 @@ use Rattle.engine.proofs.UntouchedLaws.{untouched_itself}
 use Rattle.script_text.specs.Grammar.{plan_of}
 use Rattle.command_line.specs.declared.command.RunSettings.{RunSettings}
 use Rattle.command_line.specs.declared.command.Command.{Command}
-use Rattle.command_line.specs.declared.command.Command.TheVariants.{Run, Soak, PrintLog}
+use Rattle.command_line.specs.declared.command.Command.TheVariants.{Run, Soak, Dump, PrintLog}
 use Rattle.log_printer.specs.Reading.{HasNoFile}
 use Rattle.je_program.specs.declared.cause.Cause.{Cause}
-use Rattle.je_program.specs.declared.cause.Cause.TheVariants.{Done, Usage, BadScript, Disk, Unreadable, WrongIndex, Memory, NoEnvironment, Input, InputTooLong, LogFull, IdsEnded}
+use Rattle.je_program.specs.declared.cause.Cause.TheVariants.{Done, Usage, BadScript, Disk, Unreadable, WrongIndex, Memory, NoEnvironment, NoDatabase, Input, InputTooLong, IdsEnded}
 use Rattle.je_program.specs.declared.reading.TheConstants.{MOST_INPUT}
 use Rattle.je_program.specs.declared.run_result.RunResult.{RunResult}
 use Rattle.je_program.specs.declared.text.Text.{Text}
 use Rattle.je_program.specs.declared.text.Text.TheVariants.{Nothing, Log}
-use Rattle.je_program.specs.Commands.{AreReady, AreSound, CanBeOpened, EndsRun, EndsWell, HasInput, IsFound, IsLogText, IsTextOf, ReadsInput, ReadsPlan, ends_reading, ends_script, ends_soak, ends_unparsed, may_end, needs_environment, opens, reads_input, text_of}
+use Rattle.je_program.specs.Commands.{AreReady, AreSound, CanBeOpened, EndsRun, EndsWell, HasDatabase, HasInput, IsFound, IsLogText, IsTextOf, ReadsPlan, dump_at, ends_dump, ends_reading, ends_script, ends_soak, ends_unparsed, gives_lines, may_end, needs_environment, opens, reads_input, text_of}
 use Rattle.je_program.specs.Printing.{IsPrinted}
-use Rattle.je_program.specs.Program.{ClosesRun, IsNoRequest, IsStopped, RunsBy, RunsIf, is_before_disk}
-use Rattle.je_program.specs.Unprinted.{ComesTo}
-use Rattle.je_program.proofs.EndLaws.{completes, finds, finds_wrong, past_input, reads_damage, reads_nothing, reads_well}
+use Rattle.je_program.specs.Program.{ClosesRun, EndsBy, EndsWith, IsNoRequest, IsStopped, RunsBy, RunsIf, is_before_disk}
+use Rattle.je_program.specs.Unprinted.{ComesTo, needs_file}
+use Rattle.je_program.proofs.EndLaws.{completes, corrupt_has_files, damage_has_files, dump_completes, dump_nothing, finds, finds_wrong, past_input, reads_damage, reads_nothing, reads_well, sound_has_files, wrong_has_files}
 use Rattle.je_program.proofs.UntouchedLaws.{left_alone}
 
 -- ---- a command that opens the environment
 
-pub life_may : (command : Option Command) (cause : Cause) → opens command ≡ true → ends_soak cause ≡ true → may_end command cause ≡ true
-life_may None cause opened may = cc
-life_may (Some (Run settings)) Usage opened may = may
-life_may (Some (Run settings)) NoEnvironment opened may = may
-life_may (Some (Run settings)) cause opened may = refl
-life_may (Some (Soak seed settings)) cause opened may = may
-life_may (Some PrintLog) cause opened may = cc
+pub life_opens : (command : Option Command) → gives_lines command ≡ true → opens command ≡ true
+life_opens None gives = cc
+life_opens (Some (Run settings)) gives = refl
+life_opens (Some (Soak seed settings)) gives = refl
+life_opens (Some (Dump db printed)) gives = cc
+life_opens (Some PrintLog) gives = cc
+
+pub life_may : (command : Option Command) (cause : Cause) → gives_lines command ≡ true → ends_soak cause ≡ true → may_end command cause ≡ true
+life_may None cause gives may = cc
+life_may (Some (Run settings)) Usage gives may = may
+life_may (Some (Run settings)) NoEnvironment gives may = may
+life_may (Some (Run settings)) NoDatabase gives may = may
+life_may (Some (Run settings)) cause gives may = refl
+life_may (Some (Soak seed settings)) cause gives may = may
+life_may (Some (Dump db printed)) cause gives may = cc
+life_may (Some PrintLog) cause gives may = cc
+
+-- it makes an environment where there is none, and names no database
+pub life_needs_none : {A : Type 0} (command : Option Command) → gives_lines command ≡ true → needs_environment command ≡ true → A
+life_needs_none None gives needs = cc
+life_needs_none (Some (Run settings)) gives needs = cc
+life_needs_none (Some (Soak seed settings)) gives needs = cc
+life_needs_none (Some (Dump db printed)) gives needs = cc
+life_needs_none (Some PrintLog) gives needs = cc
+
+pub life_has : (command : Option Command) (opening : Store) → gives_lines command ≡ true → HasDatabase command opening
+life_has None opening gives = tt
+life_has (Some (Run settings)) opening gives = tt
+life_has (Some (Soak seed settings)) opening gives = tt
+life_has (Some (Dump db printed)) opening gives = cc
+life_has (Some PrintLog) opening gives = tt
+
+pub life_ends : (journal : List Event) (cause : Cause) → ends_soak cause ≡ true → EndsBy journal cause → EndsWith journal cause
+life_ends journal NoDatabase may ends = cc
+life_ends journal cause may ends = ends
 
 pub past_reading : (left : Option (List ℕ)) (before after : ℕ) (cause : Cause) → ends_soak cause ≡ true → IsStopped left before after cause
 past_reading left before after Input may = cc
@@ -64,10 +94,14 @@ life_is_no_reading command opened is = absurd (true≢false (sym opened ∙ ap o
 pub life_none : {A : Type 0} (cause : Cause) → ends_soak cause ≡ true → cause ≡ NoEnvironment → A
 life_none cause may is = absurd (true≢false (sym may ∙ ap ends_soak is))
 
+pub life_names_none : {A : Type 0} (cause : Cause) → ends_soak cause ≡ true → cause ≡ NoDatabase → A
+life_names_none cause may is = absurd (true≢false (sym may ∙ ap ends_soak is))
+
 pub life_found : (command : Option Command) (files : Files) (corruption : Corruption) → opens command ≡ true → HasCorruption files corruption → IsFound command files corruption
 life_found None files corruption opened has = has
 life_found (Some (Run settings)) files corruption opened has = has
 life_found (Some (Soak seed settings)) files corruption opened has = has
+life_found (Some (Dump db printed)) files corruption opened has = has
 life_found (Some PrintLog) files corruption opened has = cc
 
 pub life_runs : (command : Option Command) (cause : Cause) (is_opened : Bool) → opens command ≡ true → RunsIf cause is_opened → RunsBy (opens command) cause is_opened
@@ -80,12 +114,14 @@ none_may command left before after Usage none = ap (λ (k : Option Command). may
 none_may None left before after Memory none = refl
 none_may (Some (Run settings)) left before after Memory none = refl
 none_may (Some (Soak seed settings)) left before after Memory none = refl
+none_may (Some (Dump db printed)) left before after Memory none = refl
 none_may (Some PrintLog) left before after Memory none = refl
 none_may (Some (Run settings)) left before after Input none = refl
 none_may (Some (Run settings)) left before after InputTooLong none = refl
 none_may (Some (Run settings)) left before after (BadScript line) none = refl
 none_may None left before after cause none = absurd (true≢false (sym none.0))
 none_may (Some (Soak seed settings)) left before after cause none = absurd (true≢false (sym none.0))
+none_may (Some (Dump db printed)) left before after cause none = absurd (true≢false (sym none.0))
 none_may (Some PrintLog) left before after cause none = absurd (true≢false (sym none.0))
 none_may (Some (Run settings)) left before after cause none = absurd none.1
 
@@ -132,19 +168,32 @@ early_runs true InputTooLong is = refl
 early_runs true (BadScript line) is = refl
 early_runs true cause is = absurd is
 
+early_dump : (cause : Cause) (printed : Bool) (database : Option Database) → IsEarly cause → [] ≡ dump_at cause printed database
+early_dump Done printed database is = absurd is
+early_dump cause printed database is = refl
+
+early_needs : (cause : Cause) → IsEarly cause → needs_file cause ≡ true → ⊥
+early_needs Usage is needs = cc
+early_needs Memory is needs = cc
+early_needs Input is needs = cc
+early_needs InputTooLong is needs = cc
+early_needs (BadScript line) is needs = cc
+early_needs cause is needs = is
+
 early_log : (cause : Cause) (observable : Bool) (files : Files) → IsEarly cause → IsLogText cause observable files []
 early_log Done observable files is = absurd is
 early_log cause observable files is = refl
 
-early_text : (command : Option Command) (observable : Bool) (files : Files) (cause : Cause) (journal : List Event) (totals : Totals) → IsEarly cause →
-    IsTextOf command (record { observable = observable; files = files; opened = false; journal = journal; totals = totals; cause = cause }) []
-early_text None observable files cause journal totals is = refl
-early_text (Some (Run settings)) observable files cause journal totals is = refl
-early_text (Some (Soak seed settings)) observable files cause journal totals is = refl
-early_text (Some PrintLog) observable files cause journal totals is = early_log cause observable files is
+early_text : (command : Option Command) (observable : Bool) (files : Files) (cause : Cause) (opening : Store) (journal : List Event) (totals : Totals) → IsEarly cause →
+    IsTextOf command (record { observable = observable; files = files; opened = false; opening = opening; journal = journal; totals = totals; cause = cause }) []
+early_text None observable files cause opening journal totals is = refl
+early_text (Some (Run settings)) observable files cause opening journal totals is = refl
+early_text (Some (Soak seed settings)) observable files cause opening journal totals is = refl
+early_text (Some (Dump db printed)) observable files cause opening journal totals is = early_dump cause printed (database_of db opening) is
+early_text (Some PrintLog) observable files cause opening journal totals is = early_log cause observable files is
 
 -- a program without a journal, whose disk failed only where its count rose
-unrun : (before after : ℕ) (journal : List Event) (cause : Cause) → before ≤ after → journal ≡ [] → (cause ≡ Disk → HasRisen before after) → ClosesRun before after journal cause
+pub unrun : (before after : ℕ) (journal : List Event) (cause : Cause) → before ≤ after → journal ≡ [] → (cause ≡ Disk → HasRisen before after) → ClosesRun before after journal cause
 unrun before after journal cause later none failed = record {
   never_falls = later;
   fault = λ h. (let e : has_answer is_disk_fault [] ≡ true = sym (ap (has_answer is_disk_fault) none) ∙ h in cc);
@@ -173,13 +222,16 @@ module _ {D : Type 0} (observable : Bool) (history : D → History) (faults : D 
         wrong_index = λ name e. absurd (not_early r.cause (WrongIndex name) is e);
         ids_ended = λ e. absurd (not_early r.cause IdsEnded is e);
         no_environment = λ e. absurd (not_early r.cause NoEnvironment is e);
+        some_file = λ needs file. absurd (early_needs r.cause is file);
+        no_database = λ e. absurd (not_early r.cause NoDatabase is e);
+        has_database = λ e. absurd (not_early r.cause Done is e);
         ends = λ opened. absurd (true≢false (sym opened ∙ shut));
         caused = unrun (faults disk) (faults r.disk) r.journal.items r.cause (subst (λ (d : D). faults disk ≤ faults d) (sym same) (omega arith)) no_journal (λ e. absurd (not_early r.cause Disk is e));
         left_alone = λ observed. left_alone r.cause (history disk) (history r.disk) (still r.disk same);
         reads_only = λ closed observed. still r.disk same;
         crash_unopened = λ observed none_opened. subst (λ (d : D). KeepsEntry (history disk) (history d)) (sym same) (entry_none (history disk));
-        text_is = subst (λ (b : Bool). IsTextOf command (record { observable = observable; files = (now (history disk)).reads; opened = b; journal = r.journal.items; totals = r.totals; cause = r.cause }) [])
-            (sym shut) (early_text command observable (now (history disk)).reads r.cause r.journal.items r.totals is);
+        text_is = subst (λ (b : Bool). IsTextOf command (record { observable = observable; files = (now (history disk)).reads; opened = b; opening = r.opening; journal = r.journal.items; totals = r.totals; cause = r.cause }) [])
+            (sym shut) (early_text command observable (now (history disk)).reads r.cause r.opening r.journal.items r.totals is);
         source = later;
       }
 
@@ -198,6 +250,17 @@ module _ {D : Type 0} (observable : Bool) (history : D → History) (faults : D 
   printed_sound : (files : Files) (before after : ℕ) (text : Text) → IsPrinted observable files before after Done text → observable ≡ true → AreSound files
   printed_sound files before after (Log lines) printed observed = record { held = printed.held; are = printed.are observed; some = printed.some; none = printed.none }
   printed_sound files before after text printed observed = absurd printed
+
+  -- a file was there
+  printed_file : (files : Files) (before after : ℕ) (cause : Cause) (text : Text) → ends_reading cause ≡ true → IsPrinted observable files before after cause text → needs_file cause ≡ true → observable ≡ true →
+      HasNoFile files → ⊥
+  printed_file files before after Done text may printed needs observed none = sound_has_files files (printed_sound files before after text printed observed) none
+  printed_file files before after (Unreadable corruption) text may printed needs observed none =
+      let damage = printed.0 in damage_has_files files corruption (record { held = damage.held; are = damage.are observed; found = damage.found }) none
+  printed_file files before after (WrongIndex name) text may printed needs observed none = cc
+  printed_file files before after NoDatabase text may printed needs observed none = cc
+  printed_file files before after IdsEnded text may printed needs observed none = cc
+  printed_file files before after cause text may printed needs observed none = cc
 
   reading_stopped : (left : Option (List ℕ)) (before after : ℕ) (cause : Cause) → ends_reading cause ≡ true → IsStopped left before after cause
   reading_stopped left before after Input is = cc
@@ -234,6 +297,9 @@ module _ {D : Type 0} (observable : Bool) (history : D → History) (faults : D 
         wrong_index = λ name e. absurd (true≢false (sym (other (WrongIndex name) e)));
         ids_ended = λ e. absurd (true≢false (sym (other IdsEnded e)));
         no_environment = λ e. (at NoEnvironment e).0;
+        some_file = λ needs file observed none. printed_file files (faults disk) (faults r.disk) r.cause text may printed file observed none;
+        no_database = λ e. absurd (true≢false (sym (other NoDatabase e)));
+        has_database = λ e. tt;
         ends = λ opened. absurd (true≢false (sym opened ∙ shut));
         caused = unrun (faults disk) (faults r.disk) r.journal.items r.cause never_falls no_journal (λ e. (at Disk e).0);
         left_alone = λ observed. left_alone r.cause (history disk) (history r.disk) (untouched observed);
@@ -259,6 +325,7 @@ module _ (left rest : Option (List ℕ)) (before after : ℕ) where
       (is_before_disk cause ≡ false → cause ≢ Memory → (plan : RunPlan) × ReadsPlan left rest plan) → (cause ≡ InputTooLong) ⊎ (cause ≡ Memory) ⊎ Failing before after
   too_long_by Usage bytes is long may stopped read = cc
   too_long_by NoEnvironment bytes is long may stopped read = cc
+  too_long_by NoDatabase bytes is long may stopped read = cc
   too_long_by Input bytes is long may stopped read = inr (inr stopped)
   too_long_by InputTooLong bytes is long may stopped read = inl refl
   too_long_by Memory bytes is long may stopped read = inr (inl refl)
@@ -280,6 +347,7 @@ module _ (left rest : Option (List ℕ)) (before after : ℕ) where
       (is_before_disk cause ≡ false → cause ≢ Memory → (plan : RunPlan) × ReadsPlan left rest plan) → (cause ≡ BadScript line) ⊎ (cause ≡ Memory) ⊎ Failing before after
   bad_line_by Usage bytes line is short bad may stopped read = cc
   bad_line_by NoEnvironment bytes line is short bad may stopped read = cc
+  bad_line_by NoDatabase bytes line is short bad may stopped read = cc
   bad_line_by Input bytes line is short bad may stopped read = inr (inr stopped)
   bad_line_by InputTooLong bytes line is short bad may stopped read =
       let here = subst (λ (o : Option (List ℕ)). IfSome o (λ b. MOST_INPUT < length b)) is stopped in
@@ -300,6 +368,7 @@ module _ {D : Type 0} {observable : Bool} {history : D → History} {faults : D 
   came_too_long None c bytes reads is long = cc
   came_too_long (Some (Run settings)) c bytes reads is long = too_long_by left rest before after r.cause bytes is long c.may c.stopped c.read
   came_too_long (Some (Soak seed settings)) c bytes reads is long = cc
+  came_too_long (Some (Dump db printed)) c bytes reads is long = cc
   came_too_long (Some PrintLog) c bytes reads is long = cc
 
   pub came_bad : (command : Option Command) → ComesTo command observable history faults left rest before after disk r text → (settings : RunSettings) (bytes : List ℕ) (line : ℕ) → command ≡ Some (Run settings) →
@@ -307,6 +376,7 @@ module _ {D : Type 0} {observable : Bool} {history : D → History} {faults : D 
   came_bad None c settings bytes line run is short bad = cc
   came_bad (Some (Run settings)) c others bytes line run is short bad = bad_line_by left rest before after r.cause bytes line is short bad c.may c.stopped c.read
   came_bad (Some (Soak seed settings)) c others bytes line run is short bad = cc
+  came_bad (Some (Dump db printed)) c settings bytes line run is short bad = cc
   came_bad (Some PrintLog) c settings bytes line run is short bad = cc
 
   -- where a run began its files meant something
@@ -320,50 +390,63 @@ module _ {D : Type 0} {observable : Bool} {history : D → History} {faults : D 
       )
 
   run_ends : (command : Option Command) → ComesTo command observable history faults left rest before after disk r text → opens command ≡ true →
-      ((corruption : Corruption) → r.cause ≡ Unreadable corruption → observable ≡ true → HasCorruption (now (history disk)).reads corruption) → HasInput command left → observable ≡ true →
+      ((corruption : Corruption) → r.cause ≡ Unreadable corruption → observable ≡ true → HasCorruption (now (history disk)).reads corruption) → (needs_environment command ≡ true → r.cause ≢ NoEnvironment) →
+      r.cause ≢ NoDatabase → HasInput command left → observable ≡ true →
       CanBeOpened (now (history disk)).reads → EndsRun r.cause r.opened r.journal.items ⊎ (r.cause ≡ Memory) ⊎ Failing before after ⊎ HasRisen (faults disk) (faults r.disk)
-  run_ends command c opened unreadable input observed can =
-      completes (now (history disk)).reads before after (faults disk) (faults r.disk) r.cause r.opened r.journal.items can (past_input command left before after r.cause opened input c.may c.stopped)
-      (subst (λ (b : Bool). RunsBy b r.cause r.opened) opened c.runs) (λ corruption is. unreadable corruption is observed) (λ name is. c.wrong_index name is observed) c.ends c.caused.failed
+  run_ends command c opened unreadable there other input observed can =
+      completes (now (history disk)).reads before after (faults disk) (faults r.disk) r.cause r.opened r.journal.items can (past_input command left before after r.cause opened input c.may c.stopped there)
+      (subst (λ (b : Bool). RunsBy b r.cause r.opened) opened c.runs) (λ corruption is. unreadable corruption is observed) (λ name is. c.wrong_index name is observed) c.ends c.caused.failed other
 
   pub came_well : (command : Option Command) → ComesTo command observable history faults left rest before after disk r text → HasInput command left → observable ≡ true →
-      AreReady command (now (history disk)).reads → EndsWell command r.cause r.opened r.journal.items ⊎ (r.cause ≡ Memory) ⊎ Failing before after ⊎ HasRisen (faults disk) (faults r.disk)
+      AreReady command (now (history disk)).reads → EndsWell command r.cause r.opened r.opening r.journal.items ⊎ (r.cause ≡ Memory) ⊎ Failing before after ⊎ HasRisen (faults disk) (faults r.disk)
   came_well None c input observed ready = absurd input
-  came_well (Some (Run settings)) c input observed ready = run_ends (Some (Run settings)) c refl c.unreadable input observed ready
-  came_well (Some (Soak seed settings)) c input observed ready = run_ends (Some (Soak seed settings)) c refl c.unreadable input observed ready
+  came_well (Some (Run settings)) c input observed ready =
+      run_ends (Some (Run settings)) c refl c.unreadable (λ needs. cc) (λ is. true≢false (sym c.may ∙ ap ends_script is)) input observed ready
+  came_well (Some (Soak seed settings)) c input observed ready =
+      run_ends (Some (Soak seed settings)) c refl c.unreadable (λ needs. cc) (λ is. true≢false (sym c.may ∙ ap ends_soak is)) input observed ready
+  came_well (Some (Dump db printed)) c input observed ready =
+      dump_completes (now (history disk)).reads before after (faults disk) (faults r.disk) r.cause r.opened r.journal.items (database_of db r.opening) ready.0 ready.1 c.may c.runs
+      (λ corruption is. c.unreadable corruption is observed) (λ name is. c.wrong_index name is observed) (λ is. c.no_environment is observed) (λ opened. (c.given opened).none refl) c.ends c.caused.failed
+      c.has_database c.no_database
   came_well (Some PrintLog) c input observed ready =
       reads_well (now (history disk)).reads before after (faults disk) (faults r.disk) r.cause ready c.may (λ corruption is. c.unreadable corruption is observed) (λ is. c.no_environment is observed) c.caused.failed
 
   run_finds : (command : Option Command) → ComesTo command observable history faults left rest before after disk r text → opens command ≡ true →
-      ((corruption : Corruption) → r.cause ≡ Unreadable corruption → observable ≡ true → HasCorruption (now (history disk)).reads corruption) → (corruption : Corruption) → HasInput command left → observable ≡ true →
+      ((corruption : Corruption) → r.cause ≡ Unreadable corruption → observable ≡ true → HasCorruption (now (history disk)).reads corruption) → (needs_environment command ≡ true → r.cause ≢ NoEnvironment) →
+      (corruption : Corruption) → HasInput command left → observable ≡ true →
       HasCorruption (now (history disk)).reads corruption → (r.cause ≡ Unreadable corruption) ⊎ (r.cause ≡ Memory) ⊎ Failing before after ⊎ HasRisen (faults disk) (faults r.disk)
-  run_finds command c opened unreadable corruption input observed has =
-      finds (now (history disk)).reads before after (faults disk) (faults r.disk) r.cause r.opened corruption has (past_input command left before after r.cause opened input c.may c.stopped)
+  run_finds command c opened unreadable there corruption input observed has =
+      finds (now (history disk)).reads before after (faults disk) (faults r.disk) r.cause r.opened corruption has (past_input command left before after r.cause opened input c.may c.stopped there)
       (subst (λ (b : Bool). RunsBy b r.cause r.opened) opened c.runs) (λ f is. unreadable f is observed) (λ name is. c.wrong_index name is observed)
       (λ is_opened. (let m = began command c observed is_opened in (m.0, m.1))) (λ is none. c.ids_ended is none observed) c.caused.failed
 
   pub came_found : (command : Option Command) → ComesTo command observable history faults left rest before after disk r text → (corruption : Corruption) → HasInput command left → observable ≡ true →
       IsFound command (now (history disk)).reads corruption → (r.cause ≡ Unreadable corruption) ⊎ (r.cause ≡ Memory) ⊎ Failing before after ⊎ HasRisen (faults disk) (faults r.disk)
   came_found None c corruption input observed found = absurd input
-  came_found (Some (Run settings)) c corruption input observed found = run_finds (Some (Run settings)) c refl c.unreadable corruption input observed found
-  came_found (Some (Soak seed settings)) c corruption input observed found = run_finds (Some (Soak seed settings)) c refl c.unreadable corruption input observed found
+  came_found (Some (Run settings)) c corruption input observed found = run_finds (Some (Run settings)) c refl c.unreadable (λ needs. cc) corruption input observed found
+  came_found (Some (Soak seed settings)) c corruption input observed found = run_finds (Some (Soak seed settings)) c refl c.unreadable (λ needs. cc) corruption input observed found
+  came_found (Some (Dump db printed)) c corruption input observed found =
+      run_finds (Some (Dump db printed)) c refl c.unreadable (λ needs is. corrupt_has_files (now (history disk)).reads corruption found (c.no_environment is observed)) corruption input observed found
   came_found (Some PrintLog) c corruption input observed found =
       reads_damage (now (history disk)).reads before after (faults disk) (faults r.disk) r.cause corruption found c.may (λ is. c.sound refl is observed) (λ f is. c.unreadable f is observed)
       (λ is. c.no_environment is observed) c.caused.failed
 
   run_finds_wrong : (command : Option Command) → ComesTo command observable history faults left rest before after disk r text → opens command ≡ true →
-      ((corruption : Corruption) → r.cause ≡ Unreadable corruption → observable ≡ true → HasCorruption (now (history disk)).reads corruption) → (name : List ℕ) → HasInput command left → observable ≡ true →
+      ((corruption : Corruption) → r.cause ≡ Unreadable corruption → observable ≡ true → HasCorruption (now (history disk)).reads corruption) → (needs_environment command ≡ true → r.cause ≢ NoEnvironment) →
+      (name : List ℕ) → HasInput command left → observable ≡ true →
       HasWrongIndex (now (history disk)).reads name → (r.cause ≡ WrongIndex name) ⊎ (r.cause ≡ Memory) ⊎ Failing before after ⊎ HasRisen (faults disk) (faults r.disk)
-  run_finds_wrong command c opened unreadable name input observed has =
-      finds_wrong (now (history disk)).reads before after (faults disk) (faults r.disk) r.cause r.opened name has (past_input command left before after r.cause opened input c.may c.stopped)
+  run_finds_wrong command c opened unreadable there name input observed has =
+      finds_wrong (now (history disk)).reads before after (faults disk) (faults r.disk) r.cause r.opened name has (past_input command left before after r.cause opened input c.may c.stopped there)
       (subst (λ (b : Bool). RunsBy b r.cause r.opened) opened c.runs) (λ f is. unreadable f is observed) (λ other is. c.wrong_index other is observed)
       (λ is_opened. began command c observed is_opened) (λ is none. c.ids_ended is none observed) c.caused.failed
 
   pub came_wrong : (command : Option Command) → ComesTo command observable history faults left rest before after disk r text → (name : List ℕ) → HasInput command left → opens command ≡ true → observable ≡ true →
       HasWrongIndex (now (history disk)).reads name → (r.cause ≡ WrongIndex name) ⊎ (r.cause ≡ Memory) ⊎ Failing before after ⊎ HasRisen (faults disk) (faults r.disk)
   came_wrong None c name input opened observed has = absurd input
-  came_wrong (Some (Run settings)) c name input opened observed has = run_finds_wrong (Some (Run settings)) c refl c.unreadable name input observed has
-  came_wrong (Some (Soak seed settings)) c name input opened observed has = run_finds_wrong (Some (Soak seed settings)) c refl c.unreadable name input observed has
+  came_wrong (Some (Run settings)) c name input opened observed has = run_finds_wrong (Some (Run settings)) c refl c.unreadable (λ needs. cc) name input observed has
+  came_wrong (Some (Soak seed settings)) c name input opened observed has = run_finds_wrong (Some (Soak seed settings)) c refl c.unreadable (λ needs. cc) name input observed has
+  came_wrong (Some (Dump db printed)) c name input opened observed has =
+      run_finds_wrong (Some (Dump db printed)) c refl c.unreadable (λ needs is. wrong_has_files (now (history disk)).reads name has (c.no_environment is observed)) name input observed has
   came_wrong (Some PrintLog) c name input opened observed has = cc
 
   pub came_nothing : (command : Option Command) → ComesTo command observable history faults left rest before after disk r text → needs_environment command ≡ true → observable ≡ true →
@@ -371,6 +454,7 @@ module _ {D : Type 0} {observable : Bool} {history : D → History} {faults : D 
   came_nothing None c needs observed none = cc
   came_nothing (Some (Run settings)) c needs observed none = cc
   came_nothing (Some (Soak seed settings)) c needs observed none = cc
+  came_nothing (Some (Dump db printed)) c needs observed none = dump_nothing (now (history disk)).reads (faults disk) (faults r.disk) r.cause none c.may (λ file. c.some_file refl file observed) c.caused.failed
   came_nothing (Some PrintLog) c needs observed none =
       reads_nothing (now (history disk)).reads before after (faults disk) (faults r.disk) r.cause none c.may (λ is. c.sound refl is observed) (λ f is. c.unreadable f is observed) c.caused.failed
 
@@ -378,6 +462,7 @@ module _ {D : Type 0} {observable : Bool} {history : D → History} {faults : D 
   came_usage None c is = refl
   came_usage (Some (Run settings)) c is = (let e : false ≡ true = sym (ap ends_script is) ∙ c.may in cc)
   came_usage (Some (Soak seed settings)) c is = (let e : false ≡ true = sym (ap ends_soak is) ∙ c.may in cc)
+  came_usage (Some (Dump db printed)) c is = (let e : false ≡ true = sym (ap ends_dump is) ∙ c.may in cc)
   came_usage (Some PrintLog) c is = (let e : false ≡ true = sym (ap ends_reading is) ∙ c.may in cc)
 
   pub came_unparsed : (command : Option Command) → ComesTo command observable history faults left rest before after disk r text → is_some command ≡ false → (r.cause ≡ Usage) ⊎ (r.cause ≡ Memory)

@@ -10,24 +10,27 @@ use Rattle.store_model.specs.Journal.{is_disk_fault}
 use Rattle.je_answers.specs.Journal.{has_answer}
 use Rattle.log_file.proofs.FilesLaws.{are_one_list}
 use Rattle.log_replay.specs.declared.corruption.Corruption.{Corruption}
-use Rattle.log_meaning.specs.Meaning.{Meaning}
+use Rattle.store_model.specs.declared.store.Database.{Database}
+use Rattle.log_meaning.specs.Checkpoint.{no_checkpoint}
+use Rattle.log_meaning.specs.Meaning.{Meaning, meaning_of}
 use Rattle.log_meaning.specs.Reading.{reading_of}
 use Rattle.script_text.specs.Grammar.{plan_of}
 use Rattle.je_program.specs.declared.cause.Cause.{Cause}
-use Rattle.je_program.specs.declared.cause.Cause.TheVariants.{Done, Usage, BadScript, Disk, Unreadable, WrongIndex, Memory, NoEnvironment, Input, InputTooLong, LogFull, IdsEnded}
+use Rattle.je_program.specs.declared.cause.Cause.TheVariants.{Done, Usage, BadScript, Disk, Unreadable, WrongIndex, Memory, NoEnvironment, NoDatabase, Input, InputTooLong, LogFull, IdsEnded}
 use Rattle.je_program.specs.declared.reading.TheConstants.{MOST_INPUT}
 use Rattle.engine.specs.Files.{HasCorruption, HasWrongIndex, Means}
 use Rattle.engine.specs.Opening.{HasNoNumbers}
 use Rattle.log_replay.specs.Indexed.{wrong_index}
 use Rattle.environment.proofs.RightStores.{none_wrong}
 use Rattle.command_line.specs.declared.command.Command.{Command}
-use Rattle.command_line.specs.declared.command.Command.TheVariants.{Run, Soak, PrintLog}
+use Rattle.command_line.specs.declared.command.Command.TheVariants.{Run, Soak, Dump, PrintLog}
 use Rattle.log_file.specs.Log.{AreFiles}
 use Rattle.log_replay.specs.Reading.{corruption_in}
 use Rattle.log_printer.specs.Reading.{HasNoFile}
-use Rattle.je_program.specs.Commands.{AreSound, CanBeOpened, EndsRun, HasDamage, HasInput, ends_reading, ends_script, ends_soak, may_end, opens}
-use Rattle.je_program.specs.Program.{EndsBy, IsStopped, RunsIf}
+use Rattle.je_program.specs.Commands.{AreSound, CanBeOpened, EndsDump, EndsRun, HasDamage, HasInput, cause_of_found, ends_dump, ends_reading, ends_script, ends_soak, may_end, needs_environment, opens}
+use Rattle.je_program.specs.Program.{EndsBy, EndsWith, IsStopped, RunsIf}
 use Rattle.je_program.specs.Run.{cause_of_journal, cause_of_room}
+use Rattle.je_program.specs.Unprinted.{needs_file}
 
 -- ---- one reading of the files
 
@@ -104,6 +107,7 @@ IsPast s0 s1 cause = Unit {0}
 script_past : (left : Option (List ℕ)) (plan : RunPlan) (s0 s1 : ℕ) (cause : Cause) → IsScript left plan → ends_script cause ≡ true → IsStopped left s0 s1 cause → IsPast s0 s1 cause
 script_past left plan s0 s1 Usage script may stopped = cc
 script_past left plan s0 s1 NoEnvironment script may stopped = cc
+script_past left plan s0 s1 NoDatabase script may stopped = cc
 script_past left plan s0 s1 (BadScript line) script may stopped = absurd (not_bad left plan line script stopped)
 script_past left plan s0 s1 InputTooLong script may stopped = absurd (not_long left plan script stopped)
 script_past left plan s0 s1 Input script may stopped = stopped
@@ -121,6 +125,7 @@ soak_past s0 s1 (BadScript line) may = cc
 soak_past s0 s1 Input may = cc
 soak_past s0 s1 InputTooLong may = cc
 soak_past s0 s1 NoEnvironment may = cc
+soak_past s0 s1 NoDatabase may = cc
 soak_past s0 s1 Done may = tt
 soak_past s0 s1 Disk may = tt
 soak_past s0 s1 Memory may = tt
@@ -129,13 +134,22 @@ soak_past s0 s1 (WrongIndex name) may = tt
 soak_past s0 s1 LogFull may = tt
 soak_past s0 s1 IdsEnded may = tt
 
+dump_past : (s0 s1 : ℕ) (cause : Cause) → ends_dump cause ≡ true → cause ≢ NoEnvironment → IsPast s0 s1 cause
+dump_past s0 s1 Usage may there = cc
+dump_past s0 s1 (BadScript line) may there = cc
+dump_past s0 s1 Input may there = cc
+dump_past s0 s1 InputTooLong may there = cc
+dump_past s0 s1 NoEnvironment may there = absurd (there refl)
+dump_past s0 s1 cause may there = tt
+
 pub past_input : (command : Option Command) (left : Option (List ℕ)) (s0 s1 : ℕ) (cause : Cause) → opens command ≡ true → HasInput command left → may_end command cause ≡ true →
-    IsStopped left s0 s1 cause → IsPast s0 s1 cause
-past_input None left s0 s1 cause opened input may stopped = cc
-past_input (Some (Run settings)) left s0 s1 cause opened input may stopped =
+    IsStopped left s0 s1 cause → (needs_environment command ≡ true → cause ≢ NoEnvironment) → IsPast s0 s1 cause
+past_input None left s0 s1 cause opened input may stopped there = cc
+past_input (Some (Run settings)) left s0 s1 cause opened input may stopped there =
     script_past left input.1 s0 s1 cause (record { bytes = input.0; is = input.2; short = input.3; plans = input.4 }) may stopped
-past_input (Some (Soak seed settings)) left s0 s1 cause opened input may stopped = soak_past s0 s1 cause may
-past_input (Some PrintLog) left s0 s1 cause opened input may stopped = cc
+past_input (Some (Soak seed settings)) left s0 s1 cause opened input may stopped there = soak_past s0 s1 cause may
+past_input (Some (Dump db printed)) left s0 s1 cause opened input may stopped there = dump_past s0 s1 cause may (there refl)
+past_input (Some PrintLog) left s0 s1 cause opened input may stopped there = cc
 
 -- ---- the end
 
@@ -153,25 +167,26 @@ in_room journal cause other ends =
 -- files with a meaning end so: a run as its journal's room says; one that has not begun may lack node numbers; or memory ran out or a count rose
 pub completes : (files : Files) (s0 s1 d0 d1 : ℕ) (cause : Cause) (opened : Bool) (journal : List Event) → CanBeOpened files → IsPast s0 s1 cause → RunsIf cause opened →
     ((corruption : Corruption) → cause ≡ Unreadable corruption → HasCorruption files corruption) → ((name : List ℕ) → cause ≡ WrongIndex name → HasWrongIndex files name) →
-    (opened ≡ true → cause ≢ Memory → EndsBy journal cause) → (cause ≡ Disk → HasRisen d0 d1) →
+    (opened ≡ true → cause ≢ Memory → EndsWith journal cause) → (cause ≡ Disk → HasRisen d0 d1) → cause ≢ NoDatabase →
     EndsRun cause opened journal ⊎ (cause ≡ Memory) ⊎ Failing s0 s1 ⊎ HasRisen d0 d1
-completes files s0 s1 d0 d1 Done opened journal can past runs unreadable wrong ends failed = inl (inl (runs, in_room journal Done (λ e. cc) (ends runs (λ e. cc))))
-completes files s0 s1 d0 d1 LogFull opened journal can past runs unreadable wrong ends failed = inl (inl (runs, in_room journal LogFull (λ e. cc) (ends runs (λ e. cc))))
-completes files s0 s1 d0 d1 IdsEnded opened journal can past runs unreadable wrong ends failed =
+completes files s0 s1 d0 d1 Done opened journal can past runs unreadable wrong ends failed other = inl (inl (runs, in_room journal Done (λ e. cc) (ends runs (λ e. cc))))
+completes files s0 s1 d0 d1 LogFull opened journal can past runs unreadable wrong ends failed other = inl (inl (runs, in_room journal LogFull (λ e. cc) (ends runs (λ e. cc))))
+completes files s0 s1 d0 d1 IdsEnded opened journal can past runs unreadable wrong ends failed other =
     ⊎_elim
     (λ (is_opened : opened ≡ true). inl (inl (is_opened, in_room journal IdsEnded (λ e. cc) (ends is_opened (λ e. cc)))))
     (λ (none : opened ≡ false). inl (inr (none, refl)))
     (cases_Bool opened)
-completes files s0 s1 d0 d1 Disk opened journal can past runs unreadable wrong ends failed = inr (inr (inr (failed refl)))
-completes files s0 s1 d0 d1 Memory opened journal can past runs unreadable wrong ends failed = inr (inl refl)
-completes files s0 s1 d0 d1 Input opened journal can past runs unreadable wrong ends failed = inr (inr (inl past))
-completes files s0 s1 d0 d1 Usage opened journal can past runs unreadable wrong ends failed = absurd past
-completes files s0 s1 d0 d1 (BadScript line) opened journal can past runs unreadable wrong ends failed = absurd past
-completes files s0 s1 d0 d1 InputTooLong opened journal can past runs unreadable wrong ends failed = absurd past
-completes files s0 s1 d0 d1 NoEnvironment opened journal can past runs unreadable wrong ends failed = absurd past
-completes files s0 s1 d0 d1 (Unreadable corruption) opened journal can past runs unreadable wrong ends failed =
+completes files s0 s1 d0 d1 Disk opened journal can past runs unreadable wrong ends failed other = inr (inr (inr (failed refl)))
+completes files s0 s1 d0 d1 Memory opened journal can past runs unreadable wrong ends failed other = inr (inl refl)
+completes files s0 s1 d0 d1 Input opened journal can past runs unreadable wrong ends failed other = inr (inr (inl past))
+completes files s0 s1 d0 d1 Usage opened journal can past runs unreadable wrong ends failed other = absurd past
+completes files s0 s1 d0 d1 (BadScript line) opened journal can past runs unreadable wrong ends failed other = absurd past
+completes files s0 s1 d0 d1 InputTooLong opened journal can past runs unreadable wrong ends failed other = absurd past
+completes files s0 s1 d0 d1 NoEnvironment opened journal can past runs unreadable wrong ends failed other = absurd past
+completes files s0 s1 d0 d1 NoDatabase opened journal can past runs unreadable wrong ends failed other = absurd (other refl)
+completes files s0 s1 d0 d1 (Unreadable corruption) opened journal can past runs unreadable wrong ends failed other =
     absurd (no_corruption_beside files corruption can.meaning (unreadable corruption refl) can.means)
-completes files s0 s1 d0 d1 (WrongIndex name) opened journal can past runs unreadable wrong ends failed =
+completes files s0 s1 d0 d1 (WrongIndex name) opened journal can past runs unreadable wrong ends failed other =
     absurd (no_wrong_beside files name can.meaning (wrong name refl) can.means (none_wrong can.means.held can.meaning can.means.reads can.indexed))
 
 -- where the files have a corruption, the program ends by it, unless memory ran out or a count rose
@@ -201,6 +216,7 @@ finds files s0 s1 d0 d1 cause opened corruption has past runs unreadable wrong m
     by_cause (BadScript line) past runs unreadable wrong numbers failed = absurd past
     by_cause InputTooLong past runs unreadable wrong numbers failed = absurd past
     by_cause NoEnvironment past runs unreadable wrong numbers failed = absurd past
+    by_cause NoDatabase past runs unreadable wrong numbers failed = absurd (closed runs)
     by_cause (Unreadable f) past runs unreadable wrong numbers failed = inl (ap Unreadable (one_corruption files f corruption (unreadable f refl) has))
     by_cause (WrongIndex name) past runs unreadable wrong numbers failed =
         let has_wrong = wrong name refl in absurd (no_corruption_beside files corruption has_wrong.meaning has (meant_where_wrong files name has_wrong))
@@ -232,6 +248,7 @@ finds_wrong files s0 s1 d0 d1 cause opened name has past runs unreadable wrong m
     by_cause (BadScript line) past runs unreadable wrong numbers failed = absurd past
     by_cause InputTooLong past runs unreadable wrong numbers failed = absurd past
     by_cause NoEnvironment past runs unreadable wrong numbers failed = absurd past
+    by_cause NoDatabase past runs unreadable wrong numbers failed = absurd (closed runs)
     by_cause (Unreadable f) past runs unreadable wrong numbers failed = absurd (no_corruption_beside files f has.meaning (unreadable f refl) (meant_where_wrong files name has))
     by_cause (WrongIndex other) past runs unreadable wrong numbers failed = inl (ap WrongIndex (one_wrong files other name (wrong other refl) has))
 
@@ -244,10 +261,23 @@ no_files files (x ∷ held) are none =
     let found : cond (x.0 == x.0) (Some x.1) (lookup (λ n. n == x.0) held) ≡ None = are.each x.0 ∙ none x.0 in
     let there : Some x.1 ≡ None = subst (λ (b : Bool). cond b (Some x.1) (lookup (λ n. n == x.0) held) ≡ None) (eq-eqb x.0 x.0 refl) found in cc
 
-sound_has_files : (files : Files) → AreSound files → HasNoFile files → ⊥
+-- no files mean no databases
+abbrev nothing_meant : Meaning
+nothing_meant = meaning_of [] no_checkpoint (record { seen = []; rows = [] })
+
+pub corrupt_has_files : (files : Files) (corruption : Corruption) → HasCorruption files corruption → HasNoFile files → ⊥
+corrupt_has_files files corruption has none =
+    let e : Ok nothing_meant ≡ Err corruption = sym (ap reading_of (no_files files has.held has.are none)) ∙ has.reads in cc
+
+pub wrong_has_files : (files : Files) (name : List ℕ) → HasWrongIndex files name → HasNoFile files → ⊥
+wrong_has_files files name has none =
+    let read : Ok nothing_meant ≡ Ok has.meaning = sym (ap reading_of (no_files files has.held has.are none)) ∙ has.reads in
+    let e : None ≡ Some name = ap (λ (m : Meaning). wrong_index m.store) (ap (meaning_of_result nothing_meant) read) ∙ has.wrong in cc
+
+pub sound_has_files : (files : Files) → AreSound files → HasNoFile files → ⊥
 sound_has_files files sound none = sound.some (no_files files sound.held sound.are none)
 
-damage_has_files : (files : Files) (corruption : Corruption) → HasDamage files corruption → HasNoFile files → ⊥
+pub damage_has_files : (files : Files) (corruption : Corruption) → HasDamage files corruption → HasNoFile files → ⊥
 damage_has_files files corruption damage none =
     let e : None ≡ Some corruption = sym (ap corruption_in (no_files files damage.held damage.are none)) ∙ damage.found in cc
 
@@ -291,3 +321,48 @@ module _ (files : Files) (s0 s1 d0 d1 : ℕ) where
   reads_nothing (Unreadable f) no_file may sound unreadable failed = absurd (damage_has_files files f (unreadable f refl) no_file)
   reads_nothing NoEnvironment no_file may sound unreadable failed = inl refl
   reads_nothing cause no_file may sound unreadable failed = cc
+
+-- ---- a dump
+
+there_is : (found : Option Database) → found ≢ None → Done ≡ cause_of_found found
+there_is None some = absurd (some refl)
+there_is (Some database) some = refl
+
+-- a run without an event does not end without numbers
+never_ended : (journal : List Event) → journal ≡ [] → EndsBy journal IdsEnded → ⊥
+never_ended journal none (inl is) = (let e : IdsEnded ≡ Done = is ∙ ap cause_of_journal none in cc)
+never_ended journal none (inr is) = cc
+
+-- a dump of files with a meaning ends as its database is there or not; it may lack node numbers before; or memory ran out or the disk's count rose
+pub dump_completes : (files : Files) (s0 s1 d0 d1 : ℕ) (cause : Cause) (opened : Bool) (journal : List Event) (found : Option Database) → (HasNoFile files → ⊥) → CanBeOpened files → ends_dump cause ≡ true →
+    RunsIf cause opened → ((corruption : Corruption) → cause ≡ Unreadable corruption → HasCorruption files corruption) → ((name : List ℕ) → cause ≡ WrongIndex name → HasWrongIndex files name) →
+    (cause ≡ NoEnvironment → HasNoFile files) → (opened ≡ true → journal ≡ []) → (opened ≡ true → cause ≢ Memory → EndsWith journal cause) → (cause ≡ Disk → HasRisen d0 d1) → (cause ≡ Done → found ≢ None) →
+    (cause ≡ NoDatabase → found ≡ None) → EndsDump cause opened found ⊎ (cause ≡ Memory) ⊎ Failing s0 s1 ⊎ HasRisen d0 d1
+dump_completes files s0 s1 d0 d1 Done opened journal found there can may runs unreadable wrong none empty ends failed has lacks = inl (inl (runs, there_is found (has refl)))
+dump_completes files s0 s1 d0 d1 NoDatabase opened journal found there can may runs unreadable wrong none empty ends failed has lacks = inl (inl (runs, ap cause_of_found (sym (lacks refl))))
+dump_completes files s0 s1 d0 d1 IdsEnded opened journal found there can may runs unreadable wrong none empty ends failed has lacks =
+    ⊎_elim
+    (λ (is_opened : opened ≡ true). absurd (never_ended journal (empty is_opened) (ends is_opened (λ e. cc))))
+    (λ (shut : opened ≡ false). inl (inr (shut, refl)))
+    (cases_Bool opened)
+dump_completes files s0 s1 d0 d1 Disk opened journal found there can may runs unreadable wrong none empty ends failed has lacks = inr (inr (inr (failed refl)))
+dump_completes files s0 s1 d0 d1 Memory opened journal found there can may runs unreadable wrong none empty ends failed has lacks = inr (inl refl)
+dump_completes files s0 s1 d0 d1 NoEnvironment opened journal found there can may runs unreadable wrong none empty ends failed has lacks = absurd (there (none refl))
+dump_completes files s0 s1 d0 d1 (Unreadable corruption) opened journal found there can may runs unreadable wrong none empty ends failed has lacks =
+    absurd (no_corruption_beside files corruption can.meaning (unreadable corruption refl) can.means)
+dump_completes files s0 s1 d0 d1 (WrongIndex name) opened journal found there can may runs unreadable wrong none empty ends failed has lacks =
+    absurd (no_wrong_beside files name can.meaning (wrong name refl) can.means (none_wrong can.means.held can.meaning can.means.reads can.indexed))
+dump_completes files s0 s1 d0 d1 cause opened journal found there can may runs unreadable wrong none empty ends failed has lacks = cc
+
+-- where no file is there, a dump ends by that
+pub dump_nothing : (files : Files) (d0 d1 : ℕ) (cause : Cause) → HasNoFile files → ends_dump cause ≡ true → (needs_file cause ≡ true → HasNoFile files → ⊥) → (cause ≡ Disk → HasRisen d0 d1) →
+    (cause ≡ NoEnvironment) ⊎ (cause ≡ Memory) ⊎ HasRisen d0 d1
+dump_nothing files d0 d1 NoEnvironment none may some failed = inl refl
+dump_nothing files d0 d1 Memory none may some failed = inr (inl refl)
+dump_nothing files d0 d1 Disk none may some failed = inr (inr (failed refl))
+dump_nothing files d0 d1 Done none may some failed = absurd (some refl none)
+dump_nothing files d0 d1 (Unreadable corruption) none may some failed = absurd (some refl none)
+dump_nothing files d0 d1 (WrongIndex name) none may some failed = absurd (some refl none)
+dump_nothing files d0 d1 NoDatabase none may some failed = absurd (some refl none)
+dump_nothing files d0 d1 IdsEnded none may some failed = absurd (some refl none)
+dump_nothing files d0 d1 cause none may some failed = cc

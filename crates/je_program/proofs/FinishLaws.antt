@@ -200,6 +200,17 @@ closes_by before after false cause rose = inl refl
 closes_by before after true Memory rose = inl refl
 closes_by before after true cause rose = inr (refl, rose refl, λ e. cc)
 
+-- a run that ends for want of memory does so whatever closing met
+pub closed_memory : (failed : Bool) (old new : Cause) → new ≡ cause_closed failed old → old ≡ Memory → new ≡ Memory
+closed_memory false old new closed memory = closed ∙ memory
+closed_memory true old new closed memory = closed ∙ ap (λ (c : Cause). cause_closed true c) memory
+
+-- a run that its journal ends does so, or closing met a fault of the disk
+pub closed_ends : (journal : List Event) (failed : Bool) (old new : Cause) → new ≡ cause_closed failed old → old ≡ cause_of_journal journal → EndsBy journal new
+closed_ends journal false old new closed by = inl (closed ∙ by)
+closed_ends journal true Memory new closed by = inl (closed ∙ by)
+closed_ends journal true old new closed by = inr closed
+
 -- where a script was run through, the disk did not fail
 pub closed_well : (failed : Bool) (cause : Cause) → is_run_through (cause_closed failed cause) ≡ true → failed ≡ false
 closed_well false cause done = refl

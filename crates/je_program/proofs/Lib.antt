@@ -24,3 +24,5 @@ pub mod SoakLaws
 pub mod PrintLaws
 -- What a program is to do.
 pub mod RequestLaws
+-- What a dump comes to.
+pub mod DumpLaws

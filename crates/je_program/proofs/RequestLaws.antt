@@ -1,15 +1,13 @@
 -- What a program is to do.
-use Rattle.std.proofs.Common.{◌≡◌, ℕ, List, Option, Some, None, Result, Ok, Err, refl, sym, ap, subst, false}
-use Rattle.std.specs.Prelude.{IfErr, IfOk, IsErrAnd}
+use Rattle.std.proofs.Common.{◌≡◌, ℕ, List, Option, Some, Result, Ok, Err, refl, sym, subst}
+use Rattle.std.specs.Prelude.{IfErr, IsErrAnd}
 use Rattle.command_line.specs.declared.command.RunSettings.{RunSettings}
 use Rattle.command_line.specs.declared.command.Command.{Command}
 use Rattle.command_line.specs.declared.command.Command.TheVariants.{Run, Soak}
 use Rattle.je_program.specs.declared.cause.Cause.{Cause}
 use Rattle.je_program.specs.declared.cause.Cause.TheVariants.{Usage, BadScript, Memory, Input, InputTooLong}
-use Rattle.je_program.specs.declared.request.Request.{Request}
-use Rattle.je_program.specs.Commands.{reads_input}
 use Rattle.je_program.specs.Program.{IsNoRequest, StopsReading}
-use Rattle.je_program.specs.Request.{IsNoCommand, IsRequestOf}
+use Rattle.je_program.specs.Request.{IsNoCommand}
 
 -- why a script was not read is why `run` has nothing to do
 unread_script : (settings : RunSettings) (left : Option (List ℕ)) (before after : ℕ) (cause : Cause) → StopsReading left before after cause → IsNoRequest (Some (Run settings)) left before after cause

@@ -4,7 +4,7 @@ use Rattle.engine.specs.Untouched.{IsLeftAlone, IsUntouched}
 use Rattle.engine.specs.declared.open_err.OpenErr.{OpenErr}
 use Rattle.engine.specs.declared.open_err.OpenErr.TheVariants.{Disk as NoDisk, Memory as NoMemory, IdsEnded as NoNumbers, Unreadable as CannotRead, WrongIndex as FoundWrong}
 use Rattle.je_program.specs.declared.cause.Cause.{Cause}
-use Rattle.je_program.specs.declared.cause.Cause.TheVariants.{Unreadable, WrongIndex}
+use Rattle.je_program.specs.declared.cause.Cause.TheVariants.{Unreadable, WrongIndex, NoEnvironment}
 use Rattle.je_program.specs.Program.{cause_of_opening}
 use Rattle.je_program.specs.Untouched.{LeavesUnreadable}
 use Rattle.je_program.proofs.FinishLaws.{IsRanCause}
@@ -13,6 +13,7 @@ use Rattle.je_program.proofs.FinishLaws.{IsRanCause}
 pub left_alone : (cause : Cause) (old new : History) → IsUntouched old new → LeavesUnreadable cause old new
 left_alone (Unreadable corruption) old new untouched = untouched
 left_alone (WrongIndex name) old new untouched = untouched
+left_alone NoEnvironment old new untouched = untouched
 left_alone cause old new untouched = tt
 
 -- opening left it alone
@@ -27,4 +28,5 @@ stopped_alone (FoundWrong name) old new alone = alone
 pub ran_alone : (cause : Cause) (old new : History) → IsRanCause cause → LeavesUnreadable cause old new
 ran_alone (Unreadable corruption) old new ran = absurd ran
 ran_alone (WrongIndex name) old new ran = absurd ran
+ran_alone NoEnvironment old new ran = absurd ran
 ran_alone cause old new ran = tt

@@ -6,4 +6,6 @@ pub mod Program
 pub mod Reading
 pub mod Printing
 pub mod Request
+pub mod Dumping
+pub mod Ran
 pub mod Unprinted

@@ -1,5 +1,5 @@
 -- What the program promises of one run.
-use Rattle.std.specs.Prelude.{ℕ, ◌≡◌, ◌≢◌, ◌≤◌, ◌<◌, ◌⊎◌, [], ◌++◌, List, Option, Some, None, Bool, true, false, Err, length, codes, decimal, slice_index_or, IfSome}
+use Rattle.std.specs.Prelude.{ℕ, ◌≡◌, ◌≢◌, ◌≤◌, ◌<◌, ◌⊎◌, [], ◌++◌, List, Option, None, Bool, true, false, Err, length, codes, decimal, slice_index_or, IfSome}
 use Rattle.je_order.specs.Counts.{HasRisen}
 use Rattle.je_io.specs.Sink.{Gains, GainsPart}
 use Rattle.je_disk.specs.Moments.{History, now}
@@ -15,7 +15,7 @@ use Rattle.je_answers.specs.Journal.{AllAcknowledged, AreResumedInOrder, AreSync
 use Rattle.script_text.specs.Grammar.{plan_of}
 use Rattle.je_program.specs.declared.reading.TheConstants.{MOST_INPUT}
 use Rattle.je_program.specs.declared.cause.Cause.{Cause}
-use Rattle.je_program.specs.declared.cause.Cause.TheVariants.{Done, Usage, BadScript, Disk, Unreadable, WrongIndex, Memory, NoEnvironment, Input, InputTooLong, LogFull, IdsEnded}
+use Rattle.je_program.specs.declared.cause.Cause.TheVariants.{Done, Usage, BadScript, Disk, Unreadable, WrongIndex, Memory, NoEnvironment, NoDatabase, Input, InputTooLong, LogFull, IdsEnded}
 use Rattle.text_out.specs.Lsn.{lsn_text}
 use Rattle.je_lsn.specs.Naming.{name_of}
 use Rattle.log_replay.specs.declared.corruption.Corruption.{Corruption}
@@ -66,10 +66,11 @@ is_before_disk Input = true
 is_before_disk InputTooLong = true
 is_before_disk cause = false
 
--- whether the script was run in any case, and whether it may have been
+-- whether the environment was opened and its lines were given in any case, and whether they may have been
 abbrev pub RunsIf : Cause → Bool → Type 0
 RunsIf Done opened = opened ≡ true
 RunsIf LogFull opened = opened ≡ true
+RunsIf NoDatabase opened = opened ≡ true
 RunsIf IdsEnded opened = Unit {0}
 RunsIf Disk opened = Unit {0}
 RunsIf Memory opened = Unit {0}
@@ -83,6 +84,11 @@ RunsBy false cause opened = opened ≡ false
 -- a run with memory for all its lines ends as its journal says, or closing met a fault of the disk
 abbrev pub EndsBy : List Event → Cause → Type 0
 EndsBy journal cause = (cause ≡ cause_of_journal journal) ⊎ (cause ≡ Disk)
+
+-- the same of a run that may have ended before a line was given, since the database that the command names was not there
+abbrev pub EndsWith : List Event → Cause → Type 0
+EndsWith journal NoDatabase = journal ≡ []
+EndsWith journal cause = EndsBy journal cause
 
 -- A run from one history of the disk to another, and from one count of its faults to another, with log files of at most so many bytes. It begins where the files at entry are opened: each event
 -- of the journal answers what the model lets it from there on, within the limits of the log; its transactions are as their levels promise, and after no
@@ -132,6 +138,7 @@ fault_text (Unreadable corruption) = corruption_text corruption
 fault_text (WrongIndex name) = codes "fault index " ++ name ++ codes "\n"
 fault_text Memory = codes "fault memory\n"
 fault_text NoEnvironment = codes "fault no environment\n"
+fault_text NoDatabase = codes "fault no database\n"
 fault_text Input = codes "fault input\n"
 fault_text InputTooLong = codes "fault input too long\n"
 fault_text LogFull = codes "fault log full\n"

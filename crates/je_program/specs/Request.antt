@@ -3,15 +3,15 @@ use Rattle.std.specs.Prelude.{ℕ, ◌≡◌, ◌≤◌, ◌^◌, List, Option, 
 use Rattle.std.specs.List.{list_all}
 use Rattle.store_model.specs.declared.plan.ScriptLine.{ScriptLine}
 use Rattle.command_line.specs.declared.command.Command.{Command}
-use Rattle.command_line.specs.declared.command.Command.TheVariants.{PrintLog as PrintLogCommand}
+use Rattle.command_line.specs.declared.command.Command.TheVariants.{Dump as DumpCommand, PrintLog as PrintLogCommand}
 use Rattle.engine.specs.declared.config.Config.{Config}
 use Rattle.script_text.specs.Grammar.{is_line}
 use Rattle.je_program.specs.declared.cause.Cause.{Cause}
 use Rattle.je_program.specs.declared.cause.Cause.TheVariants.{Usage, Memory}
 use Rattle.je_program.specs.declared.text.Text.{Text}
 use Rattle.je_program.specs.declared.request.Request.{Request}
-use Rattle.je_program.specs.declared.request.Request.TheVariants.{Life, PrintLog}
-use Rattle.je_program.specs.Commands.{AreLines, IsTextOf, ReadsInput, Work, file_max_of, opens, text_of}
+use Rattle.je_program.specs.declared.request.Request.TheVariants.{Life, Dump, PrintLog}
+use Rattle.je_program.specs.Commands.{AreLines, IsTextOf, ReadsInput, Work, file_max_of, gives_lines, text_of}
 
 -- why the arguments give no command
 abbrev pub IsNoCommand : Option Command → Cause → Type 0
@@ -27,7 +27,7 @@ pub record IsConfig (config : Config) : Type 0 where
 
 -- the lines that a command gives an environment, the settings with which that is opened, and what it writes
 pub record IsLife (command : Option Command) (left rest : Option (List ℕ)) (config : Config) (lines : List ScriptLine) (text : Text) : Type 0 where
-  pub opened : opens command ≡ true
+  pub gives : gives_lines command ≡ true
   pub file_max : file_max_of command ≡ Some config.file_max
   pub config_is : IsConfig config
   pub read : ReadsInput command left rest
@@ -38,4 +38,5 @@ pub record IsLife (command : Option Command) (left rest : Option (List ℕ)) (co
 -- what a command is to do, once its input was read
 abbrev pub IsRequestOf : Option Command → Option (List ℕ) → Option (List ℕ) → Request → Type 0
 IsRequestOf command left rest (Life config plan text) = IsLife command left rest config plan.lines text
+IsRequestOf command left rest (Dump db printed) = (command ≡ Some (DumpCommand db printed)) × (rest ≡ left)
 IsRequestOf command left rest PrintLog = (command ≡ Some PrintLogCommand) × (rest ≡ left)

@@ -6,7 +6,7 @@ use Rattle.store_model.specs.declared.event.Event.{Event}
 use Rattle.store_model.specs.Journal.{answer_of, is_disk_fault}
 use Rattle.je_answers.specs.Journal.{has_answer}
 use Rattle.je_program.specs.declared.cause.Cause.{Cause}
-use Rattle.je_program.specs.declared.cause.Cause.TheVariants.{Done, Usage, BadScript, Disk, Unreadable, WrongIndex, Memory, NoEnvironment, Input, InputTooLong, LogFull as NoRoom, IdsEnded as NoNumbers}
+use Rattle.je_program.specs.declared.cause.Cause.TheVariants.{Done, Usage, BadScript, Disk, Unreadable, WrongIndex, Memory, NoEnvironment, NoDatabase, Input, InputTooLong, LogFull as NoRoom, IdsEnded as NoNumbers}
 
 -- the cause that a journal's first answer of LogFull or IdsEnded gives
 abbrev pub cause_of_answer : Option Answer → Cause → Cause
@@ -47,6 +47,7 @@ status_of (Unreadable corruption) = 5
 status_of (WrongIndex name) = 5
 status_of Memory = 6
 status_of NoEnvironment = 10
+status_of NoDatabase = 10
 status_of Input = 7
 status_of InputTooLong = 11
 status_of NoRoom = 12

@@ -13,16 +13,25 @@ use Rattle.command_line.specs.declared.command.Command.{Command}
 use Rattle.command_line.specs.declared.command.Command.TheVariants.{PrintLog}
 use Rattle.log_printer.specs.Reading.{HasNoFile}
 use Rattle.je_program.specs.declared.cause.Cause.{Cause}
-use Rattle.je_program.specs.declared.cause.Cause.TheVariants.{Done, Unreadable, WrongIndex, Memory, NoEnvironment, IdsEnded}
+use Rattle.je_program.specs.declared.cause.Cause.TheVariants.{Done, Unreadable, WrongIndex, Memory, NoEnvironment, NoDatabase, IdsEnded}
 use Rattle.je_program.specs.declared.run_result.RunResult.{RunResult}
 use Rattle.je_program.specs.declared.text.Text.{Text}
-use Rattle.je_program.specs.Commands.{AreSound, IsFound, IsGivenTo, IsTextOf, ReadsInput, Work, file_max_of, may_end, opens, text_of}
-use Rattle.je_program.specs.Program.{ClosesRun, EndsBy, IsRunOf, IsStopped, RunsBy, is_before_disk}
+use Rattle.je_program.specs.Commands.{AreSound, HasDatabase, IsFound, IsGivenTo, IsTextOf, LacksDatabase, ReadsInput, Work, file_max_of, may_end, needs_environment, opens, text_of}
+use Rattle.je_program.specs.Program.{ClosesRun, EndsWith, IsRunOf, IsStopped, RunsBy, is_before_disk}
 use Rattle.je_program.specs.Untouched.{LeavesUnreadable}
+
+-- whether a command that needs an environment ends so only where a file was there
+abbrev pub needs_file : Cause → Bool
+needs_file Done = true
+needs_file (Unreadable corruption) = true
+needs_file (WrongIndex name) = true
+needs_file NoDatabase = true
+needs_file IdsEnded = true
+needs_file cause = false
 
 -- the work of a program that came to this, over a disk with these files at entry
 abbrev pub work_of : {D : Type 0} → Bool → Files → RunResult D → Work
-work_of observable files r = record { observable = observable; files = files; opened = r.opened; journal = r.journal.items; totals = r.totals; cause = r.cause }
+work_of observable files r = record { observable = observable; files = files; opened = r.opened; opening = r.opening; journal = r.journal.items; totals = r.totals; cause = r.cause }
 
 -- what a command came to, of which so much of the input was left and is, over a disk: each part is a clause of the top call
 pub record ComesTo {D : Type 0} (command : Option Command) (observable : Bool) (history : D → History) (faults : D → ℕ) (left rest : Option (List ℕ)) (before after : ℕ) (disk : D) (r : RunResult D) (text : Text) : Type 0 where
@@ -39,7 +48,10 @@ pub record ComesTo {D : Type 0} (command : Option Command) (observable : Bool) (
   pub wrong_index : (name : List ℕ) → r.cause ≡ WrongIndex name → observable ≡ true → HasWrongIndex (now (history disk)).reads name
   pub ids_ended : r.cause ≡ IdsEnded → r.opened ≡ false → observable ≡ true → HasNoNumbers (now (history disk)).reads
   pub no_environment : r.cause ≡ NoEnvironment → observable ≡ true → HasNoFile (now (history disk)).reads
-  pub ends : r.opened ≡ true → r.cause ≢ Memory → EndsBy r.journal.items r.cause
+  pub some_file : needs_environment command ≡ true → needs_file r.cause ≡ true → observable ≡ true → HasNoFile (now (history disk)).reads → ⊥
+  pub no_database : r.cause ≡ NoDatabase → LacksDatabase command r.opening
+  pub has_database : r.cause ≡ Done → HasDatabase command r.opening
+  pub ends : r.opened ≡ true → r.cause ≢ Memory → EndsWith r.journal.items r.cause
   pub caused : ClosesRun (faults disk) (faults r.disk) r.journal.items r.cause
   pub left_alone : observable ≡ true → LeavesUnreadable r.cause (history disk) (history r.disk)
   pub reads_only : opens command ≡ false → observable ≡ true → IsUntouched (history disk) (history r.disk)

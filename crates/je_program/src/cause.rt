@@ -28,6 +28,8 @@ pub enum Cause {
     Memory,
     /// No environment is there, and the command makes none: 10.
     NoEnvironment,
+    /// The environment has no database of the name that the command was given: 10.
+    NoDatabase,
     /// The input failed: 7.
     Input,
     /// The input has more bytes than an input may have: 11.
@@ -51,7 +53,7 @@ impl Cause {
             Cause::Unreadable(_) | Cause::WrongIndex(_) => 5,
             Cause::Memory => 6,
             Cause::Input => 7,
-            Cause::NoEnvironment => 10,
+            Cause::NoEnvironment | Cause::NoDatabase => 10,
             Cause::InputTooLong => 11,
             Cause::LogFull | Cause::IdsEnded => 12,
         }

@@ -137,6 +137,7 @@ pub fn fault_line(cause: &Cause) -> ArrayVec<u8, 80>
         Cause::WrongIndex(name) => line_of_index(name),
         Cause::Memory => plain_line(b"fault memory\n"),
         Cause::NoEnvironment => plain_line(b"fault no environment\n"),
+        Cause::NoDatabase => plain_line(b"fault no database\n"),
         Cause::Input => plain_line(b"fault input\n"),
         Cause::InputTooLong => plain_line(b"fault input too long\n"),
         Cause::LogFull => plain_line(b"fault log full\n"),

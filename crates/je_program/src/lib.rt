@@ -1,11 +1,12 @@
 //! The program: it reads its arguments and does what their command asks for: it opens the environment over a disk, runs
-//! a script's lines in order, and writes the report; it does so with the script of a seed; or it prints the log. `run_je` is
-//! the public top call; its contract is the store's theorem. It stands on `environment`, and on `script_run` for the run of
-//! the lines, on `command_line`, `script_text`, `soak_plan` and `log_printer` for what it reads and writes, and `jedb` only
-//! hands it the real disk, input and output.
+//! a script's lines in order, and writes the report; it does so with the script of a seed; it opens the environment and
+//! writes a database as a dump; or it prints the log. `run_je` is the public top call; its contract is the store's theorem.
+//! It stands on `environment`, and on `script_run` for the run of the lines, on `command_line`, `script_text`, `soak_plan`,
+//! `database_dump` and `log_printer` for what it reads and writes, and `jedb` only hands it the real disk, input and output.
 #![tactic(auto)]
 
 mod cause;
+mod dumping;
 mod ending;
 mod fault_line;
 mod home_folder;

@@ -5,17 +5,21 @@ ghost use Rattle.je_order.specs.Counts.{HasRisen};
 ghost use Rattle.je_io.specs.Sink.{Gains, GainsPart};
 ghost use Rattle.text_out.specs.OutBuffer.{Adds, Sends, point};
 ghost use Rattle.log_printer.specs.LogLines.{lines_text};
+ghost use Rattle.database_dump.specs.Text.{records_text};
+ghost use Rattle.environment.specs.Databases.{rows_kept};
 ghost use Rattle.je_program.specs.Commands.{report_of, soak_end_of, soak_text, text_of};
 ghost use Rattle.je_program.specs.Program.{fault_text, IsOutputWritten};
 
 use crate::cause::Cause;
 use crate::fault_line::fault_line;
 use crate::text::Text;
+use database_dump::put_database;
+use environment::Records;
 use je_io::{Failed, Sink, write_all};
 use log_printer::{FileLines, put_log};
 use script_text::{put_last_line, report};
 use soak_plan::SOAK_LINES;
-use store_model::{Event, Totals};
+use store_model::{Event, Kind, Totals};
 use text_out::{OutBuffer, put_number};
 
 // Writes the fault line of a cause, and nothing where all was done.
@@ -136,6 +140,24 @@ fn write_log<K: Sink>(files: &[FileLines], output: &mut K) -> Result<(), Failed>
     finish_text(buffer, output)
 }
 
+// Writes a database as a dump.
+fn write_dump<K: Sink>(
+    records: &Records,
+    number: u32,
+    kind: Kind,
+    printed: bool,
+    output: &mut K,
+) -> Result<(), Failed>
+    ensures observed { OnOk result (Gains (K.written output.old) (K.written output.new) (records_text printed kind (rows_kept records.now number))) }
+    ensures part { OnErr result (GainsPart (K.written output.old) (K.written output.new) (records_text printed kind (rows_kept records.now number))) }
+    ensures never_falls { K.faults output.old ≤ K.faults output.new }
+    ensures cause { OnErr result (HasRisen (K.faults output.old) (K.faults output.new)) }
+{
+    let mut buffer = OutBuffer::new();
+    put_database(&mut buffer, output, records, number, kind, printed);
+    finish_text(buffer, output)
+}
+
 // Writes what comes before the fault line.
 fn write_body<K: Sink>(
     text: &Text,
@@ -153,6 +175,12 @@ fn write_body<K: Sink>(
         Text::Nothing => write_all(output, b""),
         Text::Report => write_report(opened, journal, totals, output),
         Text::SoakEnd { seed } => write_soak(*seed, opened, journal, totals, output),
+        Text::Dump {
+            records,
+            number,
+            kind,
+            printed,
+        } => write_dump(records, *number, *kind, *printed, output),
         Text::Log(files) => write_log(files, output),
     }
 }

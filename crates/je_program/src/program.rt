@@ -18,12 +18,13 @@ ghost use Rattle.command_line.specs.declared.command.Command.TheVariants.{Run};
 ghost use Rattle.command_line.specs.Arguments.{command_in, is_taken};
 ghost use Rattle.je_program.specs.declared.cause.Cause.{Cause as Why};
 ghost use Rattle.je_program.specs.declared.reading.TheConstants.{MOST_INPUT};
-ghost use Rattle.je_program.specs.Commands.{AreReady, EndsWell, HasInput, IsFound, IsGivenTo, IsTextOf, ReadsInput, file_max_of, may_end, needs_environment, opens, reads_input};
-ghost use Rattle.je_program.specs.Program.{EndsBy, IsOutputWritten, IsRunOf, RunsBy, fault_text, is_before_disk};
+ghost use Rattle.je_program.specs.Commands.{AreReady, EndsWell, HasDatabase, HasInput, IsFound, IsGivenTo, IsTextOf, LacksDatabase, ReadsInput, file_max_of, may_end, needs_environment, opens, reads_input};
+ghost use Rattle.je_program.specs.Program.{EndsWith, IsOutputWritten, IsRunOf, RunsBy, fault_text, is_before_disk};
 
 use crate::cause::Cause;
 use crate::output::write_output;
 use crate::run_result::RunResult;
+use crate::text::Text;
 use crate::unprinted::{Unprinted, run_unprinted};
 use environment::{Opening, Records};
 use je_disk::Disk;
@@ -48,10 +49,22 @@ pub struct Ended<D> {
     pub records: Option<Records>,
 }
 
+// The records that were kept in memory: those of a dump are in its text.
+fn records_left(text: Text, records: Option<Records>) -> Option<Records> {
+    match text {
+        Text::Dump { records, .. } => Some(records),
+        text => {
+            drop(text);
+            records
+        }
+    }
+}
+
 /// Runs the program: does what the arguments' command asks for. For `run` it reads a script from the input, opens the
 /// environment over the disk, gives the script's lines in order, and writes the report; for `soak` it does so with the
-/// script of a seed, and writes how that ended; for `printlog` it reads the disk's files and writes a line for each entry
-/// of the log. Or it writes the one line that tells why there is none of these.
+/// script of a seed, and writes how that ended; for `dump` it opens the environment and writes a database's pairs; for
+/// `printlog` it reads the disk's files and writes a line for each entry of the log. Or it writes the one line that tells
+/// why there is none of these.
 pub fn run_je<D: Disk, S: Source, K: Sink>(
     alloc: Global,
     args: &[String],
@@ -83,22 +96,26 @@ pub fn run_je<D: Disk, S: Source, K: Sink>(
     // The disk failed only where its count of faults rose; the files at entry cannot be opened, with this
     // corruption first, or this index the first whose pairs are not those of its primary's records, exactly where
     // that is the cause of the end; a command that only reads files finds what is wrong with them alone. No file is
-    // there, and the command needs an environment, exactly where that is the cause.
+    // there, and the command needs an environment, exactly where that is the cause. Nor has the store the database
+    // that the command names, where that is the cause; and it has it, where all was done.
     ensures disk_failed { result.cause ≡ Why.Disk → HasRisen (D.faults disk) (D.faults result.disk) }
     ensures unreadable { (corruption : Wrong) → result.cause ≡ Why.Unreadable corruption → D.observable ≡ true → IsFound (command_in (map string_bytes args.now)) (now (D.history disk)).reads corruption }
     ensures wrong_index { (name : List ℕ) → result.cause ≡ Why.WrongIndex name → D.observable ≡ true → HasWrongIndex (now (D.history disk)).reads name }
     ensures no_environment { result.cause ≡ Why.NoEnvironment → D.observable ≡ true → HasNoFile (now (D.history disk)).reads }
+    ensures no_database { result.cause ≡ Why.NoDatabase → LacksDatabase (command_in (map string_bytes args.now)) result.opening }
+    ensures has_database { result.cause ≡ Why.Done → HasDatabase (command_in (map string_bytes args.now)) result.opening }
 
     // Where no script was run, no number is left only if those of the files' nodes may pass the last one.
     ensures ids_ended { result.cause ≡ Why.IdsEnded → result.opened ≡ false → D.observable ≡ true → HasNoNumbers (now (D.history disk)).reads }
 
-    // Where the files at entry cannot be opened, the disk's state is at each moment what it was; so it is, whatever the
-    // cause, where a command opens no environment.
+    // Where the files at entry cannot be opened, or none is there and the command needs one, the disk's state is at each
+    // moment what it was; so it is, whatever the cause, where a command opens no environment.
     ensures unreadable_untouched { (corruption : Wrong) → result.cause ≡ Why.Unreadable corruption → D.observable ≡ true → IsUntouched (D.history disk) (D.history result.disk) }
     ensures wrong_index_untouched { (name : List ℕ) → result.cause ≡ Why.WrongIndex name → D.observable ≡ true → IsUntouched (D.history disk) (D.history result.disk) }
+    ensures no_environment_untouched { result.cause ≡ Why.NoEnvironment → D.observable ≡ true → IsUntouched (D.history disk) (D.history result.disk) }
     ensures reads_only { opens (command_in (map string_bytes args.now)) ≡ false → D.observable ≡ true → IsUntouched (D.history disk) (D.history result.disk) }
 
-    // A run: its journal holds the script's lines, or those of the seed. Each answer is the model's, from what the files at entry mean on;
+    // A run: its journal holds the script's lines, or those of the seed; that of a dump is empty. Each answer is the model's, from what the files at entry mean on;
     // each commit is followed at once by its sync or its write-out, as its durability asks; the calls that waited go on
     // in the order in which they began to wait, before the next line; a step of maintenance is taken where a line asks
     // for it, and a sync among them has made all commits so far durable; each index has the pairs of its primary's
@@ -113,7 +130,7 @@ pub fn run_je<D: Disk, S: Source, K: Sink>(
     ensures given { result.opened ≡ true → IsGivenTo (command_in (map string_bytes args.now)) (S.left input.old) (S.left input.new) result.journal.items result.cause }
     ensures run { result.opened ≡ true → (file_max : ℕ) × (st : Standing) × (file_max_of (command_in (map string_bytes args.now)) ≡ Some file_max) × IsRunOf file_max D.observable (D.history disk) (D.history result.disk) (D.faults disk) (D.faults result.disk) result.opening result.totals result.journal.items result.cause st }
     ensures unopened { result.opened ≡ false → (result.opening ≡ no_databases) × (result.journal.items ≡ []) }
-    ensures ends { result.opened ≡ true → result.cause ≢ Why.Memory → EndsBy result.journal.items result.cause }
+    ensures ends { result.opened ≡ true → result.cause ≢ Why.Memory → EndsWith result.journal.items result.cause }
     ensures faults { has_answer is_disk_fault result.journal.items ≡ true → HasRisen (D.faults disk) (D.faults result.disk) }
 
     // From entry until the run, and at each moment where nothing was opened: each file reads as it did at entry, but
@@ -123,9 +140,10 @@ pub fn run_je<D: Disk, S: Source, K: Sink>(
 
     // A command that has its input, and the files that it needs, ends well, unless memory ran out or a count rose: `run`
     // and `soak` in a run, with files that mean a store in which each index has the pairs of its primary's records;
-    // `printlog` with all files printed. Where the files are not such, that is the cause.
+    // `dump` as the database is there or not; `printlog` with all files printed. Where the files are not such, that is
+    // the cause.
     ensures complete { HasInput (command_in (map string_bytes args.now)) (S.left input.old) → D.observable ≡ true → AreReady (command_in (map string_bytes args.now)) (now (D.history disk)).reads
-        → EndsWell (command_in (map string_bytes args.now)) result.cause result.opened result.journal.items ⊎ (result.cause ≡ Why.Memory)
+        → EndsWell (command_in (map string_bytes args.now)) result.cause result.opened result.opening result.journal.items ⊎ (result.cause ≡ Why.Memory)
         ⊎ Failing (S.faults input.old) (S.faults input.new) ⊎ HasRisen (D.faults disk) (D.faults result.disk) }
     ensures unreadable_found { (corruption : Wrong) → HasInput (command_in (map string_bytes args.now)) (S.left input.old) → D.observable ≡ true
         → IsFound (command_in (map string_bytes args.now)) (now (D.history disk)).reads corruption
@@ -141,7 +159,7 @@ pub fn run_je<D: Disk, S: Source, K: Sink>(
     // What was written, and the status: the command's text and the fault line, and the cause's status, unless the output
     // failed.
     ensures written { (text : List ℕ) × IsTextOf (command_in (map string_bytes args.now))
-        (record { observable = D.observable; files = (now (D.history disk)).reads; opened = result.opened; journal = result.journal.items; totals = result.totals; cause = result.cause }) text
+        (record { observable = D.observable; files = (now (D.history disk)).reads; opened = result.opened; opening = result.opening; journal = result.journal.items; totals = result.totals; cause = result.cause }) text
         × IsOutputWritten (K.written output.old) (K.written output.new) (K.faults output.old) (K.faults output.new) (text ++ fault_text result.cause) result.cause result.status }
 
     // No count of faults falls.
@@ -160,7 +178,7 @@ pub fn run_je<D: Disk, S: Source, K: Sink>(
         records,
     } = run;
     let status = write_output(&cause, &text, opened, &journal, &totals, output);
-    drop(text);
+    let records = records_left(text, records);
     Ended {
         status,
         cause,

@@ -10,20 +10,25 @@ ghost use Rattle.je_program.specs.Request.{IsConfig, IsNoCommand, IsRequestOf};
 use crate::cause::Cause;
 use crate::reading::read_script;
 use crate::text::Text;
-use command_line::{Command, RunSettings, parse};
+use command_line::{Command, CommandLine, RunSettings, parse};
 use environment::Config;
 use je_io::Source;
+use je_order::Word;
 use soak_plan::soak;
 use std::alloc::Global;
 use store_model::RunPlan;
 
-/// What a program is to do: to run a plan over an environment that is opened so, and then to write this; or to print the
-/// log.
+/// What a program is to do: to run a plan over an environment that is opened so, and then to write this; to dump a
+/// database; or to print the log.
 pub enum Request {
     Life {
         config: Config,
         plan: RunPlan,
         text: Text,
+    },
+    Dump {
+        db: Word,
+        printed: bool,
     },
     PrintLog,
 }
@@ -80,9 +85,8 @@ fn command_of(alloc: Global, args: &[String]) -> Result<Command, Cause>
     ensures none { IfErr result (IsNoCommand (command_in (map string_bytes args.now))) }
 {
     match parse(alloc, args)? {
-        Some(line) => {
-            let command = line.command;
-            drop(line);
+        Some(CommandLine { home, command }) => {
+            drop(home);
             Ok(command)
         }
         None => Err(Cause::Usage),
@@ -100,6 +104,7 @@ fn request_of<S: Source>(alloc: Global, command: Command, input: &mut S) -> Resu
     match command {
         Command::Run(settings) => run_request(alloc, settings, input),
         Command::Soak { seed, settings } => soak_request(alloc, seed, settings),
+        Command::Dump { db, printed } => Ok(Request::Dump { db, printed }),
         Command::PrintLog => Ok(Request::PrintLog),
     }
 }

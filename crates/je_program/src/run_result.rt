@@ -20,7 +20,10 @@ ghost use Rattle.engine.specs.Files.{HasCorruption, HasWrongIndex, MeanStore};
 ghost use Rattle.engine.specs.Lengths.{AreLengthsWithin};
 ghost use Rattle.engine.specs.Opening.{HasNoNumbers};
 ghost use Rattle.txn_core.specs.Totals.{totals_of};
+ghost use Rattle.environment.specs.Databases.{rows_of};
 ghost use Rattle.je_program.specs.Commands.{ends_soak};
+ghost use Rattle.je_program.specs.Dumping.{HaveRows};
+ghost use Rattle.je_program.specs.Ran.{HasRun};
 ghost use Rattle.je_program.specs.Program.{ClosesRun, EndsBy, IsRunOf, RunsIf, cause_closed, cause_of_opening};
 ghost use Rattle.je_program.specs.Run.{cause_of_journal, is_run_through};
 
@@ -95,8 +98,8 @@ fn closed_cause(cause: Cause, failed: bool) -> Cause
     }
 }
 
-// The cause of an environment that was not opened.
-fn opening_cause(error: OpenErr) -> Cause
+/// The cause of an environment that was not opened.
+pub fn opening_cause(error: OpenErr) -> Cause
     ensures { result ≡ cause_of_opening error }
 {
     match error {
@@ -108,11 +111,14 @@ fn opening_cause(error: OpenErr) -> Cause
     }
 }
 
-// Ends a run: closes its engine.
-fn finish<D: Disk>(running: Running<D>, opening: Opening) -> RunResult<D>
+/// Ends a run: closes its environment. The records that it kept in memory are handed out.
+pub fn finish<D: Disk>(running: Running<D>, opening: Opening) -> RunResult<D>
     ensures opened { result.opened ≡ true }
     ensures opening { result.opening ≡ opening }
     ensures journal { result.journal.items ≡ running.recorded.journal.items }
+    ensures records { HaveRows result.records (rows_of running.recorded.environment) }
+    ensures run { (old : History) (before : ℕ) (p : Beginning) → HasRun D.observable D.history D.faults old before opening p running
+        → IsRunOf p.most D.observable old (D.history result.disk) before (D.faults result.disk) result.opening result.totals result.journal.items result.cause p.st }
     ensures memory { running.memory_ended ≡ true → result.cause ≡ Why.Memory }
     ensures ends { running.memory_ended ≡ false → EndsBy running.recorded.journal.items result.cause }
     ensures caused { (before : ℕ) → IsCaused before (D.faults (disk_of running.recorded.environment)) running.recorded.journal.items → ClosesRun before (D.faults result.disk) running.recorded.journal.items result.cause }

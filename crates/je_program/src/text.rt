@@ -1,5 +1,7 @@
 // What a program has to write.
+use environment::Records;
 use log_printer::FileLines;
+use store_model::Kind;
 
 /// What a program has to write before its fault line.
 #[derive(Drop)]
@@ -8,7 +10,17 @@ pub enum Text {
     /// The report of the run, if a script was run.
     Report,
     /// The seed, the number of lines and the report's last line, if the seed's script was run.
-    SoakEnd { seed: u32 },
+    SoakEnd {
+        seed: u32,
+    },
+    /// The database of that number among these records, which is of this kind, as a dump; with `printed`, bytes that can
+    /// be printed are shown as themselves.
+    Dump {
+        records: Records,
+        number: u32,
+        kind: Kind,
+        printed: bool,
+    },
     /// The lines of a log.
     Log(Vec<FileLines>),
 }

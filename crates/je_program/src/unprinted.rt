@@ -4,6 +4,7 @@ ghost use Rattle.command_line.specs.Arguments.{command_in};
 ghost use Rattle.je_program.specs.Commands.{reads_input};
 ghost use Rattle.je_program.specs.Unprinted.{ComesTo};
 
+use crate::dumping::dump;
 use crate::print_log::print_log;
 use crate::request::{Request, read_request};
 use crate::run_result::{RunResult, run_plan, unopened};
@@ -34,6 +35,7 @@ pub fn run_unprinted<D: Disk, S: Source>(
             run: run_plan(alloc, disk, config, plan),
             text,
         },
+        Ok(Request::Dump { db, printed }) => dump(alloc, disk, &db, printed),
         Ok(Request::PrintLog) => print_log(alloc, disk),
         Err(cause) => Unprinted {
             run: unopened(alloc, cause, disk),

@@ -41,7 +41,7 @@ static RIGHT: [(&str, &str, u32, u32); 20] = [
 ];
 
 // Lines whose arguments are invalid.
-static WRONG: [&str; 62] = [
+static WRONG: [&str; 74] = [
     "run",
     "run --home",
     "--home d",
@@ -104,6 +104,31 @@ static WRONG: [&str; 62] = [
     "printlog --home d --file-max 4096",
     "printlog --home d --seed 1",
     "run printlog --home d",
+    "dump --home d",
+    "dump --db t",
+    "dump --home d --db",
+    "dump --home d --db=",
+    "dump --home d --db T",
+    "dump --home d --db a.b",
+    "dump --home d --db -",
+    "dump --home d --db t --db t",
+    "dump --home d --db t --print --print",
+    "dump --home d --db t --print=1",
+    "dump --home d --db t --file-max 4096",
+    "dump --home d --db abcdefghijklmnopqrstuvwxyz_0123456789_abcdefghijklmnopqrstuvwxyz_0",
+];
+
+// Lines of a dump that are valid, with the database that they name, and whether its bytes are shown as themselves.
+static DUMPS: [(&str, &str, bool); 5] = [
+    ("dump --home d --db t", "t", false),
+    ("dump --db=_0 --home=d --", "_0", false),
+    ("dump --home d --db print --print", "print", true),
+    ("dump --print --db t --home d", "t", true),
+    (
+        "dump --home d --db abcdefghijklmnopqrstuvwxyz_0123456789_abcdefghijklmnopqrstuvwxyz",
+        "abcdefghijklmnopqrstuvwxyz_0123456789_abcdefghijklmnopqrstuvwxyz",
+        false,
+    ),
 ];
 
 // Lines of a soak that are valid, with the seed, the file length and the number of slots that they give.
@@ -139,7 +164,7 @@ fn gives(
     };
     Ok(
         found.home.as_str() == home
-            && match found.command {
+            && match &found.command {
                 Command::Run(settings) => settings.file_max == file_max
                     && settings.fanout == fanout,
                 _ => false,
@@ -158,10 +183,21 @@ fn soaks(
     let Some(found) = parse(alloc, args.as_slice())? else {
         return Ok(false);
     };
-    Ok(match found.command {
+    Ok(match &found.command {
         Command::Soak { seed, settings } => {
-            seed == wanted && settings.file_max == file_max && settings.fanout == fanout
+            *seed == wanted && settings.file_max == file_max && settings.fanout == fanout
         }
+        _ => false,
+    })
+}
+
+fn dumps(alloc: Global, line: &str, name: &str, wanted: bool) -> Result<bool, AllocError> {
+    let args = split(alloc, line)?;
+    let Some(found) = parse(alloc, args.as_slice())? else {
+        return Ok(false);
+    };
+    Ok(match &found.command {
+        Command::Dump { db, printed } => db.as_slice() == name.as_bytes() && *printed == wanted,
         _ => false,
     })
 }
@@ -200,6 +236,16 @@ fn right_words_give_a_soak(rt: HostRuntime) {
     for &(line, seed, file_max, fanout) in &SOAKS {
         assert!(rt;
             soaks(rt.alloc(), line, seed, file_max, fanout) == Ok(true),
+            "{line}"
+        );
+    }
+}
+
+#[test]
+fn right_words_dump_a_database(rt: HostRuntime) {
+    for &(line, name, printed) in &DUMPS {
+        assert!(rt;
+            dumps(rt.alloc(), line, name, printed) == Ok(true),
             "{line}"
         );
     }

@@ -17,6 +17,8 @@ mod cursors;
 #[cfg(test)]
 mod databases;
 #[cfg(test)]
+mod dumps;
+#[cfg(test)]
 mod failing;
 #[cfg(test)]
 mod files;

@@ -1,5 +1,6 @@
-use Rattle.std.proofs.Common.{◌≡◌, ◌∙◌, ap, sym, refl, List, Option, Some, None, option_map}
+use Rattle.std.proofs.Common.{◌≡◌, ◌∙◌, ap, refl, List, Option, Some, None, option_map}
 use Rattle.std.specs.Prelude.{Box, option_and_then}
+use Rattle.std.proofs.lemmas.Result.{IfOk-weaker}
 use Rattle.std.specs.Box.{box_value}
 use Rattle.clap.specs.Walk.{Row, Text, rows_of}
 use Rattle.clap.specs.Matches.{found_of}
@@ -22,8 +23,8 @@ none_of : (found : Option (Text × List Row)) → None ≡ option_map (λ (p : T
 none_of None first = refl
 none_of (Some p) first = cc
 
-pub returns : goal.returns
-returns c =
-    let g = c.in_ok-name in
-    c.command_named.ensures ∙ ap (option_and_then command_of)
-    (pair_of (subcommand_rows_of c.args.found.now) g.name.now (rows_of (found_of g.given.now)) (g.ensures.name ∙ names _) g.ensures.rows)
+pub returns-in-Some : goal.returns-in-Some
+returns-in-Some c =
+    let g = c.in-Some in
+    let found_is = pair_of (subcommand_rows_of c.args.found.now) g.name.now (rows_of (found_of g.given.now)) (g.ensures.name ∙ names _) g.ensures.rows in
+    IfOk-weaker c.command_named.result _ _ (λ command is. is ∙ ap (option_and_then command_of) found_is) c.command_named.ensures

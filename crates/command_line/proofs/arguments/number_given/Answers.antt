@@ -4,7 +4,7 @@ use Rattle.std.specs.Str.Parse.{ExplainsUnsignedError, HasUnsignedDigitsIfOk, Pa
 use Rattle.clap.specs.Matches.{ReadsOne, found_of}
 use Rattle.clap.specs.Walk.{Text}
 use Rattle.clap.proofs.WalkLemmas.{one_text-rows}
-use Rattle.command_line.specs.Arguments.{decimal_value, number_read}
+use Rattle.command_line.specs.Arguments.{number_read}
 use Rattle.command_line.proofs.NumberLaws.{others_read, spelled_read}
 use Rattle.command_line.proofs.arguments.number_given.Goals as goal
 

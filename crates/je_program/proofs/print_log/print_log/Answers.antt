@@ -1,4 +1,4 @@
-use Rattle.std.proofs.Common.{◌≡◌, ◌∙◌, sym, subst, ap, true}
+use Rattle.std.proofs.Common.{◌∙◌, sym, subst, ap}
 use Rattle.je_disk.specs.Moments.{now}
 use Rattle.engine.specs.Untouched.{IsUntouched}
 use Rattle.je_program.specs.declared.cause.Cause.{Cause}

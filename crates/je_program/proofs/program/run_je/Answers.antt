@@ -76,13 +76,24 @@ pub returns-clause-crash_unopened : goal.returns-clause-crash_unopened
 returns-clause-crash_unopened g c = c.run_unprinted-run.ensures.comes.crash_unopened
 
 pub returns-clause-unreadable : goal.returns-clause-unreadable
-returns-clause-unreadable g c = c.run_unprinted-run.ensures.unreadable
+returns-clause-unreadable g c = c.run_unprinted-run.ensures.comes.unreadable
 
 pub returns-clause-wrong_index : goal.returns-clause-wrong_index
 returns-clause-wrong_index g c = c.run_unprinted-run.ensures.comes.wrong_index
 
 pub returns-clause-no_environment : goal.returns-clause-no_environment
 returns-clause-no_environment g c = c.run_unprinted-run.ensures.comes.no_environment
+
+pub returns-clause-no_database : goal.returns-clause-no_database
+returns-clause-no_database g c = c.run_unprinted-run.ensures.comes.no_database
+
+pub returns-clause-has_database : goal.returns-clause-has_database
+returns-clause-has_database g c = c.run_unprinted-run.ensures.comes.has_database
+
+pub returns-clause-no_environment_untouched : goal.returns-clause-no_environment_untouched
+returns-clause-no_environment_untouched g c = λ is observed.
+    let a = c.run_unprinted-run in
+    subst (λ why. LeavesUnreadable why (g.D.Disk.history c.args.disk) (g.D.Disk.history a.result.run.disk)) is (a.ensures.comes.left_alone observed)
 
 pub returns-clause-reads_only : goal.returns-clause-reads_only
 returns-clause-reads_only g c = c.run_unprinted-run.ensures.comes.reads_only

@@ -1,4 +1,4 @@
-use Rattle.std.proofs.Common.{◌≡◌, ℕ, map, string_bytes, sym, ap, subst, false, ◌∙◌}
+use Rattle.std.proofs.Common.{map, string_bytes, sym, ap, subst, ◌∙◌}
 use Rattle.std.specs.Prelude.{IfErr, IfOk, Option}
 use Rattle.command_line.specs.declared.command.Command.{Command}
 use Rattle.command_line.specs.Arguments.{command_in}

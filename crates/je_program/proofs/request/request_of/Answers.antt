@@ -1,4 +1,4 @@
-use Rattle.std.proofs.Common.{◌≡◌, sym, subst, false, Some}
+use Rattle.std.proofs.Common.{sym, subst, Some}
 use Rattle.std.specs.Prelude.{IfErr, IfOk}
 use Rattle.command_line.specs.declared.command.Command.{Command}
 use Rattle.command_line.specs.Arguments.{IsBounded}

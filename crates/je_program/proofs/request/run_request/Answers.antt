@@ -6,7 +6,7 @@ pub returns-clause-is : goal.returns-clause-is
 returns-clause-is g c =
     let p = c.in_ok-plan.ensures in
     record {
-      opened = refl;
+      gives = refl;
       file_max = ap (λ n. Some n) (sym c.config_of.ensures.file_max);
       config_is = c.config_of.ensures.is;
       read = (c.in_ok-plan.plan, p.read);

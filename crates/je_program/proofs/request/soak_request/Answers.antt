@@ -9,7 +9,7 @@ pub returns-clause-is : goal.returns-clause-is
 returns-clause-is c = λ left.
     let plan_is = c.in_ok-plan.ensures in
     record {
-      opened = refl;
+      gives = refl;
       file_max = ap (λ n. Some n) (sym c.config_of.ensures.file_max);
       config_is = c.config_of.ensures.is;
       read = refl;

@@ -1,11 +1,19 @@
-use Rattle.std.proofs.Common.{ap, sym, ◌∙◌, subst}
+use Rattle.std.proofs.Common.{◌≡◌, ap, sym, ◌∙◌, subst, true, false, [], None}
+use Rattle.je_disk.specs.Moments.{now}
+use Rattle.engine.proofs.LengthLaws.{entry_lengths, lengths_kept}
+use Rattle.engine.specs.Opening.{reach_in}
 use Rattle.environment.specs.Whole.{disk_of}
 use Rattle.script_run.specs.UnderWay.{standing}
 use Rattle.script_run.proofs.FaultLaws.{valid_afterwards}
+use Rattle.script_run.proofs.Pushed.{bounded_far, synced_all}
 use Rattle.je_program.specs.declared.cause.Cause.{Cause}
-use Rattle.je_program.specs.Program.{ClosesBy}
+use Rattle.je_program.specs.Crash.{IsSafeProgram}
+use Rattle.je_program.specs.declared.cause.Cause.TheVariants.{Memory}
+use Rattle.je_program.specs.Program.{ClosesBy, EndsBy}
 use Rattle.je_program.specs.Run.{is_run_through}
-use Rattle.je_program.proofs.FinishLaws.{closed_well, closes_by, closes_run, done_without_fault, ended_well}
+use Rattle.je_program.proofs.BeginLaws.{starts_valid}
+use Rattle.je_program.proofs.FinishLaws.{closed_ends, closed_memory, closed_well, closes_by, closes_run, done_acknowledged, done_is_no_memory, done_without_fault, ended_well, ends_by, memory_left, well_since}
+use Rattle.je_program.proofs.ReplayLaws.{run_fronts_indexed, run_never_cycles, run_replays, run_stays_indexed}
 use Rattle.je_program.proofs.run_result.finish.Goals as goal
 
 pub returns-clause-caused : goal.returns-clause-caused
@@ -59,3 +67,57 @@ returns-clause-lengths g c = λ p under none well observed.
     let both = ended_well p.faults mid after journal r.memory_ended c.end_cause-cause.result c.closed_cause-cause.result c.close-closed.result.failed under.running.caused c.close-closed.ensures.never_falls c.close-closed.ensures.cause
     c.end_cause-cause.ensures.memory (rw c.deref.ensures.value at c.end_cause-cause.ensures.journal) c.closed_cause-cause.ensures well in
     c.close-closed.ensures.lengths observed both.1 p.most p.st p.start journal under.running.here (under.guarded observed) (valid_afterwards p.st journal none both.0)
+
+pub returns-clause-records : goal.returns-clause-records
+returns-clause-records g c = c.close-closed.ensures.records
+
+pub returns-clause-run : goal.returns-clause-run
+returns-clause-run g c = λ old before p ran.
+    let observable = g.D.Disk.observable in
+    let history = g.D.Disk.history in
+    let faults = g.D.Disk.faults in
+    let running = c.args.running in
+    let journal = running.recorded.journal.items in
+    let cause = c.closed_cause-cause.result in
+    let disk = c.close-closed.result.disk in
+    let new = history disk in
+    let after = faults disk in
+    let under = ran.under in
+    let end = c.end_cause-cause.result in
+    let failed = c.close-closed.result.failed in
+    let memory : running.memory_ended ≡ true → cause ≡ Memory = λ none. closed_memory failed end cause c.closed_cause-cause.ensures (c.end_cause-cause.ensures.memory none) in
+    let ends : running.memory_ended ≡ false → EndsBy journal cause = λ left. closed_ends journal failed end cause c.closed_cause-cause.ensures
+    (rw c.deref.ensures.value at c.end_cause-cause.ensures.journal left) in
+    let valid : p.st.fault ≡ None = starts_valid observable (now old).reads c.args.opening p.st ran.starts in
+    let synced = synced_all p.st journal (under.running.synced [] tt) in
+    let safe : observable ≡ true → IsSafeProgram old new p.st journal cause = λ observed. record {
+      start = p.start;
+      stable = ran.stable observed;
+      before = ran.entry observed;
+      run = returns-clause-crash g c observed p under;
+      indexed = run_fronts_indexed observable (now old).reads c.args.opening p.st under.running.limits journal ran.starts under.running.answers;
+      ends = λ done. returns-clause-crash_end g c observed p under valid done;
+    } in
+    record {
+      starts = ran.starts;
+      limits = under.running.limits;
+      answers = under.running.answers;
+      replays = run_replays observable (now old).reads c.args.opening p.st under.running.limits journal ran.starts under.running.answers;
+      no_cycle = run_never_cycles observable (now old).reads c.args.opening p.st under.running.limits journal ran.starts under.running.answers;
+      indexes = run_stays_indexed observable (now old).reads c.args.opening p.st under.running.limits journal ran.starts under.running.answers;
+      bounded = bounded_far p.first (reach_in ran.starts.held ran.starts.meaning) p.st journal under.running.limits ran.reach under.running.bounded;
+      synced_at_once = synced;
+      in_order = under.running.ordered;
+      steps = under.running.steps;
+      stopped = running.stopped;
+      in_place = ran.ends;
+      none_stopped = λ other. ran.none_stopped (memory_left running.memory_ended cause memory other);
+      ended = λ other. ran.ended (memory_left running.memory_ended cause memory other);
+      rests = λ other. ran.calm (memory_left running.memory_ended cause memory other);
+      acknowledged = λ done. done_acknowledged p.st journal cause done (ends_by journal running.memory_ended cause memory ends (done_is_no_memory cause done)) synced;
+      safe = safe;
+      files = λ done observed. returns-clause-files g c p under valid done observed;
+      lengths = λ well observed. lengths_kept p.most (now old).reads (now p.start).reads (now new).reads (entry_lengths old p.start (ran.entry observed))
+          (returns-clause-lengths g c p under valid (well_since before p.faults after cause ran.earlier (returns-clause-caused g c p.faults under.running.caused).never_falls well) observed);
+      totals = returns-clause-totals g c p under;
+    }

@@ -1,23 +1,18 @@
-use Rattle.std.proofs.Common.{◌≡◌, ◌∙◌, true, true≢false, List, [], None, sym, ap, subst}
+use Rattle.std.proofs.Common.{◌∙◌, true≢false, List, sym, ap, subst}
 use Rattle.je_disk.specs.Moments.{now}
 use Rattle.store_model.specs.declared.event.Event.{Event}
 use Rattle.store_model.specs.declared.plan.ScriptLine.{ScriptLine}
-use Rattle.store_model.specs.declared.store.Store.{Store}
 use Rattle.je_answers.specs.Journal.{lines_of}
 use Rattle.environment.specs.Whole.{disk_of}
 use Rattle.engine.specs.Crash.{KeepsEntry}
-use Rattle.engine.proofs.LengthLaws.{entry_lengths, lengths_kept}
-use Rattle.engine.specs.Opening.{reach_in}
-use Rattle.je_program.specs.Crash.{IsSafeProgram}
 use Rattle.je_program.specs.Commands.{ends_soak}
-use Rattle.je_program.specs.Program.{EndsBy, ClosesRun, IsRunOf, RunsIf, cause_of_opening}
+use Rattle.je_program.specs.Program.{EndsBy, ClosesRun, RunsIf, cause_of_opening}
 use Rattle.script_run.specs.Lines.{AreFirstLines, of_maintenance, of_session}
-use Rattle.je_program.proofs.BeginLaws.{beginning, begins, opened_as_one, starts_valid}
-use Rattle.je_program.proofs.FinishLaws.{done_acknowledged, done_is_no_memory, ran_cause, runs_if, ran_ends, ran_not_unreadable, ran_not_wrong, ends_by, memory_left, well_since}
-use Rattle.script_run.proofs.Pushed.{bounded_far, caused_earlier, synced_all}
+use Rattle.je_program.proofs.BeginLaws.{beginning, begins, opened_as_one}
+use Rattle.je_program.proofs.FinishLaws.{ran_cause, runs_if, ran_ends, ran_not_unreadable, ran_not_wrong, ends_by, memory_left}
+use Rattle.script_run.proofs.Pushed.{caused_earlier}
 use Rattle.je_program.specs.declared.cause.Cause.{Cause}
 use Rattle.je_program.specs.Untouched.{LeavesUnreadable}
-use Rattle.je_program.proofs.ReplayLaws.{run_fronts_indexed, run_never_cycles, run_replays, run_stays_indexed}
 use Rattle.je_program.proofs.StopLaws.{stopped_ends, stopped_caused, stopped_failed, stopped_numbers, stopped_runs, stopped_unreadable, stopped_wrong}
 use Rattle.je_program.proofs.UntouchedLaws.{ran_alone, stopped_alone}
 use Rattle.je_program.proofs.run_result.run_plan.Goals as goal
@@ -44,7 +39,6 @@ run-running-requires-clause-start g c =
 
 pub returns-in-Ok-clause-run : goal.returns-in-Ok-clause-run
 returns-in-Ok-clause-run g c = λ is_opened.
-    let f = c.finish in
     let observable = g.D.Disk.observable in
     let history = g.D.Disk.history in
     let faults = g.D.Disk.faults in
@@ -52,56 +46,23 @@ returns-in-Ok-clause-run g c = λ is_opened.
     let opening = c.in-Ok.opened.opening in
     let most = c.args.config.file_max in
     let ran = c.run-running in
-    let journal = ran.result.recorded.journal.items in
-    let cause = f.result.cause in
-    let totals = f.result.totals in
     let old = history c.args.disk in
-    let new = history f.result.disk in
-    let before = faults c.args.disk in
-    let after = faults f.result.disk in
     let one = opened_as_one most observable (now old).reads opening (history (disk_of environment)) environment c.in-Ok.ensures.opened c.in-Ok.ensures.crash in
-    let st = one.st in
-    let p = beginning observable history faults most environment st in
-    let starts = begins observable history faults most (now old).reads opening environment one c.in-Ok.ensures.bounds in
-    let under = ran.ensures.goes_on p starts in
-    let valid : st.fault ≡ None = starts_valid observable (now old).reads opening st one.starts in
-    let synced = synced_all st journal (under.running.synced [] tt) in
-    let safe : observable ≡ true → IsSafeProgram old new st journal cause = λ observed. record {
-      start = p.start;
-      stable = (one.safe observed).stable;
-      before = c.in-Ok.ensures.entry observed;
-      run = f.ensures.crash observed p under;
-      indexed = run_fronts_indexed observable (now old).reads opening st under.running.limits journal one.starts under.running.answers;
-      ends = λ done. f.ensures.crash_end observed p under valid done;
-    } in
-    let run : IsRunOf most observable old new before after opening totals journal cause st = record {
-      starts = one.starts;
-      limits = under.running.limits;
-      answers = under.running.answers;
-      replays = run_replays observable (now old).reads opening st under.running.limits journal one.starts under.running.answers;
-      no_cycle = run_never_cycles observable (now old).reads opening st under.running.limits journal one.starts under.running.answers;
-      indexes = run_stays_indexed observable (now old).reads opening st under.running.limits journal one.starts under.running.answers;
-      bounded = bounded_far p.first (reach_in one.starts.held one.starts.meaning) st journal under.running.limits one.reach under.running.bounded;
-      synced_at_once = synced;
-      in_order = under.running.ordered;
-      steps = under.running.steps;
-      stopped = ran.result.stopped;
-      in_place = ran.ensures.ends p starts;
-      none_stopped = λ other. ran.ensures.given.none_stopped (memory_left ran.result.memory_ended cause f.ensures.memory other);
-      ended = λ other. ran.ensures.ended p starts (memory_left ran.result.memory_ended cause f.ensures.memory other);
-      rests = λ other. ran.ensures.calm p starts (memory_left ran.result.memory_ended cause f.ensures.memory other);
-      acknowledged = λ done. done_acknowledged st journal cause done
-          (ends_by journal ran.result.memory_ended cause f.ensures.memory f.ensures.ends (done_is_no_memory cause done)) synced;
-      safe = safe;
-      files = λ done observed. f.ensures.files p under valid done observed;
-      lengths = λ well observed. lengths_kept most (now old).reads (now p.start).reads (now new).reads
-          (entry_lengths old p.start (c.in-Ok.ensures.entry observed))
-          (f.ensures.lengths p under valid (well_since before p.faults after cause c.in-Ok.ensures.faults (f.ensures.caused p.faults under.running.caused).never_falls well) observed);
-      totals = f.ensures.totals p under;
-    } in (
-      st,
-      subst (λ (s : Store). IsRunOf most observable old new before after s totals f.result.journal.items cause st) (sym f.ensures.opening)
-          (subst (λ (j : List Event). IsRunOf most observable old new before after opening totals j cause st) (sym f.ensures.journal) run),
+    let p = beginning observable history faults most environment one.st in
+    let starts = begins observable history faults most (now old).reads opening environment one c.in-Ok.ensures.bounds in (
+      one.st,
+      c.finish.ensures.run old (faults c.args.disk) p (record {
+        starts = one.starts;
+        reach = one.reach;
+        stable = λ observed. (one.safe observed).stable;
+        entry = c.in-Ok.ensures.entry;
+        earlier = c.in-Ok.ensures.faults;
+        under = ran.ensures.goes_on p starts;
+        ends = ran.ensures.ends p starts;
+        none_stopped = ran.ensures.given.none_stopped;
+        ended = ran.ensures.ended p starts;
+        calm = ran.ensures.calm p starts;
+      }),
     )
 
 pub returns-in-Ok-clause-unreadable : goal.returns-in-Ok-clause-unreadable

@@ -1,12 +1,12 @@
-use Rattle.std.proofs.Common.{◌≡◌, map, string_bytes, sym, ap, subst, true≢false, ◌∙◌, Option, Some, List, ℕ}
+use Rattle.std.proofs.Common.{map, string_bytes, sym, subst, true≢false, ◌∙◌, Option, Some, List, ℕ}
 use Rattle.je_disk.specs.Moments.{now}
 use Rattle.command_line.specs.declared.command.Command.{Command}
-use Rattle.command_line.specs.declared.command.Command.TheVariants.{PrintLog}
+use Rattle.command_line.specs.declared.command.Command.TheVariants.{Dump, PrintLog}
 use Rattle.command_line.specs.Arguments.{command_in}
 use Rattle.je_program.specs.Program.{IsNoRequest}
 use Rattle.je_program.specs.Request.{IsLife, IsRequestOf}
 use Rattle.je_program.specs.Unprinted.{ComesTo, work_of}
-use Rattle.je_program.proofs.CommandLaws.{after_input, life_found, life_is_no_reading, life_may, life_none, life_runs, none_comes, past_reading, print_comes}
+use Rattle.je_program.proofs.CommandLaws.{after_input, life_ends, life_found, life_has, life_is_no_reading, life_may, life_names_none, life_needs_none, life_none, life_opens, life_runs, none_comes, past_reading, print_comes}
 use Rattle.je_program.proofs.unprinted.run_unprinted.Goals as goal
 
 pub returns-in-Ok-Life-clause-comes : goal.returns-in-Ok-Life-clause-comes
@@ -18,24 +18,28 @@ returns-in-Ok-Life-clause-comes g c =
     let rest = g.S.Source.left c.read_request.new.input in
     let life : IsLife command left rest c.in-Ok-Life.config c.in-Ok-Life.plan.lines c.in-Ok-Life.text = subst (IsRequestOf command left rest) c.in-Ok-Life.field-0-is c.in-Ok-Life.ensures.is in
     let faults = g.S.Source.faults in
+    let opens_it = life_opens command life.gives in
     record {
-      may = life_may command r.cause life.opened p.causes;
+      may = life_may command r.cause life.gives p.causes;
       stopped = past_reading left (faults c.args.input.now) (faults c.read_request.new.input) r.cause p.causes;
       read = λ after other. life.read;
-      given = λ opened. record { lines = c.in-Ok-Life.plan.lines; are = life.are; all = p.lines opened; front = p.front opened; front_steps = p.front_steps opened };
+      given = λ opened. record { lines = c.in-Ok-Life.plan.lines; are = life.are; all = p.lines opened; front = p.front opened; front_steps = p.front_steps opened; none = λ other. absurd (true≢false (sym life.gives ∙ other)) };
       untouched = λ before. absurd (true≢false (sym before ∙ after_input r.cause p.causes));
-      runs = life_runs command r.cause r.opened life.opened p.runs;
+      runs = life_runs command r.cause r.opened opens_it p.runs;
       run = λ opened. (let ran = p.run opened in (c.in-Ok-Life.config.file_max, ran.0, life.file_max, ran.1));
       unopened = p.unopened;
-      unreadable = λ corruption is observed. life_found command (now (g.D.Disk.history c.args.disk)).reads corruption life.opened (p.unreadable corruption is observed);
-      sound = λ is. life_is_no_reading command life.opened is;
+      unreadable = λ corruption is observed. life_found command (now (g.D.Disk.history c.args.disk)).reads corruption opens_it (p.unreadable corruption is observed);
+      sound = λ is. life_is_no_reading command opens_it is;
       wrong_index = p.wrong_index;
       ids_ended = p.ids_ended;
       no_environment = λ is. life_none r.cause p.causes is;
-      ends = p.ends;
+      some_file = λ needs. life_needs_none command life.gives needs;
+      no_database = λ is. life_names_none r.cause p.causes is;
+      has_database = λ is. life_has command r.opening life.gives;
+      ends = λ opened other. life_ends r.journal.items r.cause p.causes (p.ends opened other);
       caused = p.caused;
       left_alone = p.left_alone;
-      reads_only = λ closed. absurd (true≢false (sym life.opened ∙ closed));
+      reads_only = λ closed. absurd (true≢false (sym opens_it ∙ closed));
       crash_unopened = p.crash_unopened;
       text_is = life.text_is (work_of g.D.Disk.observable (now (g.D.Disk.history c.args.disk)).reads r);
       source = c.in-Ok-Life.ensures.never_falls;
@@ -53,6 +57,18 @@ returns-in-Ok-PrintLog-clause-comes g c =
     subst (λ (k : Option Command). ComesTo k observable g.D.Disk.history g.D.Disk.faults left (g.S.Source.left c.read_request.new.input) (faults c.args.input.now) (faults c.read_request.new.input) c.args.disk r text) (sym is.0)
     (subst (λ (o : Option (List ℕ)). ComesTo (Some PrintLog) observable g.D.Disk.history g.D.Disk.faults left o (faults c.args.input.now) (faults c.read_request.new.input) c.args.disk r text) (sym is.1)
     (print_comes observable g.D.Disk.history g.D.Disk.faults left (faults c.args.input.now) (faults c.read_request.new.input) c.args.disk r text c.in-Ok-PrintLog.ensures.never_falls p.cause p.printed p.opened p.journal p.opening p.untouched p.never_falls))
+
+pub returns-in-Ok-Dump-clause-comes : goal.returns-in-Ok-Dump-clause-comes
+returns-in-Ok-Dump-clause-comes g c =
+    let is = subst (IsRequestOf (command_in (map string_bytes c.args.args.now)) (g.S.Source.left c.args.input.now) (g.S.Source.left c.read_request.new.input)) c.in-Ok-Dump.field-0-is c.in-Ok-Dump.ensures.is in
+    let r = c.dump.result.run in
+    let text = c.dump.result.text in
+    let left = g.S.Source.left c.args.input.now in
+    let faults = g.S.Source.faults in
+    let observable = g.D.Disk.observable in
+    subst (λ (k : Option Command). ComesTo k observable g.D.Disk.history g.D.Disk.faults left (g.S.Source.left c.read_request.new.input) (faults c.args.input.now) (faults c.read_request.new.input) c.args.disk r text) (sym is.0)
+    (subst (λ (o : Option (List ℕ)). ComesTo (Some (Dump c.in-Ok-Dump.db c.in-Ok-Dump.printed)) observable g.D.Disk.history g.D.Disk.faults left o (faults c.args.input.now) (faults c.read_request.new.input) c.args.disk r text) (sym is.1)
+    (c.dump.ensures left (faults c.args.input.now) (faults c.read_request.new.input) c.in-Ok-Dump.ensures.never_falls))
 
 pub returns-in-Err-clause-comes : goal.returns-in-Err-clause-comes
 returns-in-Err-clause-comes g c =
