@@ -1,5 +1,5 @@
 -- The place of a name among slots in the order of their names, and an edit there.
-use Rattle.std.proofs.Common.{◌≡◌, ℕ, zero, suc, ◌<◌, ◌≤◌, Bool, true, false, cond, not, List, [], ◌∷◌, ◌++◌, length, take, drop, set, get_or, map, Option, Some, None, Ordering, Less, Equal, Greater, is_eq, is_lt, refl, sym, ap, subst, ◌∙◌, arith, length-set, length-take, length-drop, take_at}
+use Rattle.std.proofs.Common.{◌≡◌, ℕ, zero, suc, ◌-◌, ◌<◌, ◌≤◌, ◌==◌, Bool, true, false, cond, not, List, [], ◌∷◌, ◌++◌, length, take, drop, set, get_or, map, Option, Some, None, Ordering, Less, Equal, Greater, is_eq, is_lt, refl, sym, ap, subst, ◌∙◌, arith, length-set, length-take, length-drop, take_at}
 use Rattle.std.specs.Prelude.{is_some, slice_get}
 use Rattle.std.specs.List.{insert, remove}
 use Rattle.std.specs.List.Sorted.{IsPartitionPoint, IsPartitionedBy}
@@ -54,6 +54,25 @@ pub place_from : (x : Name) (ms : List Marked) (i : ℕ) → i ≤ length ms →
 place_from x ms i le h =
     let both = place_by x ms i le (λ k d lt. h.0 k d (omega arith) lt) (λ k d low lt. h.1 k d low lt) in
     record { within = le; before = both.0; behind = both.1 }
+
+-- an item that is there is the same whatever stands for one that is not
+pub same_item : (a b : Marked) (ms : List Marked) (i : ℕ) → i < length ms → get_or ms i a ≡ get_or ms i b
+same_item a b [] i some = absurd (omega (arith, some))
+same_item a b (m ∷ ms) zero some = refl
+same_item a b (m ∷ ms) (suc i) some = same_item a b ms i (omega (arith, some))
+
+-- the last of slots, where there are some
+pub last_of_some : (ms : List Marked) (none : Bool) → none ≡ (length ms == 0) → none ≡ false → suc (length ms - 1) ≡ length ms
+last_of_some [] none is not_none = absurd cc
+last_of_some (m ∷ ms) none is not_none = omega arith
+
+-- the place of a name behind the last slot
+pub place_behind : (x : Name) (ms : List Marked) (i : ℕ) (m : Marked) → Rises ms → suc i ≡ length ms → m ≡ get_or ms i m → is_under x m ≡ true → IsPlace x ms (length ms)
+place_behind x ms i m h last is under =
+    place_from x ms (length ms) (omega arith) (
+      λ k d low lt. partitioned x ms h k i d (omega (arith, last, lt)) (omega (arith, last)) (ap (is_under x) (same_item d m ms i (omega (arith, last)) ∙ sym is) ∙ under),
+      λ k d low lt. absurd (omega (arith, low, lt)),
+    )
 
 -- ---- the slot at the place
 

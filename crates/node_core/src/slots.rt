@@ -39,11 +39,25 @@ fn is_below(marked: &Marked, at: &Name) -> bool
     }
 }
 
-// How many slots have names below.
+// Whether there are slots, and all of them have names below: the last one tells.
+fn are_below(marked: &[Marked], at: &Name) -> bool
+    requires { Rises marked.now }
+    ensures { result ≡ true → IsPlace at.now marked.now (length marked.now) }
+{
+    if marked.is_empty() {
+        return false;
+    }
+    is_below(&marked[marked.len() - 1], at)
+}
+
+// How many slots have names below. Slots are often put in order, so the last one is asked first.
 fn rank_in(marked: &[Marked], at: &Name) -> usize
     requires { Rises marked.now }
     ensures { IsPlace at.now marked.now result }
 {
+    if are_below(marked, at) {
+        return marked.len();
+    }
     marked.partition_point(|m| is_below(m, at))
 }
 
