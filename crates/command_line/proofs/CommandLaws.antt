@@ -15,7 +15,7 @@ use Rattle.clap.specs.declared.builder.value_parser.Reading.{Reading}
 use Rattle.command_line.specs.declared.command.RunSettings.{RunSettings}
 use Rattle.command_line.specs.declared.command.Command.{Command}
 use Rattle.command_line.specs.declared.command.Command.TheVariants.{Run, Soak, Dump, PrintLog}
-use Rattle.command_line.specs.Arguments.{AreSettings, IsBounded, command_of, dump_command, dump_if, home_of, is_given as is_given_flag, is_named, is_parsed, jedb, number_of, number_read, printlog_command, run_command, settings_of, soak_command}
+use Rattle.command_line.specs.Arguments.{AreSettings, HasSettings, command_of, dump_command, dump_if, home_of, is_given as is_given_flag, is_named, is_parsed, jedb, number_of, number_read, printlog_command, run_command, settings_of, soak_command}
 use Rattle.command_line.proofs.WalkLaws.{neither}
 use Rattle.command_line.proofs.StopLaws.{StopsOther, walk_other}
 use Rattle.command_line.proofs.RowLaws.{AreFilled, IsNumberIf, IsValue, Number, first_there, number_there, row_there}
@@ -29,15 +29,15 @@ pub record HasLine (found : Option (Text × List Row)) : Type 0 where
   pub home : Text
   pub home_is : home_of found ≡ Some home
   pub command_there : is_some (option_and_then command_of found) ≡ is_named found
-  pub bounded : IfSome (option_and_then command_of found) IsBounded
+  pub bounded : IfSome (option_and_then command_of found) HasSettings
 
 -- the same of a command that is given in any case
-with_command : (found : Option (Text × List Row)) (home : Text) (command : Command) → home_of found ≡ Some home → option_and_then command_of found ≡ Some command → is_named found ≡ true → IsBounded command → HasLine found
+with_command : (found : Option (Text × List Row)) (home : Text) (command : Command) → home_of found ≡ Some home → option_and_then command_of found ≡ Some command → is_named found ≡ true → HasSettings command → HasLine found
 with_command found home command home_is command_is named bounded = record {
   home = home;
   home_is = home_is;
   command_there = ap is_some command_is ∙ sym named;
-  bounded = subst (λ (o : Option Command). IfSome o IsBounded) (sym command_is) bounded;
+  bounded = subst (λ (o : Option Command). IfSome o HasSettings) (sym command_is) bounded;
 }
 
 -- an option has a number in its bounds
@@ -168,11 +168,11 @@ dump_there printed (Some db) = by (is_word db)
     by true = refl
     by false = refl
 
-dump_bounded : (printed : Bool) (db : Option Text) → IfSome (option_and_then (dump_if printed) db) IsBounded
+dump_bounded : (printed : Bool) (db : Option Text) → IfSome (option_and_then (dump_if printed) db) HasSettings
 dump_bounded printed None = tt
 dump_bounded printed (Some db) = by (is_word db)
   where
-    by : (b : Bool) → IfSome (if b then Some (Dump db printed) else None) IsBounded
+    by : (b : Bool) → IfSome (if b then Some (Dump db printed) else None) HasSettings
     by true = tt
     by false = tt
 

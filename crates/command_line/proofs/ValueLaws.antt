@@ -4,7 +4,7 @@ use Rattle.std.specs.Prelude.{option_and_then, if◌then◌else◌}
 use Rattle.clap.specs.Walk.{Text}
 use Rattle.clap.specs.Simple.{subcommand_of}
 use Rattle.command_line.specs.declared.command.Command.{Command}
-use Rattle.command_line.specs.Arguments.{IsBounded, command_in, command_of, home_in, home_of, is_named, is_parsed, is_taken, jedb}
+use Rattle.command_line.specs.Arguments.{HasSettings, command_in, command_of, home_in, home_of, is_named, is_parsed, is_taken, jedb}
 use Rattle.command_line.proofs.CommandLaws.{HasLine, right_has_line}
 
 if_true : {X : Type 0} (x : Option X) (b : Bool) → b ≡ true → (if b then x else None) ≡ x
@@ -69,9 +69,9 @@ command_named args = go (is_taken args) refl
     go false wrong = ap is_some (command_wrong args wrong) ∙ sym wrong
 
 -- its settings are in their bounds
-pub command_bounded : (args : List Text) → IfSome (command_in args) IsBounded
+pub command_bounded : (args : List Text) → IfSome (command_in args) HasSettings
 command_bounded args = go (is_taken args) refl
   where
-    go : (b : Bool) → is_taken args ≡ b → IfSome (command_in args) IsBounded
-    go true right = subst (λ (o : Option Command). IfSome o IsBounded) (sym (command_right args right)) (taken_line args right).bounded
-    go false wrong = subst (λ (o : Option Command). IfSome o IsBounded) (sym (command_wrong args wrong)) tt
+    go : (b : Bool) → is_taken args ≡ b → IfSome (command_in args) HasSettings
+    go true right = subst (λ (o : Option Command). IfSome o HasSettings) (sym (command_right args right)) (taken_line args right).bounded
+    go false wrong = subst (λ (o : Option Command). IfSome o HasSettings) (sym (command_wrong args wrong)) tt

@@ -126,8 +126,8 @@ abbrev pub run_of : List Row → Option Command
 run_of rows = option_map Run (settings_of rows)
 
 -- `soak` with its seed and the two settings
-abbrev pub soak_of : List Row → Option Command
-soak_of rows = option_and_then (λ seed. option_map (Soak seed) (settings_of rows)) (number_of (codes "seed") rows)
+abbrev pub soak_from : List Row → Option Command
+soak_from rows = option_and_then (λ seed. option_map (Soak seed) (settings_of rows)) (number_of (codes "seed") rows)
 
 -- whether an option without a value is given
 abbrev pub is_given : Text → List Row → Bool
@@ -138,20 +138,20 @@ abbrev pub dump_if : Bool → Text → Option Command
 dump_if printed db = if is_word db then Some (Dump db printed) else None
 
 -- `dump` with its options
-abbrev pub dump_of : List Row → Option Command
-dump_of rows = option_and_then (dump_if (is_given (codes "print") rows)) (first_of (codes "db") rows)
+abbrev pub dump_from : List Row → Option Command
+dump_from rows = option_and_then (dump_if (is_given (codes "print") rows)) (first_of (codes "db") rows)
 
 -- the command of this name with its options
 abbrev pub command_of : Text × List Row → Option Command
 command_of given =
     if bytes_eq given.0 (codes "run") then run_of given.1
-    else if bytes_eq given.0 (codes "soak") then soak_of given.1
-    else if bytes_eq given.0 (codes "dump") then dump_of given.1
+    else if bytes_eq given.0 (codes "soak") then soak_from given.1
+    else if bytes_eq given.0 (codes "dump") then dump_from given.1
     else Some PrintLog
 
 -- what is found when the folder and the command are there
-abbrev pub line_of : Option (Text × List Row) → Option (Text × Command)
-line_of found = option_and_then (λ home. option_map (λ command. (home, command)) (option_and_then command_of found)) (home_of found)
+abbrev pub parsed_line : Option (Text × List Row) → Option (Text × Command)
+parsed_line found = option_and_then (λ home. option_map (λ command. (home, command)) (option_and_then command_of found)) (home_of found)
 
 -- the folder that valid arguments name
 unfoldable pub home_in : List Text → Option Text
@@ -178,5 +178,5 @@ settings_in (Dump db printed) = None
 settings_in PrintLog = None
 
 -- the settings of a command are in their bounds, if it has some
-abbrev pub IsBounded : Command → Type 0
-IsBounded command = IfSome (settings_in command) AreSettings
+abbrev pub HasSettings : Command → Type 0
+HasSettings command = IfSome (settings_in command) AreSettings

@@ -4,7 +4,7 @@ ghost use Rattle.clap.specs.declared.builder.command.Command.TheViews.{out-Comma
 ghost use Rattle.clap.specs.Matches.{found_of};
 ghost use Rattle.clap.specs.Simple.{app_of, subcommand_of, subcommand_rows_of};
 ghost use Rattle.clap.specs.Walk.{first_of, rows_of, rule_of};
-ghost use Rattle.command_line.specs.Arguments.{IsBounded, command_in, command_of as command_named, db_option, dump_command, dump_of, fanout_option, file_max_option, home_in, home_of, home_option, is_given, is_parsed, is_taken, jedb, line_of, number_of, print_option, printlog_command, run_command, run_of, seed_option, settings_of, soak_command, soak_of};
+ghost use Rattle.command_line.specs.Arguments.{HasSettings, command_in, command_of as command_named, db_option, dump_command, dump_from, fanout_option, file_max_option, home_in, home_of, home_option, is_given, is_parsed, is_taken, jedb, parsed_line, number_of, print_option, printlog_command, run_command, run_of, seed_option, settings_of, soak_command, soak_from};
 
 use crate::command::{Command, CommandLine, RunSettings};
 use clap::error::ErrorKind;
@@ -178,7 +178,7 @@ fn run_given<'a>(given: &ArgMatches<'a>) -> Option<Command>
 
 // `soak` with its options.
 fn soak_given<'a>(given: &ArgMatches<'a>) -> Option<Command>
-    ensures { result ≡ soak_of (rows_of (found_of given.now)) }
+    ensures { result ≡ soak_from (rows_of (found_of given.now)) }
 {
     let seed = number_given(given, "seed")?;
     let settings = settings_given(given)?;
@@ -204,7 +204,7 @@ fn is_given<'a>(given: &ArgMatches<'a>, name: &str) -> bool
 
 // `dump` with its options.
 fn dump_given<'a>(alloc: Global, given: &ArgMatches<'a>) -> Result<Option<Command>, AllocError>
-    ensures { IfOk result (λ command. command ≡ dump_of (rows_of (found_of given.now))) }
+    ensures { IfOk result (λ command. command ≡ dump_from (rows_of (found_of given.now))) }
 {
     let Some(db) = text_given(given, "db") else {
         return Ok(None);
@@ -249,7 +249,7 @@ fn command_given<'a>(alloc: Global, found: &ArgMatches<'a>) -> Result<Option<Com
 
 // The folder and the command, in what a parse found.
 fn line_given<'a>(alloc: Global, found: &ArgMatches<'a>) -> Result<Option<CommandLine>, AllocError>
-    ensures { IfOk result (λ line. option_map (λ l. (string_bytes l.home, l.command)) line ≡ line_of (subcommand_rows_of found.now)) }
+    ensures { IfOk result (λ line. option_map (λ l. (string_bytes l.home, l.command)) line ≡ parsed_line (subcommand_rows_of found.now)) }
 {
     let Some(home) = home_given(found) else {
         return Ok(None);
@@ -272,7 +272,7 @@ pub fn parse(alloc: Global, args: &[String]) -> Result<Option<CommandLine>, Allo
     ensures right { IfOk result (λ line. is_some line ≡ is_taken (map string_bytes args.now)) }
     ensures home { IfOk result (λ line. option_map (λ l. string_bytes l.home) line ≡ home_in (map string_bytes args.now)) }
     ensures command { IfOk result (λ line. option_map (λ l. l.command) line ≡ command_in (map string_bytes args.now)) }
-    ensures bounded { IfOk result (λ line. IfSome line (λ l. IsBounded l.command)) }
+    ensures bounded { IfOk result (λ line. IfSome line (λ l. HasSettings l.command)) }
 {
     match found_in(alloc, args)? {
         Some(found) => line_given(alloc, &found),

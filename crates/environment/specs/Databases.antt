@@ -11,8 +11,8 @@ use Rattle.environment.specs.declared.environment.Environment.{Environment}
 use Rattle.environment.specs.declared.found_database.FoundDatabase.{FoundDatabase}
 
 -- the committed records of an environment, by the numbers of their databases
-abbrev pub rows_of : {D : Type 0} → Environment D → Rows
-rows_of environment = committed (cells_of environment.engine.trees)
+abbrev pub rows_held : {D : Type 0} → Environment D → Rows
+rows_held environment = committed (cells_of environment.engine.trees)
 
 -- and those of records that a closed one hands out
 abbrev pub rows_kept : Trees → Rows

@@ -8,7 +8,7 @@ ghost use Rattle.je_answers.specs.After.{after_events};
 ghost use Rattle.engine.specs.Crash.{ImagesMean, IsSafeRun};
 ghost use Rattle.engine.specs.Files.{MeanStore};
 ghost use Rattle.engine.specs.Lengths.{AreLengthsWithin};
-ghost use Rattle.environment.specs.Databases.{rows_kept, rows_of};
+ghost use Rattle.environment.specs.Databases.{rows_kept, rows_held};
 ghost use Rattle.environment.specs.Whole.{IsAt, IsGuarded, disk_of};
 
 use crate::environment::Environment;
@@ -37,7 +37,7 @@ impl<D: Disk> Environment<D> {
         ensures lengths { D.observable ≡ true → result.failed ≡ false → (most : ℕ) (st : Standing) (start : History) (journal : List Event)
             → IsAt most D.observable (now (D.history (disk_of self))) self (after_events st journal) → IsGuarded most st start (D.history (disk_of self)) self journal
             → (after_events st journal).fault ≡ None → AreLengthsWithin most (now start).reads (now (D.history result.disk)).reads }
-        ensures records { rows_kept result.records ≡ rows_of self }
+        ensures records { rows_kept result.records ≡ rows_held self }
         ensures cause { result.failed ≡ true → HasRisen (D.faults (disk_of self)) (D.faults result.disk) }
         ensures never_falls { D.faults (disk_of self) ≤ D.faults result.disk }
     {

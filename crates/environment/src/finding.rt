@@ -6,7 +6,7 @@ ghost use Rattle.store_model.specs.Store.{database_of};
 ghost use Rattle.je_answers.specs.Standing.{Standing};
 ghost use Rattle.log_replay.specs.Rows.{catalog_index, catalog_kind, catalog_number};
 ghost use Rattle.txn_core.specs.Known.{committed};
-ghost use Rattle.environment.specs.Databases.{IsFoundIn, rows_of};
+ghost use Rattle.environment.specs.Databases.{IsFoundIn, rows_held};
 ghost use Rattle.environment.specs.Whole.{IsAt, disk_of};
 
 use crate::environment::Environment;
@@ -59,7 +59,7 @@ impl<D: Disk> Environment<D> {
     /// no memory, and the time of a walk over the names of the databases.
     pub fn find_database(&self, name: &Word) -> Option<FoundDatabase>
         ensures { (most : ℕ) (st : Standing) → IsAt most D.observable (now (D.history (disk_of self.now))) self.now st → st.fault ≡ None
-            → IsFoundIn (rows_of self.now) (database_of name.now st.store) result }
+            → IsFoundIn (rows_held self.now) (database_of name.now st.store) result }
     {
         match find_row(&self.engine.trees, name) {
             Some(held) => Some(found_by(held.as_slice())),

@@ -39,7 +39,7 @@ use Rattle.je_program.specs.declared.text.Text.{Text}
 use Rattle.je_program.specs.declared.text.Text.TheVariants.{Nothing}
 use Rattle.je_program.specs.Commands.{IsGivenTo, dump_at, ends_dump, text_of, usual_file_max}
 use Rattle.je_program.specs.Crash.{IsSafeProgram}
-use Rattle.je_program.specs.Dumping.{IsLook, IsSameRun, cause_with, dump_given, dump_with}
+use Rattle.je_program.specs.Dumping.{IsLook, IsSameRun, cause_with, dump_given, text_with}
 use Rattle.je_program.specs.Program.{ClosesRun, EndsBy, EndsWith, IsRunOf, IsStopped, RunsIf, cause_of_opening, is_before_disk}
 use Rattle.je_program.specs.Run.{is_run_through}
 use Rattle.je_program.specs.Unprinted.{ComesTo, needs_file}
@@ -145,12 +145,12 @@ text_is_dump rows None None end printed found is = refl
 text_is_dump rows None (Some database) end printed found is = absurd found
 text_is_dump rows (Some known) None end printed found is = absurd found
 text_is_dump rows (Some known) (Some database) end printed found (inl is) =
-    ap (λ (c : Cause). dump_with c printed known.kind (rows known.number)) is
+    ap (λ (c : Cause). text_with c printed known.kind (rows known.number)) is
     ∙ ap (λ (k : Kind). records_text printed k (rows known.number)) found.kind
     ∙ ap (λ (pairs : List (Octets × Octets)). database_text printed (Some (with_pairs database pairs))) (sym found.pairs)
     ∙ ap (λ (c : Cause). dump_at c printed (Some database)) (sym is)
 text_is_dump rows (Some known) (Some database) end printed found (inr is) =
-    ap (λ (c : Cause). dump_with c printed known.kind (rows known.number)) is ∙ ap (λ (c : Cause). dump_at c printed (Some database)) (sym is)
+    ap (λ (c : Cause). text_with c printed known.kind (rows known.number)) is ∙ ap (λ (c : Cause). dump_at c printed (Some database)) (sym is)
 
 -- a run without an event ends so where memory was left
 pub closed_end : (journal : List Event) (cause : Cause) → journal ≡ [] → EndsBy journal cause → (cause ≡ Done) ⊎ (cause ≡ Disk)

@@ -40,11 +40,11 @@ cause_with None cause = NoDatabase
 cause_with (Some found) cause = cause
 
 -- the text of a database's records, where all was done
-abbrev pub dump_with : Cause → Bool → Kind → List Row → List ℕ
-dump_with Done printed kind rows = records_text printed kind rows
-dump_with cause printed kind rows = []
+abbrev pub text_with : Cause → Bool → Kind → List Row → List ℕ
+text_with Done printed kind rows = records_text printed kind rows
+text_with cause printed kind rows = []
 
 -- the text of the database that was found, if one was
 abbrev pub dump_given : Cause → Bool → Rows → Option FoundDatabase → List ℕ
 dump_given cause printed rows None = []
-dump_given cause printed rows (Some found) = dump_with cause printed found.kind (rows found.number)
+dump_given cause printed rows (Some found) = text_with cause printed found.kind (rows found.number)

@@ -4,7 +4,7 @@ use Rattle.je_order.specs.Counts.{HasRisen}
 use Rattle.je_disk.specs.States.{Files}
 use Rattle.log_printer.specs.declared.log_err.LogErr.{LogErr}
 use Rattle.log_printer.specs.declared.log_err.LogErr.TheVariants.{Disk as NoDisk, Memory as NoMemory, NoFile, Corrupt}
-use Rattle.log_printer.specs.Reading.{HasDamage, HasNoFile, IsLogOf}
+use Rattle.log_printer.specs.Reading.{HasDamagedFile, HasNoFile, IsLogOf}
 use Rattle.je_program.specs.declared.cause.Cause.{Cause}
 use Rattle.je_program.specs.declared.cause.Cause.TheVariants.{Done, Disk, Unreadable, Memory, NoEnvironment}
 use Rattle.je_program.specs.declared.text.Text.{Text}
@@ -28,5 +28,5 @@ IsPrinted observable files before after Done text = IsWholeLog observable files 
 IsPrinted observable files before after Disk text = HasRisen before after × (text ≡ Nothing)
 IsPrinted observable files before after Memory text = text ≡ Nothing
 IsPrinted observable files before after NoEnvironment text = (observable ≡ true → HasNoFile files) × (text ≡ Nothing)
-IsPrinted observable files before after (Unreadable corruption) text = HasDamage observable files corruption × (text ≡ Nothing)
+IsPrinted observable files before after (Unreadable corruption) text = HasDamagedFile observable files corruption × (text ≡ Nothing)
 IsPrinted observable files before after cause text = ⊥

@@ -11,7 +11,7 @@ ghost use Rattle.log_replay.specs.Rows.{Rows};
 ghost use Rattle.engine.specs.Untouched.{IsUntouched};
 ghost use Rattle.je_program.specs.declared.cause.Cause.{Cause as Why};
 ghost use Rattle.je_program.specs.Commands.{text_of, usual_file_max};
-ghost use Rattle.je_program.specs.Dumping.{HaveRows, IsLook, IsSameRun, cause_with, dump_given, dump_with};
+ghost use Rattle.je_program.specs.Dumping.{HaveRows, IsLook, IsSameRun, cause_with, dump_given, text_with};
 ghost use Rattle.je_program.specs.Request.{IsConfig};
 ghost use Rattle.je_program.specs.Unprinted.{ComesTo};
 
@@ -119,7 +119,7 @@ fn without_database<D: Disk>(run: RunResult<D>) -> Unprinted<D>
 fn with_database<D: Disk>(run: RunResult<D>, found: FoundDatabase, printed: bool) -> Unprinted<D>
     ensures same { IsSameRun run result.run }
     ensures cause { result.run.cause ≡ run.cause }
-    ensures text { (rows : Rows) (opened : Bool) (journal : List Event) (totals : Totals) → HaveRows run.records rows → text_of result.text opened journal totals ≡ dump_with run.cause printed found.kind (rows found.number) }
+    ensures text { (rows : Rows) (opened : Bool) (journal : List Event) (totals : Totals) → HaveRows run.records rows → text_of result.text opened journal totals ≡ text_with run.cause printed found.kind (rows found.number) }
 {
     let RunResult {
         cause,

@@ -1,6 +1,6 @@
 // What a program is to do.
 ghost use Rattle.std.specs.Prelude.{◌≡◌, ◌≤◌, ℕ, List, Option, Some, false, map, string_bytes, IfErr, IfOk};
-ghost use Rattle.command_line.specs.Arguments.{AreSettings, IsBounded, command_in};
+ghost use Rattle.command_line.specs.Arguments.{AreSettings, HasSettings, command_in};
 ghost use Rattle.command_line.specs.declared.command.Command.TheVariants.{Run, Soak};
 ghost use Rattle.je_program.specs.declared.cause.Cause.{Cause as Why};
 ghost use Rattle.je_program.specs.Commands.{reads_input};
@@ -81,7 +81,7 @@ fn soak_request(alloc: Global, seed: u32, settings: RunSettings) -> Result<Reque
 // The command that the arguments give, or why they give none.
 fn command_of(alloc: Global, args: &[String]) -> Result<Command, Cause>
     ensures is { IfOk result (λ command. command_in (map string_bytes args.now) ≡ Some command) }
-    ensures bounded { IfOk result (λ command. IsBounded command) }
+    ensures bounded { IfOk result (λ command. HasSettings command) }
     ensures none { IfErr result (IsNoCommand (command_in (map string_bytes args.now))) }
 {
     match parse(alloc, args)? {
@@ -95,7 +95,7 @@ fn command_of(alloc: Global, args: &[String]) -> Result<Command, Cause>
 
 // What a command is to do.
 fn request_of<S: Source>(alloc: Global, command: Command, input: &mut S) -> Result<Request, Cause>
-    requires { IsBounded command }
+    requires { HasSettings command }
     ensures is { IfOk result (IsRequestOf (Some command) (S.left input.old) (S.left input.new)) }
     ensures none { IfErr result (IsNoRequest (Some command) (S.left input.old) (S.faults input.old) (S.faults input.new)) }
     ensures unread { reads_input (Some command) ≡ false → input.new ≡ input.old }

@@ -20,7 +20,7 @@ ghost use Rattle.engine.specs.Files.{HasCorruption, HasWrongIndex, MeanStore};
 ghost use Rattle.engine.specs.Lengths.{AreLengthsWithin};
 ghost use Rattle.engine.specs.Opening.{HasNoNumbers};
 ghost use Rattle.txn_core.specs.Totals.{totals_of};
-ghost use Rattle.environment.specs.Databases.{rows_of};
+ghost use Rattle.environment.specs.Databases.{rows_held};
 ghost use Rattle.je_program.specs.Commands.{ends_soak};
 ghost use Rattle.je_program.specs.Dumping.{HaveRows};
 ghost use Rattle.je_program.specs.Ran.{HasRun};
@@ -116,7 +116,7 @@ pub fn finish<D: Disk>(running: Running<D>, opening: Opening) -> RunResult<D>
     ensures opened { result.opened ≡ true }
     ensures opening { result.opening ≡ opening }
     ensures journal { result.journal.items ≡ running.recorded.journal.items }
-    ensures records { HaveRows result.records (rows_of running.recorded.environment) }
+    ensures records { HaveRows result.records (rows_held running.recorded.environment) }
     ensures run { (old : History) (before : ℕ) (p : Beginning) → HasRun D.observable D.history D.faults old before opening p running
         → IsRunOf p.most D.observable old (D.history result.disk) before (D.faults result.disk) result.opening result.totals result.journal.items result.cause p.st }
     ensures memory { running.memory_ended ≡ true → result.cause ≡ Why.Memory }

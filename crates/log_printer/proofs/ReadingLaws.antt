@@ -26,7 +26,7 @@ use Rattle.log_printer.specs.declared.file_lines.FileLines.{FileLines}
 use Rattle.log_printer.specs.declared.log_err.LogErr.{LogErr}
 use Rattle.log_printer.specs.declared.log_err.LogErr.TheVariants.{Disk, Memory, NoFile, Corrupt}
 use Rattle.log_printer.specs.LogLines.{lines_text, log_text, scanned_text}
-use Rattle.log_printer.specs.Reading.{AreLinesOf, HasDamage, HasNoFile, IsLogOf, IsNoLines, IsReading, IsWrongThere, StopsAmong, StopsAtFile, StopsLog, error_of}
+use Rattle.log_printer.specs.Reading.{AreLinesOf, HasDamagedFile, HasNoFile, IsLogOf, IsNoLines, IsReadingLines, IsWrongThere, StopsAmong, StopsAtFile, StopsLog, error_of}
 
 -- ---- one file
 
@@ -64,7 +64,7 @@ wrong_there observable reads last f before after scanned (Err (Corrupt corruptio
 
 -- ---- file by file
 
-pub reading_begins : (observable : Bool) (reads : Files) (files : List FileNo) → IsReading observable reads files files []
+pub reading_begins : (observable : Bool) (reads : Files) (files : List FileNo) → IsReadingLines observable reads files files []
 reading_begins observable reads files = record {
   done = [];
   parts = refl;
@@ -80,7 +80,7 @@ first_corruption f bytes more last o at is =
     ap (λ (b : Bool). or_else (corruption_at b f (length bytes) (scan_of f bytes)) (corruption_in more)) at ∙ ap (λ (p : Option Corruption). or_else p (corruption_in more)) is
 
 pub reading_goes_on : (observable : Bool) (reads now_ : Files) (files left rest : List FileNo) (f : FileNo) (so_far : List FileLines) (lines : FileLines) (last : Bool) → (observable ≡ true → now_ ≡ reads) →
-    IsReading observable reads files left so_far → left ≡ f ∷ rest → (length rest == 0) ≡ last → AreLinesOf observable now_ last f.0 lines → IsReading observable reads files rest (so_far ++ lines ∷ [])
+    IsReadingLines observable reads files left so_far → left ≡ f ∷ rest → (length rest == 0) ≡ last → AreLinesOf observable now_ last f.0 lines → IsReadingLines observable reads files rest (so_far ++ lines ∷ [])
 reading_goes_on observable reads now_ files left rest f so_far lines last same r is at read =
     let x : ℕ × List ℕ = (f.0, read.bytes) in
     record {
@@ -103,7 +103,7 @@ reading_goes_on observable reads now_ files left rest f so_far lines last same r
 
 -- where the files end: a file among them was not read
 pub reading_stops : (observable : Bool) (reads now_ : Files) (files left rest : List FileNo) (f : FileNo) (so_far : List FileLines) (last : Bool) (before mid after : ℕ) (e : LogErr) → (observable ≡ true → now_ ≡ reads) →
-    before ≤ mid → mid ≤ after → (HasRisen mid after → HasRisen before after) → IsReading observable reads files left so_far → left ≡ f ∷ rest → (length rest == 0) ≡ last →
+    before ≤ mid → mid ≤ after → (HasRisen mid after → HasRisen before after) → IsReadingLines observable reads files left so_far → left ≡ f ∷ rest → (length rest == 0) ≡ last →
     StopsAtFile observable now_ last f.0 mid after e → StopsAmong observable reads files before after e
 reading_stops observable reads now_ files left rest f so_far last before mid after Disk same first second rose r is at stops = rose stops
 reading_stops observable reads now_ files left rest f so_far last before mid after Memory same first second rose r is at stops = tt
@@ -131,7 +131,7 @@ rose_earlier : (before mid after : ℕ) → before ≤ mid → mid ≤ after →
 rose_earlier before mid after first second rose = grind (arith, common_steps)
 
 pub file_stops : {T : Type 0} (observable : Bool) (reads now_ : Files) (files left rest : List FileNo) (f : FileNo) (so_far : List FileLines) (last : Bool) (before mid after : ℕ) (r : Result T LogErr) (e : LogErr) →
-    (observable ≡ true → now_ ≡ reads) → before ≤ mid → mid ≤ after → IsReading observable reads files left so_far → left ≡ f ∷ rest → (length rest == 0) ≡ last → IsErrAnd r (λ x. x ≡ e) →
+    (observable ≡ true → now_ ≡ reads) → before ≤ mid → mid ≤ after → IsReadingLines observable reads files left so_far → left ≡ f ∷ rest → (length rest == 0) ≡ last → IsErrAnd r (λ x. x ≡ e) →
     StopsAtFile observable now_ last f.0 mid after e → IfErr r (StopsAmong observable reads files before after)
 file_stops observable reads now_ files left rest f so_far last before mid after (Ok v) e same first second r is at err stops = tt
 file_stops observable reads now_ files left rest f so_far last before mid after (Err x) e same first second r is at err stops =
@@ -150,7 +150,7 @@ no_numbers [] (f ∷ files) numbers none = cc
 no_numbers (x ∷ held) (f ∷ files) numbers none = cc
 
 pub log_read : (observable : Bool) (before mid : Files) (files : List FileNo) (lines : List FileLines) → (observable ≡ true → mid ≡ before) → files ≢ [] → AreRisingNumbers files →
-    (observable ≡ true → IsListing before files) → IsReading observable mid files [] lines → IsLogOf observable before lines
+    (observable ≡ true → IsListing before files) → IsReadingLines observable mid files [] lines → IsLogOf observable before lines
 log_read observable before mid files lines same some rising listing r =
     let all : files ≡ r.done = r.parts ∙ append-nil r.done in
     record {

@@ -53,7 +53,7 @@ StopsAtFile observable reads last f before after (Corrupt corruption) = IsWrongT
 -- ---- all files
 
 -- some of the files were read, without a corruption, and these are left
-pub record IsReading (observable : Bool) (reads : Files) (files left : List FileNo) (lines : List FileLines) : Type 0 where
+pub record IsReadingLines (observable : Bool) (reads : Files) (files left : List FileNo) (lines : List FileLines) : Type 0 where
   pub done : List FileNo
   pub parts : files ≡ done ++ left
   pub held : List (ℕ × List ℕ)
@@ -83,7 +83,7 @@ pub record IsLogOf (observable : Bool) (reads : Files) (lines : List FileLines) 
   pub text : flat_map lines_text lines ≡ log_text held
 
 -- the first corruption in the disk's files, in order
-pub record HasDamage (observable : Bool) (reads : Files) (corruption : Corruption) : Type 0 where
+pub record HasDamagedFile (observable : Bool) (reads : Files) (corruption : Corruption) : Type 0 where
   pub held : List (ℕ × List ℕ)
   pub are : observable ≡ true → AreFiles reads held
   pub found : corruption_in held ≡ Some corruption
@@ -93,4 +93,4 @@ abbrev pub StopsLog : Bool → Files → ℕ → ℕ → LogErr → Type 0
 StopsLog observable reads before after Disk = HasRisen before after
 StopsLog observable reads before after Memory = Unit {0}
 StopsLog observable reads before after NoFile = observable ≡ true → HasNoFile reads
-StopsLog observable reads before after (Corrupt corruption) = HasDamage observable reads corruption
+StopsLog observable reads before after (Corrupt corruption) = HasDamagedFile observable reads corruption

@@ -9,7 +9,7 @@ ghost use Rattle.log_file.specs.Log.{AreFileEntries, entries_scanned};
 ghost use Rattle.log_replay.specs.declared.corruption.Corruption.TheVariants.{Damaged};
 ghost use Rattle.log_replay.specs.Reading.{corruption_at, corruption_behind, lsn_at};
 ghost use Rattle.log_printer.specs.LogLines.{lines_text, scanned_text};
-ghost use Rattle.log_printer.specs.Reading.{AreLinesOf, IsLogOf, IsNoLines, IsReading, StopsAmong, StopsAtFile, StopsLog};
+ghost use Rattle.log_printer.specs.Reading.{AreLinesOf, IsLogOf, IsNoLines, IsReadingLines, StopsAmong, StopsAtFile, StopsLog};
 
 use crate::file_lines::FileLines;
 use crate::log_err::LogErr;
@@ -124,7 +124,7 @@ fn read_files<D: Disk>(
     disk: &mut D,
     files: &[FileNo],
 ) -> Result<Vec<FileLines>, LogErr>
-    ensures read { IfOk result (λ lines. IsReading D.observable (now (D.history disk.old)).reads files.now [] lines.items) }
+    ensures read { IfOk result (λ lines. IsReadingLines D.observable (now (D.history disk.old)).reads files.now [] lines.items) }
     ensures stops { IfErr result (StopsAmong D.observable (now (D.history disk.old)).reads files.now (D.faults disk.old) (D.faults disk.new)) }
     ensures same { D.observable ≡ true → now (D.history disk.new) ≡ now (D.history disk.old) }
     ensures moments { D.observable ≡ true → Passes (D.history disk.old) (D.history disk.new) (λ s. s ≡ now (D.history disk.old)) }

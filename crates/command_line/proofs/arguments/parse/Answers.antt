@@ -5,7 +5,7 @@ use Rattle.clap.specs.Walk.{Row, Text}
 use Rattle.clap.specs.Simple.{subcommand_of, subcommand_rows_of}
 use Rattle.command_line.specs.declared.command.CommandLine.{CommandLine}
 use Rattle.command_line.specs.declared.command.Command.{Command}
-use Rattle.command_line.specs.Arguments.{IsBounded, command_in, command_of, home_in, home_of, is_parsed, is_taken, jedb, line_of}
+use Rattle.command_line.specs.Arguments.{HasSettings, command_in, command_of, home_in, home_of, is_parsed, is_taken, jedb, parsed_line}
 use Rattle.command_line.proofs.CommandLaws.{right_has_line}
 use Rattle.command_line.proofs.ValueLaws.{command_right, command_wrong, home_right, home_wrong, not_parsed, taken_if_named}
 use Rattle.command_line.proofs.arguments.parse.Goals as goal
@@ -15,10 +15,10 @@ record Says (args : List Text) (line : Option CommandLine) : Type 0 where
   right : is_some line ≡ is_taken args
   home : option_map (λ l. string_bytes l.home) line ≡ home_in args
   command : option_map (λ l. l.command) line ≡ command_in args
-  bounded : IfSome line (λ l. IsBounded l.command)
+  bounded : IfSome line (λ l. HasSettings l.command)
 
 -- what a line that was found says
-says_line : (args : List Text) (found : Option (Text × List Row)) (home : Text) (command : Option Command) (line : Option CommandLine) → is_some command ≡ is_taken args → IfSome command IsBounded →
+says_line : (args : List Text) (found : Option (Text × List Row)) (home : Text) (command : Option Command) (line : Option CommandLine) → is_some command ≡ is_taken args → IfSome command HasSettings →
     (is_taken args ≡ true → home_in args ≡ Some home) → (is_taken args ≡ true → command_in args ≡ command) →
     option_map {U = Text × Command} (λ l. (string_bytes l.home, l.command)) line ≡ option_map (λ (c : Command). (home, c)) command → Says args line
 says_line args found home None None there bounded home_is command_is is = record {
@@ -36,22 +36,22 @@ says_line args found home (Some command) (Some l) there bounded home_is command_
       right = there;
       home = ap (λ x. Some x) same_home ∙ sym (home_is (sym there));
       command = ap (λ x. Some x) same_command ∙ sym (command_is (sym there));
-      bounded = subst IsBounded (sym same_command) bounded;
+      bounded = subst HasSettings (sym same_command) bounded;
     }
 
-line_with : (found : Option (Text × List Row)) (home : Text) → home_of found ≡ Some home → line_of found ≡ option_map (λ (c : Command). (home, c)) (option_and_then command_of found)
+line_with : (found : Option (Text × List Row)) (home : Text) → home_of found ≡ Some home → parsed_line found ≡ option_map (λ (c : Command). (home, c)) (option_and_then command_of found)
 line_with found home is = ap (option_and_then (λ (h : Text). option_map (λ (c : Command). (h, c)) (option_and_then command_of found))) is
 
 says : {E : Type 0} (args : List Text) (found : Option (Text × List Row)) (answer : Result (Option CommandLine) E) → is_parsed args ≡ true → found ≡ subcommand_of jedb args →
-    IfOk answer (λ line. option_map {U = Text × Command} (λ l. (string_bytes l.home, l.command)) line ≡ line_of found) → IfOk answer (Says args)
+    IfOk answer (λ line. option_map {U = Text × Command} (λ l. (string_bytes l.home, l.command)) line ≡ parsed_line found) → IfOk answer (Says args)
 says args found answer parsed same gives = IfOk-weaker answer _ _ each gives
   where
-    each : (line : Option CommandLine) → option_map {U = Text × Command} (λ l. (string_bytes l.home, l.command)) line ≡ line_of found → Says args line
+    each : (line : Option CommandLine) → option_map {U = Text × Command} (λ l. (string_bytes l.home, l.command)) line ≡ parsed_line found → Says args line
     each line is =
         let there = subcommand_of jedb args in
         let has = right_has_line args parsed in
         says_line args there has.home (option_and_then command_of there) line (has.command_there ∙ sym (taken_if_named args parsed)) has.bounded
-        (λ right. home_right args right ∙ has.home_is) (λ right. command_right args right) (is ∙ ap line_of same ∙ line_with there has.home has.home_is)
+        (λ right. home_right args right ∙ has.home_is) (λ right. command_right args right) (is ∙ ap parsed_line same ∙ line_with there has.home has.home_is)
 
 all : (c : goal.Joined-found) → IfOk c.line_given.result (Says (map string_bytes c.args.args.now))
 all c =

@@ -6,7 +6,7 @@ use Rattle.store_model.specs.Store.{database_of}
 use Rattle.je_answers.specs.Standing.{Standing}
 use Rattle.je_answers.specs.After.{after_events}
 use Rattle.environment.specs.declared.environment.Environment.{Environment}
-use Rattle.environment.specs.Databases.{IsFoundIn, rows_of}
+use Rattle.environment.specs.Databases.{IsFoundIn, rows_held}
 use Rattle.environment.specs.Whole.{disk_of}
 use Rattle.script_run.specs.Ends.{AreEndsInPlace}
 use Rattle.script_run.specs.Running.{Begins}
@@ -64,12 +64,12 @@ returns-in-Ok g c = λ left before after later there.
     subst (λ (x : g.row.D.Denot). ClosesRun (faults disk) (faults x) r.journal.items first.cause) (sym d.same.disk)
     (subst (λ (j : List Event). ClosesRun (faults disk) (faults first.disk) j first.cause) (sym (d.same.journal ∙ f.journal)) caused) in
     let store : st.store ≡ r.opening = ap (λ (s : Standing). s.store) one.starts.st_is ∙ one.starts.store ∙ sym f.opening ∙ sym d.same.opening in
-    let found : IsFoundIn (rows_of environment) (database_of c.args.db.now r.opening) known = subst (λ (s : Store). IsFoundIn (rows_of environment) (database_of c.args.db.now s) known) store
+    let found : IsFoundIn (rows_held environment) (database_of c.args.db.now r.opening) known = subst (λ (s : Store). IsFoundIn (rows_held environment) (database_of c.args.db.now s) known) store
     (c.find_database-found.ensures most st one.here valid) in
-    let rows = subst (λ (e : Environment g.row.D.Denot). HaveRows first.records (rows_of e)) rest.environment f.records in
-    dump_comes observable history faults c.args.db.now c.args.printed left before after later disk r c.dumped.result.text st first.cause (rows_of environment) known there d.cause
+    let rows = subst (λ (e : Environment g.row.D.Denot). HaveRows first.records (rows_held e)) rest.environment f.records in
+    dump_comes observable history faults c.args.db.now c.args.printed left before after later disk r c.dumped.result.text st first.cause (rows_held environment) known there d.cause
     (closed_end running.recorded.journal.items first.cause rest.journal (f.ends rest.memory)) (d.same.opened ∙ f.opened) empty
-    (run_of_same observable history faults _ old (faults disk) first r first.cause st d.same usual) closes found (d.text (rows_of environment) r.opened r.journal.items r.totals rows)
+    (run_of_same observable history faults _ old (faults disk) first r first.cause st d.same usual) closes found (d.text (rows_held environment) r.opened r.journal.items r.totals rows)
 
 pub returns-in-Err : goal.returns-in-Err
 returns-in-Err g c = λ left before after later there.

@@ -1,17 +1,17 @@
 use Rattle.std.proofs.Common.{sym, subst, Some}
 use Rattle.std.specs.Prelude.{IfErr, IfOk}
 use Rattle.command_line.specs.declared.command.Command.{Command}
-use Rattle.command_line.specs.Arguments.{IsBounded}
+use Rattle.command_line.specs.Arguments.{HasSettings}
 use Rattle.je_program.specs.Program.{IsNoRequest}
 use Rattle.je_program.specs.Request.{IsRequestOf}
 use Rattle.je_program.proofs.RequestLaws.{no_script, no_soak}
 use Rattle.je_program.proofs.request.request_of.Goals as goal
 
 pub run_request-requires : goal.run_request-requires
-run_request-requires g c = subst IsBounded c.in-Run.is c.requires
+run_request-requires g c = subst HasSettings c.in-Run.is c.requires
 
 pub soak_request-requires : goal.soak_request-requires
-soak_request-requires g c = subst IsBounded c.in-Soak.is c.requires
+soak_request-requires g c = subst HasSettings c.in-Soak.is c.requires
 
 pub returns-in-Run-clause-is : goal.returns-in-Run-clause-is
 returns-in-Run-clause-is g c =

@@ -7,7 +7,7 @@ use Rattle.je_lsn.specs.declared.file_no.FileNo.{FileNo}
 use Rattle.log_replay.proofs.UnchangedMoments.{passes_again}
 use Rattle.log_replay.proofs.GapLaws.{item_at, one_left}
 use Rattle.log_printer.specs.declared.file_lines.FileLines.{FileLines}
-use Rattle.log_printer.specs.Reading.{IsReading}
+use Rattle.log_printer.specs.Reading.{IsReadingLines}
 use Rattle.log_printer.proofs.ReadingLaws.{file_stops, memory_stops, reading_begins, reading_goes_on}
 use Rattle.log_printer.proofs.reading.read_files.Goals as goal
 
@@ -15,7 +15,7 @@ pub loop-f-init : goal.loop-f-init
 loop-f-init g c =
     let start = g.D.Disk.history c.args.disk.now in
     record {
-      reading = subst (λ (lines : List FileLines). IsReading g.D.Disk.observable (now start).reads c.args.files.now c.args.files.now lines) (sym c.new-read.ensures.items) (reading_begins g.D.Disk.observable (now start).reads c.args.files.now);
+      reading = subst (λ (lines : List FileLines). IsReadingLines g.D.Disk.observable (now start).reads c.args.files.now c.args.files.now lines) (sym c.new-read.ensures.items) (reading_begins g.D.Disk.observable (now start).reads c.args.files.now);
       left = refl;
       same = λ t. refl;
       moments = λ t. passes_none start (λ s. s ≡ now start);
@@ -33,7 +33,7 @@ loop-f-preserved g c =
     let read = c.in_ok-lines.ensures in
     record {
       reading =
-          subst (λ (lines : List FileLines). IsReading g.D.Disk.observable (now start).reads c.args.files.now (drop (c.loop-f.f-index + 1) c.args.files.now) lines) (sym c.in_ok-push_lines.ensures)
+          subst (λ (lines : List FileLines). IsReadingLines g.D.Disk.observable (now start).reads c.args.files.now (drop (c.loop-f.f-index + 1) c.args.files.now) lines) (sym c.in_ok-push_lines.ensures)
           (reading_goes_on g.D.Disk.observable (now start).reads (now (history c.loop-f.disk)).reads c.args.files.now (drop c.loop-f.f-index c.args.files.now) (drop (c.loop-f.f-index + 1) c.args.files.now) f
           c.loop-f.read.items c.in_ok-lines.lines (c.loop-f.left - 1 == 0) (λ t. ap (λ (s : State). s.reads) (before.same t)) before.reading at (ap (λ (n : ℕ). n == 0) left) read.read);
       left = sym left;
@@ -82,7 +82,7 @@ returns-in_err-push_lines-clause-never_falls g c = omega (arith, c.loop-f.invari
 
 pub returns-clause-read : goal.returns-clause-read
 returns-clause-read g c =
-    subst (λ (left : List FileNo). IsReading g.D.Disk.observable (now (g.D.Disk.history c.args.disk.now)).reads c.args.files.now left c.loop-f.read.items) (drop_of_length-le c.args.files.now c.loop-f-test.false) c.loop-f.invariant.reading
+    subst (λ (left : List FileNo). IsReadingLines g.D.Disk.observable (now (g.D.Disk.history c.args.disk.now)).reads c.args.files.now left c.loop-f.read.items) (drop_of_length-le c.args.files.now c.loop-f-test.false) c.loop-f.invariant.reading
 
 pub returns-clause-same : goal.returns-clause-same
 returns-clause-same g c = c.loop-f.invariant.same

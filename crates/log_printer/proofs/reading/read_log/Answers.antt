@@ -7,7 +7,7 @@ use Rattle.je_disk.specs.Moments.{now}
 use Rattle.je_disk.specs.States.{State}
 use Rattle.je_lsn.specs.declared.file_no.FileNo.{FileNo}
 use Rattle.log_replay.proofs.UnchangedMoments.{passes_again}
-use Rattle.log_printer.specs.Reading.{IsReading, StopsAmong}
+use Rattle.log_printer.specs.Reading.{IsReadingLines, StopsAmong}
 use Rattle.log_printer.proofs.ReadingLaws.{files_stop, listing_stops, log_read, none_listed}
 use Rattle.log_printer.proofs.reading.read_log.Goals as goal
 
@@ -35,7 +35,7 @@ returns-clause-read g c =
     let some : files ≢ [] = λ none. eqb-false _ 0 (sym c.is_empty.ensures ∙ c.if-is_empty.false) (c.in_ok-files.files.ok.0 ∙ ap length none) in
     IfOk-weaker c.read_files.result _ _
     (λ lines read. log_read g.D.Disk.observable before mid files lines.items (λ t. ap (λ (s : State). s.reads) (c.in_ok-files.ensures.same t)) some c.in_ok-files.ensures.rising c.in_ok-files.ensures.listed
-    (subst (λ (l : List FileNo). IsReading g.D.Disk.observable mid l [] lines.items) c.deref.ensures.value read))
+    (subst (λ (l : List FileNo). IsReadingLines g.D.Disk.observable mid l [] lines.items) c.deref.ensures.value read))
     c.read_files.ensures.read
 
 pub returns-clause-stops : goal.returns-clause-stops
