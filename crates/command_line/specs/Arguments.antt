@@ -138,15 +138,15 @@ abbrev pub dump_if : Bool → Text → Option Command
 dump_if printed db = if is_word db then Some (Dump db printed) else None
 
 -- `dump` with its options
-abbrev pub dump_from : List Row → Option Command
-dump_from rows = option_and_then (dump_if (is_given (codes "print") rows)) (first_of (codes "db") rows)
+abbrev pub dump_named : List Row → Option Command
+dump_named rows = option_and_then (dump_if (is_given (codes "print") rows)) (first_of (codes "db") rows)
 
 -- the command of this name with its options
 abbrev pub command_of : Text × List Row → Option Command
 command_of given =
     if bytes_eq given.0 (codes "run") then run_of given.1
     else if bytes_eq given.0 (codes "soak") then soak_from given.1
-    else if bytes_eq given.0 (codes "dump") then dump_from given.1
+    else if bytes_eq given.0 (codes "dump") then dump_named given.1
     else Some PrintLog
 
 -- what is found when the folder and the command are there

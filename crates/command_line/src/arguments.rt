@@ -4,7 +4,7 @@ ghost use Rattle.clap.specs.declared.builder.command.Command.TheViews.{out-Comma
 ghost use Rattle.clap.specs.Matches.{found_of};
 ghost use Rattle.clap.specs.Simple.{app_of, subcommand_of, subcommand_rows_of};
 ghost use Rattle.clap.specs.Walk.{first_of, rows_of, rule_of};
-ghost use Rattle.command_line.specs.Arguments.{HasSettings, command_in, command_of as command_named, db_option, dump_command, dump_from, fanout_option, file_max_option, home_in, home_of, home_option, is_given, is_parsed, is_taken, jedb, parsed_line, number_of, print_option, printlog_command, run_command, run_of, seed_option, settings_of, soak_command, soak_from};
+ghost use Rattle.command_line.specs.Arguments.{HasSettings, command_in, command_of as command_named, db_option, dump_command, dump_named, fanout_option, file_max_option, home_in, home_of, home_option, is_given, is_parsed, is_taken, jedb, parsed_line, number_of, print_option, printlog_command, run_command, run_of, seed_option, settings_of, soak_command, soak_from};
 
 use crate::command::{Command, CommandLine, RunSettings};
 use clap::error::ErrorKind;
@@ -204,7 +204,7 @@ fn is_given<'a>(given: &ArgMatches<'a>, name: &str) -> bool
 
 // `dump` with its options.
 fn dump_given<'a>(alloc: Global, given: &ArgMatches<'a>) -> Result<Option<Command>, AllocError>
-    ensures { IfOk result (λ command. command ≡ dump_from (rows_of (found_of given.now))) }
+    ensures { IfOk result (λ command. command ≡ dump_named (rows_of (found_of given.now))) }
 {
     let Some(db) = text_given(given, "db") else {
         return Ok(None);
