@@ -33,8 +33,8 @@ abbrev pub count_redone : List Placed → ℕ
 count_redone es = count_from (last_checkpoint es).redo es
 
 -- the nodes of trees, and what is read of their names
-abbrev pub loaded : {T : Type 0} → (T → AllNodes) → (T → AllRead) → T → Loaded
-loaded nodes slots trees = record { nodes = nodes trees; slots = slots trees }
+abbrev pub as_loaded : {T : Type 0} → (T → AllNodes) → (T → AllRead) → T → Loaded
+as_loaded nodes slots trees = record { nodes = nodes trees; slots = slots trees }
 
 -- nodes were put, with numbers up to the greatest one that was read
 pub record HasPut {T : Type 0} (state : T → Loaded) (put : Bool → ℕ → Loaded → Loaded → Type 0) (old new : Walking T) : Type 0 where

@@ -8,7 +8,7 @@ ghost use Rattle.log_trees.specs.Images.{slot_shown};
 ghost use Rattle.log_trees.specs.Sound.{children};
 ghost use Rattle.log_trees.specs.Walk.{Walk, each, read_here as node_here, read_child, read_node as node_at};
 ghost use Rattle.log_meaning.specs.ReadNodes.{IsNodeLoaded, IsLoadedBelow};
-ghost use Rattle.recovery_je.specs.Putting.{HasPut, loaded, children_put, below_put};
+ghost use Rattle.recovery_je.specs.Putting.{HasPut, as_loaded, children_put, below_put};
 ghost use Rattle.recovery_je.specs.Walking.{IsWalking, GoesOn, HasMet, read_below as below_node, waiting as child_waiting, child_ends_at as ends_at_name};
 
 use crate::images::nowhere;
@@ -36,7 +36,7 @@ fn take_node<T: Loads>(
     requires order { AreInOrder entries.now }
     requires entries { AllByRecursion (λ p. IsEntry p.1) entries.now }
     ensures walk { (walk : Walk) → IsWalking (T.stored walking.old.trees) walking.old.seen.keys walking.old.node walking.old.db walk → HasMet (node_here (map (λ f. f.0) files.now) entries.now d level at walk.seen) walk (IsWalking (T.stored walking.new.trees) walking.new.seen.keys walking.new.node walking.new.db) result }
-    ensures nodes { IfOk result (λ node. HasPut (loaded T.nodes T.read) (λ keeps most. IsNodeLoaded entries.now keeps most d (level - 1) low.now (option_copied high.entry) at node) walking.old walking.new) }
+    ensures nodes { IfOk result (λ node. HasPut (as_loaded T.nodes T.read) (λ keeps most. IsNodeLoaded entries.now keeps most d (level - 1) low.now (option_copied high.entry) at node) walking.old walking.new) }
 {
     let node = read_here(alloc, files, entries, d, level, at, &walking.seen)?;
     meet(walking, alloc, &node, low, high, at)?;
@@ -62,7 +62,7 @@ pub(crate) fn read_node<T: Loads>(
     requires order { AreInOrder entries.now }
     requires entries { AllByRecursion (λ p. IsEntry p.1) entries.now }
     ensures walk { (walk : Walk) → IsWalking (T.stored walking.old.trees) walking.old.seen.keys walking.old.node walking.old.db walk → GoesOn (node_at (map (λ f. f.0) files.now) entries.now d above low.now (option_copied high.entry) at walk) (IsWalking (T.stored walking.new.trees) walking.new.seen.keys walking.new.node walking.new.db) result }
-    ensures nodes { OnOk result (HasPut (loaded T.nodes T.read) (λ keeps most. IsLoadedBelow entries.now keeps most d above low.now (option_copied high.entry) at) walking.old walking.new) }
+    ensures nodes { OnOk result (HasPut (as_loaded T.nodes T.read) (λ keeps most. IsLoadedBelow entries.now keeps most d above low.now (option_copied high.entry) at) walking.old walking.new) }
 {
     let node = take_node(walking, alloc, files, entries, d, above + 1, low, high, at)?;
     let done = read_below(
@@ -99,7 +99,7 @@ fn read_below<T: Loads>(
     requires order { AreInOrder entries.now }
     requires entries { AllByRecursion (λ p. IsEntry p.1) entries.now }
     ensures walk { (walk : Walk) → IsWalking (T.stored walking.old.trees) walking.old.seen.keys walking.old.node walking.old.db walk → GoesOn (below_node (map (λ f. f.0) files.now) entries.now d above low.now (option_copied high.entry) at slots.now walk) (IsWalking (T.stored walking.new.trees) walking.new.seen.keys walking.new.node walking.new.db) result }
-    ensures nodes { (k : ℕ) (x : Named) → IsSome (T.nodes walking.old.trees d k x) → OnOk result (HasPut (loaded T.nodes T.read) (below_put entries.now d above low.now (option_copied high.entry) slots.now) walking.old walking.new) }
+    ensures nodes { (k : ℕ) (x : Named) → IsSome (T.nodes walking.old.trees d k x) → OnOk result (HasPut (as_loaded T.nodes T.read) (below_put entries.now d above low.now (option_copied high.entry) slots.now) walking.old walking.new) }
 {
     if above == 0 {
         return read_slots(walking, alloc, files, entries, d, low, high, at, slots);
@@ -147,7 +147,7 @@ fn read_children<'a, T: Loads>(
     requires order { AreInOrder entries.now }
     requires entries { AllByRecursion (λ p. IsEntry p.1) entries.now }
     ensures walk { (walk : Walk) → IsWalking (T.stored walking.old.trees) walking.old.seen.keys walking.old.node walking.old.db walk → GoesOn (each (read_child (map (λ f. f.0) files.now) (node_at (map (λ f. f.0) files.now) entries.now d above) at) (children low.now (option_copied high.entry) (flat_map slot_shown slots.now)) walk) (IsWalking (T.stored walking.new.trees) walking.new.seen.keys walking.new.node walking.new.db) result }
-    ensures nodes { OnOk result (HasPut (loaded T.nodes T.read) (children_put entries.now d above (children low.now (option_copied high.entry) (flat_map slot_shown slots.now))) walking.old walking.new) }
+    ensures nodes { OnOk result (HasPut (as_loaded T.nodes T.read) (children_put entries.now d above (children low.now (option_copied high.entry) (flat_map slot_shown slots.now))) walking.old walking.new) }
 {
     let mut low = low;
     let mut pending = None;
@@ -203,7 +203,7 @@ fn read_pending<T: Loads>(
     requires order { AreInOrder entries.now }
     requires entries { AllByRecursion (λ p. IsEntry p.1) entries.now }
     ensures walk { (walk : Walk) → IsWalking (T.stored walking.old.trees) walking.old.seen.keys walking.old.node walking.old.db walk → GoesOn (each (read_child (map (λ f. f.0) files.now) (node_at (map (λ f. f.0) files.now) entries.now d above) at) (child_waiting low.now (option_copied high.entry) (option_copied pending.entry)) walk) (IsWalking (T.stored walking.new.trees) walking.new.seen.keys walking.new.node walking.new.db) result }
-    ensures nodes { OnOk result (HasPut (loaded T.nodes T.read) (children_put entries.now d above (child_waiting low.now (option_copied high.entry) (option_copied pending.entry))) walking.old walking.new) }
+    ensures nodes { OnOk result (HasPut (as_loaded T.nodes T.read) (children_put entries.now d above (child_waiting low.now (option_copied high.entry) (option_copied pending.entry))) walking.old walking.new) }
 {
     let Some(child) = pending else {
         return Ok(());

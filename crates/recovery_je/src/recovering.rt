@@ -11,7 +11,7 @@ ghost use Rattle.log_meaning.specs.Checkpoint.{behind};
 ghost use Rattle.log_meaning.specs.Meaning.{most};
 ghost use Rattle.log_meaning.specs.Reading.{redo_corruption as redo_corruption_of, unless, meaning_in};
 ghost use Rattle.recovery_je.specs.Indexing.{IsIndexCheck};
-ghost use Rattle.recovery_je.specs.Putting.{loaded, AreRootsPut, HasReadAgain, count_redone};
+ghost use Rattle.recovery_je.specs.Putting.{as_loaded, AreRootsPut, HasReadAgain, count_redone};
 ghost use Rattle.recovery_je.specs.Recovering.{HoldsChanges, HoldsRedo, IsWalked, IsMeant, IsFoundBy};
 
 use crate::checkpoint_end::{CheckpointEnd, last_end, or_none};
@@ -113,7 +113,7 @@ fn read_trees<T: Loads + Drop>(
     requires order { AreInOrder entries.now }
     requires entries { AllByRecursion (λ p. IsEntry p.1) entries.now }
     ensures read { IfOk result (λ walked. (walk : Walk) × IsWalked (map (λ f. f.0) files.now) entries.now end.now walked.numbers (T.stored walked.trees) walk) }
-    ensures nodes { IfOk result (λ walked. AreRootsPut entries.now end.now.roots walked.numbers.node (loaded T.nodes T.read trees) (loaded T.nodes T.read walked.trees)) }
+    ensures nodes { IfOk result (λ walked. AreRootsPut entries.now end.now.roots walked.numbers.node (as_loaded T.nodes T.read trees) (as_loaded T.nodes T.read walked.trees)) }
     ensures right { IfOk result (λ walked. corruption ≡ None) }
     ensures found { IfErr result (λ e. IsFoundBy e (λ c. and_then (read_roots_of (map (λ f. f.0) files.now) entries.now end.now.at end.now.roots) (λ walk. unless corruption (Ok walk)) ≡ Err c)) }
 {

@@ -6,7 +6,7 @@ ghost use Rattle.log_trees.specs.Placed.{AreInOrder};
 ghost use Rattle.log_trees.specs.Sound.{least_name};
 ghost use Rattle.log_trees.specs.Walk.{Walk, each, read_image as image_at, read_level as level_at, read_root as root_at, read_roots as read_roots_of};
 ghost use Rattle.log_meaning.specs.ReadNodes.{AreLoadedEach, IsRootLoaded};
-ghost use Rattle.recovery_je.specs.Putting.{HasPut, loaded, level_put, AreRootsPut};
+ghost use Rattle.recovery_je.specs.Putting.{HasPut, as_loaded, level_put, AreRootsPut};
 ghost use Rattle.recovery_je.specs.Recovering.{IsWalked, IsFoundBy};
 ghost use Rattle.recovery_je.specs.Walking.{Answers, IsWalking, GoesOn, level_read};
 
@@ -70,7 +70,7 @@ fn read_level<T: Loads>(
     requires order { AreInOrder entries.now }
     requires entries { AllByRecursion (λ p. IsEntry p.1) entries.now }
     ensures walk { (walk : Walk) → IsWalking (T.stored walking.old.trees) walking.old.seen.keys walking.old.node walking.old.db walk → GoesOn (level_at (map (λ f. f.0) files.now) entries.now d level at walk) (IsWalking (T.stored walking.new.trees) walking.new.seen.keys walking.new.node walking.new.db) result }
-    ensures nodes { OnOk result (HasPut (loaded T.nodes T.read) (level_put entries.now d level at) walking.old walking.new) }
+    ensures nodes { OnOk result (HasPut (as_loaded T.nodes T.read) (level_put entries.now d level at) walking.old walking.new) }
 {
     if level == 0 {
         return Err(ReadErr::Found(Corruption::Tree(at)));
@@ -102,7 +102,7 @@ fn read_root<T: Loads>(
     requires order { AreInOrder entries.now }
     requires entries { AllByRecursion (λ p. IsEntry p.1) entries.now }
     ensures walk { (walk : Walk) → IsWalking (T.stored walking.old.trees) walking.old.seen.keys walking.old.node walking.old.db walk → GoesOn (root_at (map (λ f. f.0) files.now) entries.now end root.now walk) (IsWalking (T.stored walking.new.trees) walking.new.seen.keys walking.new.node walking.new.db) result }
-    ensures nodes { OnOk result (HasPut (loaded T.nodes T.read) (λ keeps most. IsRootLoaded entries.now keeps most root.now) walking.old walking.new) }
+    ensures nodes { OnOk result (HasPut (as_loaded T.nodes T.read) (λ keeps most. IsRootLoaded entries.now keeps most root.now) walking.old walking.new) }
 {
     if root.image.as_u64() >= end.as_u64() {
         return Err(ReadErr::Found(nowhere(files, root.image)));
@@ -127,7 +127,7 @@ fn read_each<T: Loads>(
     requires order { AreInOrder entries.now }
     requires entries { AllByRecursion (λ p. IsEntry p.1) entries.now }
     ensures walk { (walk : Walk) → IsWalking (T.stored walking.old.trees) walking.old.seen.keys walking.old.node walking.old.db walk → GoesOn (each (root_at (map (λ f. f.0) files.now) entries.now end) roots.now walk) (IsWalking (T.stored walking.new.trees) walking.new.seen.keys walking.new.node walking.new.db) result }
-    ensures nodes { OnOk result (HasPut (loaded T.nodes T.read) (λ keeps most. AreLoadedEach (IsRootLoaded entries.now keeps most) roots.now) walking.old walking.new) }
+    ensures nodes { OnOk result (HasPut (as_loaded T.nodes T.read) (λ keeps most. AreLoadedEach (IsRootLoaded entries.now keeps most) roots.now) walking.old walking.new) }
 {
     for root in roots {
         read_root(walking, alloc, files, entries, end, least, root)?;
@@ -158,7 +158,7 @@ pub(crate) fn read_roots<T: Loads + Drop>(
     requires order { AreInOrder entries.now }
     requires entries { AllByRecursion (λ p. IsEntry p.1) entries.now }
     ensures read { IfOk result (λ walked. (walk : Walk) × IsWalked (map (λ f. f.0) files.now) entries.now end.now walked.numbers (T.stored walked.trees) walk) }
-    ensures nodes { IfOk result (λ walked. AreRootsPut entries.now end.now.roots walked.numbers.node (loaded T.nodes T.read trees) (loaded T.nodes T.read walked.trees)) }
+    ensures nodes { IfOk result (λ walked. AreRootsPut entries.now end.now.roots walked.numbers.node (as_loaded T.nodes T.read trees) (as_loaded T.nodes T.read walked.trees)) }
     ensures found { IfErr result (λ e. IsFoundBy e (λ corruption. read_roots_of (map (λ f. f.0) files.now) entries.now end.now.at end.now.roots ≡ Err corruption)) }
 {
     let least = least_of_all(alloc);

@@ -11,7 +11,7 @@ ghost use Rattle.log_trees.specs.Trees.{data_in};
 ghost use Rattle.log_trees.specs.Walk.{Walk, each, met, with_record, read_record as record_at, read_here as node_here, may_stand as node_may_stand};
 ghost use Rattle.record_tree.specs.LoadedNodes.{AllNodes, node_read, HasPutNode};
 ghost use Rattle.record_tree.specs.LoadedSlots.{shows_deletion_inside, HasGone};
-ghost use Rattle.recovery_je.specs.Putting.{HasPut, loaded, none_put};
+ghost use Rattle.recovery_je.specs.Putting.{HasPut, as_loaded, none_put};
 ghost use Rattle.recovery_je.specs.Walking.{Answers, IsWalking, GoesOn};
 
 use crate::images::{nowhere, read_image};
@@ -49,7 +49,7 @@ pub(crate) fn meet<T: Loads>(
     at: Lsn,
 ) -> Result<(), LoadErr>
     ensures walk { (walk : Walk) → IsWalking (T.stored walking.old.trees) walking.old.seen.keys walking.old.node walking.old.db walk → OnOk result (IsWalking (T.stored walking.new.trees) walking.new.seen.keys walking.new.node walking.new.db (met node.now walk)) }
-    ensures nodes { OnOk result (HasPut (loaded T.nodes T.read) (λ keeps most old new. (node.now.number ≤ most) × HasPutNode old.nodes new.nodes node.now.db (node.now.level - 1) low.now (node_read node.now.number at keeps) × HasGone old.slots new.slots node.now.db (shows_deletion_inside low.now (option_copied high.entry) node.now.slots) at) walking.old walking.new) }
+    ensures nodes { OnOk result (HasPut (as_loaded T.nodes T.read) (λ keeps most old new. (node.now.number ≤ most) × HasPutNode old.nodes new.nodes node.now.db (node.now.level - 1) low.now (node_read node.now.number at keeps) × HasGone old.slots new.slots node.now.db (shows_deletion_inside low.now (option_copied high.entry) node.now.slots) at) walking.old walking.new) }
 {
     walking
         .trees
@@ -71,7 +71,7 @@ fn put_record<T: Loads>(
     value: &Octets,
 ) -> Result<(), LoadErr>
     ensures walk { (walk : Walk) → IsWalking (T.stored walking.old.trees) walking.old.seen.keys walking.old.node walking.old.db walk → OnOk result (IsWalking (T.stored walking.new.trees) walking.new.seen.keys walking.new.node walking.new.db (with_record d (name.now, lsn) value.now walk)) }
-    ensures nodes { (k : ℕ) (x : Named) → IsSome (T.nodes walking.old.trees d k x) → OnOk result (HasPut (loaded T.nodes T.read) none_put walking.old walking.new) }
+    ensures nodes { (k : ℕ) (x : Named) → IsSome (T.nodes walking.old.trees d k x) → OnOk result (HasPut (as_loaded T.nodes T.read) none_put walking.old walking.new) }
 {
     walking.trees.load(alloc, d, name, lsn, value.as_slice())?;
     walking.db = walking.db.max(number_in(d, value));
@@ -117,7 +117,7 @@ fn read_record<T: Loads>(
 ) -> Result<(), ReadErr>
     requires order { AreInOrder entries.now }
     ensures walk { (walk : Walk) → IsWalking (T.stored walking.old.trees) walking.old.seen.keys walking.old.node walking.old.db walk → GoesOn (record_at (map (λ f. f.0) files.now) entries.now d at (name.now, lsn) walk) (IsWalking (T.stored walking.new.trees) walking.new.seen.keys walking.new.node walking.new.db) result }
-    ensures nodes { (k : ℕ) (x : Named) → IsSome (T.nodes walking.old.trees d k x) → OnOk result (HasPut (loaded T.nodes T.read) none_put walking.old walking.new) }
+    ensures nodes { (k : ℕ) (x : Named) → IsSome (T.nodes walking.old.trees d k x) → OnOk result (HasPut (as_loaded T.nodes T.read) none_put walking.old walking.new) }
 {
     if lsn.as_u64() >= at.as_u64() {
         return Err(ReadErr::Found(nowhere(files, lsn)));
@@ -144,7 +144,7 @@ fn read_slot<T: Loads>(
 ) -> Result<(), ReadErr>
     requires order { AreInOrder entries.now }
     ensures walk { (walk : Walk) → IsWalking (T.stored walking.old.trees) walking.old.seen.keys walking.old.node walking.old.db walk → GoesOn (each (record_at (map (λ f. f.0) files.now) entries.now d at) (named slot.now.name (lsn_in slot.now.version)) walk) (IsWalking (T.stored walking.new.trees) walking.new.seen.keys walking.new.node walking.new.db) result }
-    ensures nodes { (k : ℕ) (x : Named) → IsSome (T.nodes walking.old.trees d k x) → OnOk result (HasPut (loaded T.nodes T.read) none_put walking.old walking.new) }
+    ensures nodes { (k : ℕ) (x : Named) → IsSome (T.nodes walking.old.trees d k x) → OnOk result (HasPut (as_loaded T.nodes T.read) none_put walking.old walking.new) }
 {
     match slot.version {
         Version::There(lsn) => {
@@ -188,7 +188,7 @@ fn read_within<T: Loads>(
 ) -> Result<(), ReadErr>
     requires order { AreInOrder entries.now }
     ensures walk { (walk : Walk) → IsWalking (T.stored walking.old.trees) walking.old.seen.keys walking.old.node walking.old.db walk → GoesOn (each (record_at (map (λ f. f.0) files.now) entries.now d at) (slots_inside low.now (option_copied high.entry) (named slot.now.name (lsn_in slot.now.version))) walk) (IsWalking (T.stored walking.new.trees) walking.new.seen.keys walking.new.node walking.new.db) result }
-    ensures nodes { (k : ℕ) (x : Named) → IsSome (T.nodes walking.old.trees d k x) → OnOk result (HasPut (loaded T.nodes T.read) none_put walking.old walking.new) }
+    ensures nodes { (k : ℕ) (x : Named) → IsSome (T.nodes walking.old.trees d k x) → OnOk result (HasPut (as_loaded T.nodes T.read) none_put walking.old walking.new) }
 {
     if !is_within(low, high, &slot.name) {
         return Ok(());
@@ -210,7 +210,7 @@ pub(crate) fn read_slots<T: Loads>(
 ) -> Result<(), ReadErr>
     requires order { AreInOrder entries.now }
     ensures walk { (walk : Walk) → IsWalking (T.stored walking.old.trees) walking.old.seen.keys walking.old.node walking.old.db walk → GoesOn (each (record_at (map (λ f. f.0) files.now) entries.now d at) (slots_inside low.now (option_copied high.entry) (flat_map slot_shown slots.now)) walk) (IsWalking (T.stored walking.new.trees) walking.new.seen.keys walking.new.node walking.new.db) result }
-    ensures nodes { (k : ℕ) (x : Named) → IsSome (T.nodes walking.old.trees d k x) → OnOk result (HasPut (loaded T.nodes T.read) none_put walking.old walking.new) }
+    ensures nodes { (k : ℕ) (x : Named) → IsSome (T.nodes walking.old.trees d k x) → OnOk result (HasPut (as_loaded T.nodes T.read) none_put walking.old walking.new) }
 {
     for marked in slots {
         read_within(

@@ -14,7 +14,7 @@ use Rattle.record_map.proofs.NameLaws.{same_or_other, name_same, other_stays, sa
 use Rattle.tree_nodes.specs.declared.node.Node.{Node}
 use Rattle.tree_nodes.specs.Nodes.{ArePlaces, is_dirty, is_due, node_at, no_node, noted_as, placed}
 use Rattle.tree_nodes.specs.Noted.{IsNextDue, NoneDue, count_due}
-use Rattle.tree_nodes.specs.Due.{AreDue, IsLeastNumber, count_numbers, due_number, name_in, number_in, without}
+use Rattle.tree_nodes.specs.Due.{AreDueKept, IsLeastNumber, count_numbers, due_number, name_in, number_in, without}
 use Rattle.tree_nodes.proofs.Places.{HasNoPlace, HasPlace, read_at, sets_places, takes_places, value_placed}
 use Rattle.tree_nodes.proofs.RisingLists.{found_between, none_behind}
 use Rattle.tree_nodes.proofs.LeastNumbers.{count_no, count_set, one_if}
@@ -48,16 +48,16 @@ place_is lows nodes x n there = by_place (value_at x lows) refl
     by_place (Some i) at = (i, at, same_Some (node_at nodes i) n (sym (value_placed x lows nodes ∙ ap (option_map (node_at nodes)) at) ∙ there))
 
 -- the number at the place of a low
-number_at : (lows : List (Name × ℕ)) (nodes : List Node) (names : List (Option Name)) (due : List (Option ℕ)) → AreDue lows nodes names due → (x : Name) (i : ℕ) → value_at x lows ≡ Some i →
+number_at : (lows : List (Name × ℕ)) (nodes : List Node) (names : List (Option Name)) (due : List (Option ℕ)) → AreDueKept lows nodes names due → (x : Name) (i : ℕ) → value_at x lows ≡ Some i →
     number_in due i ≡ due_number (Some x) (node_at nodes i)
 number_at lows nodes names due are x i at = are.numbers i ∙ ap (λ (o : Option Name). due_number o (node_at nodes i)) (are.named x i at)
 
-pub none_due : (lows : List (Name × ℕ)) (nodes : List Node) (names : List (Option Name)) (due : List (Option ℕ)) → AreDue lows nodes names due → ((i : ℕ) → number_in due i ≡ None) → NoneDue (placed lows nodes)
+pub none_due : (lows : List (Name × ℕ)) (nodes : List Node) (names : List (Option Name)) (due : List (Option ℕ)) → AreDueKept lows nodes names due → ((i : ℕ) → number_in due i ≡ None) → NoneDue (placed lows nodes)
 none_due lows nodes names due are none x n there =
     let p = place_is lows nodes x n there in
     subst (λ (m : Node). is_due m ≡ false) p.2 (no_number x (node_at nodes p.0) (sym (number_at lows nodes names due are x p.0 p.1) ∙ none p.0))
 
-pub next_is : (lows : List (Name × ℕ)) (nodes : List Node) (names : List (Option Name)) (due : List (Option ℕ)) (place : ℕ) (low : Name) → AreDue lows nodes names due → IsLeastNumber due place → name_in names place ≡ Some low →
+pub next_is : (lows : List (Name × ℕ)) (nodes : List Node) (names : List (Option Name)) (due : List (Option ℕ)) (place : ℕ) (low : Name) → AreDueKept lows nodes names due → IsLeastNumber due place → name_in names place ≡ Some low →
     IsNextDue (placed lows nodes) (low, node_at nodes place)
 next_is lows nodes names due place low are first named = record {
   there = value_placed low lows nodes ∙ ap (option_map (node_at nodes)) (are.here low place named);
@@ -72,7 +72,7 @@ next_is lows nodes names due place low are first named = record {
     own = a_number low (node_at nodes place) first.number (sym (number_at lows nodes names due are low place (are.here low place named)) ∙ first.there)
 
 -- the least number stands at the place of a node
-pub least_within : (lows : List (Name × ℕ)) (nodes : List Node) (names : List (Option Name)) (due : List (Option ℕ)) (place : ℕ) → AreDue lows nodes names due → IsLeastNumber due place → place < length names
+pub least_within : (lows : List (Name × ℕ)) (nodes : List Node) (names : List (Option Name)) (due : List (Option ℕ)) (place : ℕ) → AreDueKept lows nodes names due → IsLeastNumber due place → place < length names
 least_within lows nodes names due place are first = by_length (cases_lt place (length names))
   where
     by_length : (place < length names) ⊎ (length names ≤ place) → place < length names
@@ -86,9 +86,9 @@ read_name names i o within is = is ∙ get_or_default names i o None within
 -- ---- a node changes
 
 pub due_set : (lows : List (Name × ℕ)) (nodes : List Node) (names : List (Option Name)) (due : List (Option ℕ)) (place : ℕ) (n : Node) (seen : List Node) (seen_names : List (Option Name)) (new : List (Option ℕ)) →
-    AreDue lows nodes names due → place < length nodes → seen ≡ set nodes place n → seen_names ≡ names → new ≡ set due place (due_number (name_in seen_names place) (node_at seen place)) →
-    AreDue lows (set nodes place n) names new
-due_set lows nodes names due place n seen seen_names new are within same same_names is = subst (λ (d : List (Option ℕ)). AreDue lows (set nodes place n) names d) (sym made) (record {
+    AreDueKept lows nodes names due → place < length nodes → seen ≡ set nodes place n → seen_names ≡ names → new ≡ set due place (due_number (name_in seen_names place) (node_at seen place)) →
+    AreDueKept lows (set nodes place n) names new
+due_set lows nodes names due place n seen seen_names new are within same same_names is = subst (λ (d : List (Option ℕ)). AreDueKept lows (set nodes place n) names d) (sym made) (record {
   places = sets_places lows nodes place n are.places;
   count = are.count ∙ sym (length-set nodes place n);
   covers = let a = length-set nodes place n in let b = length-set due place number in let c = are.covers in omega (arith, a, b, c);
@@ -111,20 +111,20 @@ due_set lows nodes names due place n seen seen_names new are within same same_na
         get_or-set_other due place i number None other ∙ are.numbers i ∙ ap (due_number (name_in names i)) (sym (get_or-set_other nodes place i n no_node other))
 
 -- the lists are known by equations
-pub due_by : (lows : List (Name × ℕ)) (nodes new_nodes : List Node) (names new_names : List (Option Name)) (due new_due : List (Option ℕ)) → new_nodes ≡ nodes → new_names ≡ names → new_due ≡ due → AreDue lows nodes names due → AreDue lows new_nodes new_names new_due
+pub due_by : (lows : List (Name × ℕ)) (nodes new_nodes : List Node) (names new_names : List (Option Name)) (due new_due : List (Option ℕ)) → new_nodes ≡ nodes → new_names ≡ names → new_due ≡ due → AreDueKept lows nodes names due → AreDueKept lows new_nodes new_names new_due
 due_by lows nodes new_nodes names new_names due new_due same_nodes same_names same are =
-    subst (λ (ns : List Node). AreDue lows ns new_names new_due) (sym same_nodes)
-    (subst (λ (xs : List (Option Name)). AreDue lows nodes xs new_due) (sym same_names) (subst (λ (d : List (Option ℕ)). AreDue lows nodes names d) (sym same) are))
+    subst (λ (ns : List Node). AreDueKept lows ns new_names new_due) (sym same_nodes)
+    (subst (λ (xs : List (Option Name)). AreDueKept lows nodes xs new_due) (sym same_names) (subst (λ (d : List (Option ℕ)). AreDueKept lows nodes names d) (sym same) are))
 
 -- ---- a node more
 
 -- with room, nothing has changed
 pub due_same : (lows new : List (Name × ℕ)) (nodes new_nodes : List Node) (names new_names : List (Option Name)) (due new_due : List (Option ℕ)) → new ≡ lows → new_nodes ≡ nodes → new_names ≡ names →
-    ((i : ℕ) → number_in new_due i ≡ number_in due i) → length due ≤ length new_due → AreDue lows nodes names due → AreDue new new_nodes new_names new_due
+    ((i : ℕ) → number_in new_due i ≡ number_in due i) → length due ≤ length new_due → AreDueKept lows nodes names due → AreDueKept new new_nodes new_names new_due
 due_same lows new nodes new_nodes names new_names due new_due same same_nodes same_names each longer are =
-    subst (λ (l : List (Name × ℕ)). AreDue l new_nodes new_names new_due) (sym same)
-    (subst (λ (ns : List Node). AreDue lows ns new_names new_due) (sym same_nodes)
-    (subst (λ (xs : List (Option Name)). AreDue lows nodes xs new_due) (sym same_names) (record {
+    subst (λ (l : List (Name × ℕ)). AreDueKept l new_nodes new_names new_due) (sym same)
+    (subst (λ (ns : List Node). AreDueKept lows ns new_names new_due) (sym same_nodes)
+    (subst (λ (xs : List (Option Name)). AreDueKept lows nodes xs new_due) (sym same_names) (record {
       places = are.places;
       count = are.count;
       covers = let c = are.covers in omega (arith, c, longer);
@@ -133,8 +133,8 @@ due_same lows new nodes new_nodes names new_names due new_due same same_nodes sa
       numbers = λ i. each i ∙ are.numbers i;
     })))
 
-pub due_put : (lows new : List (Name × ℕ)) (nodes : List Node) (names : List (Option Name)) (due : List (Option ℕ)) (low : Name) (n : Node) → AreDue lows nodes names due → length nodes < length due → value_at low lows ≡ None →
-    HasPlace lows new low (length nodes) → ArePlaces new (nodes ++ n ∷ []) → AreDue new (nodes ++ n ∷ []) (names ++ Some low ∷ []) (set due (length nodes) (due_number (Some low) n))
+pub due_put : (lows new : List (Name × ℕ)) (nodes : List Node) (names : List (Option Name)) (due : List (Option ℕ)) (low : Name) (n : Node) → AreDueKept lows nodes names due → length nodes < length due → value_at low lows ≡ None →
+    HasPlace lows new low (length nodes) → ArePlaces new (nodes ++ n ∷ []) → AreDueKept new (nodes ++ n ∷ []) (names ++ Some low ∷ []) (set due (length nodes) (due_number (Some low) n))
 due_put lows new nodes names due low n are room free has places_ = record {
   places = places_;
   count = length_push names (Some low) ∙ ap (λ (k : ℕ). k + 1) are.count ∙ sym (length_push nodes n);
@@ -201,8 +201,8 @@ taken_was lows new low has x i at = by_test (is_eq (name_cmp low x)) refl (sym (
     by_test true is h = absurd (none-some i h)
     by_test false is h = (is, h)
 
-due_taken : (lows new : List (Name × ℕ)) (nodes : List Node) (names : List (Option Name)) (due : List (Option ℕ)) (low : Name) (place : ℕ) → AreDue lows nodes names due → value_at low lows ≡ Some place → HasNoPlace lows new low →
-    ArePlaces new nodes → AreDue new nodes (set names place None) (set due place None)
+due_taken : (lows new : List (Name × ℕ)) (nodes : List Node) (names : List (Option Name)) (due : List (Option ℕ)) (low : Name) (place : ℕ) → AreDueKept lows nodes names due → value_at low lows ≡ Some place → HasNoPlace lows new low →
+    ArePlaces new nodes → AreDueKept new nodes (set names place None) (set due place None)
 due_taken lows new nodes names due low place are there has places_ = record {
   places = places_;
   count = length-set names place None ∙ are.count;
@@ -238,8 +238,8 @@ due_taken lows new nodes names due low place are there has places_ = record {
     by_number i (inr other) =
         get_or-set_other due place i None None other ∙ are.numbers i ∙ sym (ap (λ (o : Option Name). due_number o (node_at nodes i)) (get_or-set_other names place i None None other))
 
-due_kept : (lows new : List (Name × ℕ)) (nodes : List Node) (names : List (Option Name)) (due : List (Option ℕ)) (low : Name) → AreDue lows nodes names due → value_at low lows ≡ None → HasNoPlace lows new low → ArePlaces new nodes →
-    AreDue new nodes names due
+due_kept : (lows new : List (Name × ℕ)) (nodes : List Node) (names : List (Option Name)) (due : List (Option ℕ)) (low : Name) → AreDueKept lows nodes names due → value_at low lows ≡ None → HasNoPlace lows new low → ArePlaces new nodes →
+    AreDueKept new nodes names due
 due_kept lows new nodes names due low are free has places_ = record {
   places = places_;
   count = are.count;
@@ -253,15 +253,15 @@ due_kept lows new nodes names due low are free has places_ = record {
     still x i was (inl same) = absurd (none-some i (sym free ∙ ap (λ (y : Name). value_at y lows) same ∙ was))
     still x i was (inr apart) = has x ∙ other_stays low x None (value_at x lows) apart ∙ was
 
-pub due_without : (lows new : List (Name × ℕ)) (nodes : List Node) (names new_names : List (Option Name)) (due new_due : List (Option ℕ)) (low : Name) (place : Option ℕ) → AreDue lows nodes names due → place ≡ value_at low lows → HasNoPlace lows new low →
-    ArePlaces new nodes → new_names ≡ without place names → new_due ≡ without place due → AreDue new nodes new_names new_due
+pub due_without : (lows new : List (Name × ℕ)) (nodes : List Node) (names new_names : List (Option Name)) (due new_due : List (Option ℕ)) (low : Name) (place : Option ℕ) → AreDueKept lows nodes names due → place ≡ value_at low lows → HasNoPlace lows new low →
+    ArePlaces new nodes → new_names ≡ without place names → new_due ≡ without place due → AreDueKept new nodes new_names new_due
 due_without lows new nodes names new_names due new_due low place are at has places_ same_names same = by_place place (sym at) same_names same
   where
-    by_place : (o : Option ℕ) → value_at low lows ≡ o → new_names ≡ without o names → new_due ≡ without o due → AreDue new nodes new_names new_due
+    by_place : (o : Option ℕ) → value_at low lows ≡ o → new_names ≡ without o names → new_due ≡ without o due → AreDueKept new nodes new_names new_due
     by_place None is xs d = due_by new nodes nodes names new_names due new_due refl xs d (due_kept lows new nodes names due low are is has places_)
     by_place (Some i) is xs d = due_by new nodes nodes (set names i None) new_names (set due i None) new_due refl xs d (due_taken lows new nodes names due low i are is has places_)
 
-pub place_within : (lows : List (Name × ℕ)) (nodes : List Node) (names : List (Option Name)) (due : List (Option ℕ)) (low : Name) (place : Option ℕ) → AreDue lows nodes names due → place ≡ value_at low lows →
+pub place_within : (lows : List (Name × ℕ)) (nodes : List Node) (names : List (Option Name)) (due : List (Option ℕ)) (low : Name) (place : Option ℕ) → AreDueKept lows nodes names due → place ≡ value_at low lows →
     IfSome place (λ i. i < length names) × IfSome place (λ i. i < length due)
 place_within lows nodes names due low place are at = by_place place (sym at)
   where
@@ -278,7 +278,7 @@ place_within lows nodes names due low place are at = by_place place (sym at)
 -- ---- the dirty nodes
 
 pub note_next : (nodes : List Node) (names : List (Option Name)) (due new : List (Option ℕ)) (k : ℕ) (n : Node) → length names ≡ length nodes → k < length nodes → new ≡ set due k (due_number (name_in names k) (node_at (set nodes k n) k)) →
-    (lows : List (Name × ℕ)) → AreDue lows nodes names due → AreDue lows (set nodes k n) names new
+    (lows : List (Name × ℕ)) → AreDueKept lows nodes names due → AreDueKept lows (set nodes k n) names new
 note_next nodes names due new k n same within is lows are = due_set lows nodes names due k n (set nodes k n) names new are within refl refl is
 
 pub noted_is : (nodes : List Node) (k : ℕ) (first second m : Node) (b : Bool) → k < length nodes → first ≡ get_or nodes k first → second ≡ get_or nodes k second → b ≡ is_dirty first → m ≡ noted_as b second →
@@ -316,7 +316,7 @@ tail_rises : (e : Name × ℕ) (lows : List (Name × ℕ)) → IsRising (e ∷ l
 unfolding IsStrictlySortedBy
 tail_rises e lows up = up.1
 
-pub count_is : (lows : List (Name × ℕ)) (nodes : List Node) (names : List (Option Name)) (due : List (Option ℕ)) → AreDue lows nodes names due → count_due (placed lows nodes) ≡ count_numbers due
+pub count_is : (lows : List (Name × ℕ)) (nodes : List Node) (names : List (Option Name)) (due : List (Option ℕ)) → AreDueKept lows nodes names due → count_due (placed lows nodes) ≡ count_numbers due
 count_is [] nodes names due are = sym (count_no due (λ i. are.numbers i ∙ by_name i (name_in names i) refl))
   where
     by_name : (i : ℕ) (o : Option Name) → name_in names i ≡ o → due_number o (node_at nodes i) ≡ None

@@ -5,24 +5,24 @@ use Rattle.std.proofs.lemmas.Bool.Decides.{nat_tests}
 use Rattle.std.proofs.lemmas.List.{get_or_past, length-set, length_push, set-get_or}
 use Rattle.std.proofs.lemmas.List.Sums.{count_by-le-length, sum_by-append, sum_by-cons, sum_by-set}
 use Rattle.std.proofs.lemmas.Option.{none-some, same_Some}
-use Rattle.tree_nodes.specs.Due.{AreLeast, AreLeastBut, IsLeastNumber, count_numbers, found_in, least_at, lesser, number_in, own_in}
+use Rattle.tree_nodes.specs.Due.{AreLeast, AreLeastBut, IsLeastNumber, count_numbers, least_found, least_at, lesser, number_in, own_number}
 
 -- ---- a number changes
 
 stays : (numbers : List (Option ℕ)) (least : List (Option (ℕ × ℕ))) (place : ℕ) (found : Option (ℕ × ℕ)) (i : ℕ) → (2 * i + 1 ≡ place → ⊥) → (2 * i + 2 ≡ place → ⊥) → least_at numbers (set least place found) i ≡ least_at numbers least i
 stays numbers least place found i one two =
-    ap₂ (λ (a b : Option (ℕ × ℕ)). lesser (own_in numbers i) (lesser a b)) (get_or-set_other least place (2 * i + 1) found None one) (get_or-set_other least place (2 * i + 2) found None two)
+    ap₂ (λ (a b : Option (ℕ × ℕ)). lesser (own_number numbers i) (lesser a b)) (get_or-set_other least place (2 * i + 1) found None one) (get_or-set_other least place (2 * i + 2) found None two)
 
 -- what stands at a place is right where it was found from the two below it
 set_each : (numbers : List (Option ℕ)) (least : List (Option (ℕ × ℕ))) (place : ℕ) (found : Option (ℕ × ℕ)) (i : ℕ) → place < length least → found ≡ least_at numbers least place →
-    ((i ≡ place → ⊥) → found_in least i ≡ least_at numbers least i) → (2 * i + 1 ≡ place → ⊥) → (2 * i + 2 ≡ place → ⊥) → found_in (set least place found) i ≡ least_at numbers (set least place found) i
+    ((i ≡ place → ⊥) → least_found least i ≡ least_at numbers least i) → (2 * i + 1 ≡ place → ⊥) → (2 * i + 2 ≡ place → ⊥) → least_found (set least place found) i ≡ least_at numbers (set least place found) i
 set_each numbers least place found i within is own one two = by_place (cases_eq i place)
   where
-    here : found_in (set least place found) place ≡ least_at numbers (set least place found) place
+    here : least_found (set least place found) place ≡ least_at numbers (set least place found) place
     here = get_or-set_same least place found None within ∙ is ∙ sym (stays numbers least place found place (λ e. omega (arith, e)) (λ e. omega (arith, e)))
 
-    by_place : (i ≡ place) ⊎ (i ≡ place → ⊥) → found_in (set least place found) i ≡ least_at numbers (set least place found) i
-    by_place (inl same) = subst (λ (j : ℕ). found_in (set least place found) j ≡ least_at numbers (set least place found) j) (sym same) here
+    by_place : (i ≡ place) ⊎ (i ≡ place → ⊥) → least_found (set least place found) i ≡ least_at numbers (set least place found) i
+    by_place (inl same) = subst (λ (j : ℕ). least_found (set least place found) j ≡ least_at numbers (set least place found) j) (sym same) here
     by_place (inr other) = get_or-set_other least place i found None other ∙ own other ∙ sym (stays numbers least place found i one two)
 
 pub settled_on : (numbers : List (Option ℕ)) (least : List (Option (ℕ × ℕ))) (place : ℕ) (found : Option (ℕ × ℕ)) → place < length least → 0 < place → found ≡ least_at numbers least place →
@@ -49,7 +49,7 @@ settled_top numbers least place found within top is but = record {
 pub number_set : (numbers : List (Option ℕ)) (least : List (Option (ℕ × ℕ))) (place : ℕ) (n : Option ℕ) → AreLeast numbers least → AreLeastBut place (set numbers place n) least
 number_set numbers least place n are = record {
   size = are.size ∙ sym (length-set numbers place n);
-  each = λ i other. are.each i ∙ ap (λ (o : Option ℕ). lesser (option_map (λ n. (n, i)) o) (lesser (found_in least (2 * i + 1)) (found_in least (2 * i + 2)))) (sym (get_or-set_other numbers place i n None other));
+  each = λ i other. are.each i ∙ ap (λ (o : Option ℕ). lesser (option_map (λ n. (n, i)) o) (lesser (least_found least (2 * i + 1)) (least_found least (2 * i + 2)))) (sym (get_or-set_other numbers place i n None other));
 }
 
 -- to set what is there changes nothing
@@ -72,8 +72,8 @@ more numbers least are = record {
   where
     same : (i : ℕ) → least_at (numbers ++ None ∷ []) (least ++ None ∷ []) i ≡ least_at numbers least i
     same i =
-        ap (λ (o : Option ℕ). lesser (option_map (λ n. (n, i)) o) (lesser (found_in (least ++ None ∷ []) (2 * i + 1)) (found_in (least ++ None ∷ []) (2 * i + 2)))) (none_more numbers i)
-        ∙ ap₂ (λ (a b : Option (ℕ × ℕ)). lesser (own_in numbers i) (lesser a b)) (none_more least (2 * i + 1)) (none_more least (2 * i + 2))
+        ap (λ (o : Option ℕ). lesser (option_map (λ n. (n, i)) o) (lesser (least_found (least ++ None ∷ []) (2 * i + 1)) (least_found (least ++ None ∷ []) (2 * i + 2)))) (none_more numbers i)
+        ∙ ap₂ (λ (a b : Option (ℕ × ℕ)). lesser (own_number numbers i) (lesser a b)) (none_more least (2 * i + 1)) (none_more least (2 * i + 2))
 
 pub one_more : (numbers kept new : List (Option ℕ)) (least kept_least new_least : List (Option (ℕ × ℕ))) → kept ≡ numbers → new ≡ kept ++ None ∷ [] → kept_least ≡ least → new_least ≡ kept_least ++ None ∷ [] →
     AreLeast numbers least → AreLeast new new_least
@@ -161,76 +161,76 @@ lesser_is (Some a) (Some b) e is = by_test (nat_lt b.0 a.0) is
     by_test true h = inr h
     by_test false h = inl h
 
-own_upto : (numbers : List (Option ℕ)) (least : List (Option (ℕ × ℕ))) → AreLeast numbers least → (i : ℕ) → IsFoundUpTo (found_in least i) (own_in numbers i)
+own_upto : (numbers : List (Option ℕ)) (least : List (Option (ℕ × ℕ))) → AreLeast numbers least → (i : ℕ) → IsFoundUpTo (least_found least i) (own_number numbers i)
 own_upto numbers least are i =
-    subst (λ (o : Option (ℕ × ℕ)). IsFoundUpTo o (own_in numbers i)) (sym (are.each i)) (lesser_left (own_in numbers i) (lesser (found_in least (2 * i + 1)) (found_in least (2 * i + 2))))
+    subst (λ (o : Option (ℕ × ℕ)). IsFoundUpTo o (own_number numbers i)) (sym (are.each i)) (lesser_left (own_number numbers i) (lesser (least_found least (2 * i + 1)) (least_found least (2 * i + 2))))
 
-first_upto : (numbers : List (Option ℕ)) (least : List (Option (ℕ × ℕ))) → AreLeast numbers least → (i : ℕ) → IsFoundUpTo (found_in least i) (found_in least (2 * i + 1))
+first_upto : (numbers : List (Option ℕ)) (least : List (Option (ℕ × ℕ))) → AreLeast numbers least → (i : ℕ) → IsFoundUpTo (least_found least i) (least_found least (2 * i + 1))
 first_upto numbers least are i =
-    let one = found_in least (2 * i + 1) in
-    let two = found_in least (2 * i + 2) in
-    subst (λ (o : Option (ℕ × ℕ)). IsFoundUpTo o one) (sym (are.each i)) (upto_trans (lesser (own_in numbers i) (lesser one two)) (lesser one two) one (lesser_right (own_in numbers i) (lesser one two)) (lesser_left one two))
+    let one = least_found least (2 * i + 1) in
+    let two = least_found least (2 * i + 2) in
+    subst (λ (o : Option (ℕ × ℕ)). IsFoundUpTo o one) (sym (are.each i)) (upto_trans (lesser (own_number numbers i) (lesser one two)) (lesser one two) one (lesser_right (own_number numbers i) (lesser one two)) (lesser_left one two))
 
-second_upto : (numbers : List (Option ℕ)) (least : List (Option (ℕ × ℕ))) → AreLeast numbers least → (i : ℕ) → IsFoundUpTo (found_in least i) (found_in least (2 * i + 2))
+second_upto : (numbers : List (Option ℕ)) (least : List (Option (ℕ × ℕ))) → AreLeast numbers least → (i : ℕ) → IsFoundUpTo (least_found least i) (least_found least (2 * i + 2))
 second_upto numbers least are i =
-    let one = found_in least (2 * i + 1) in
-    let two = found_in least (2 * i + 2) in
-    subst (λ (o : Option (ℕ × ℕ)). IsFoundUpTo o two) (sym (are.each i)) (upto_trans (lesser (own_in numbers i) (lesser one two)) (lesser one two) two (lesser_right (own_in numbers i) (lesser one two)) (lesser_right one two))
+    let one = least_found least (2 * i + 1) in
+    let two = least_found least (2 * i + 2) in
+    subst (λ (o : Option (ℕ × ℕ)). IsFoundUpTo o two) (sym (are.each i)) (upto_trans (lesser (own_number numbers i) (lesser one two)) (lesser one two) two (lesser_right (own_number numbers i) (lesser one two)) (lesser_right one two))
 
 -- a place is one of the two below another one
-below_half : (numbers : List (Option ℕ)) (least : List (Option (ℕ × ℕ))) → AreLeast numbers least → (j : ℕ) → IsFoundUpTo (found_in least (j / 2)) (found_in least (j + 1))
+below_half : (numbers : List (Option ℕ)) (least : List (Option (ℕ × ℕ))) → AreLeast numbers least → (j : ℕ) → IsFoundUpTo (least_found least (j / 2)) (least_found least (j + 1))
 below_half numbers least are j = by_side (cases_eq (j + 1) (2 * (j / 2) + 1))
   where
-    by_side : (j + 1 ≡ 2 * (j / 2) + 1) ⊎ (j + 1 ≡ 2 * (j / 2) + 1 → ⊥) → IsFoundUpTo (found_in least (j / 2)) (found_in least (j + 1))
-    by_side (inl one) = subst (λ (k : ℕ). IsFoundUpTo (found_in least (j / 2)) (found_in least k)) (sym one) (first_upto numbers least are (j / 2))
+    by_side : (j + 1 ≡ 2 * (j / 2) + 1) ⊎ (j + 1 ≡ 2 * (j / 2) + 1 → ⊥) → IsFoundUpTo (least_found least (j / 2)) (least_found least (j + 1))
+    by_side (inl one) = subst (λ (k : ℕ). IsFoundUpTo (least_found least (j / 2)) (least_found least k)) (sym one) (first_upto numbers least are (j / 2))
     by_side (inr other) =
         let two : j + 1 ≡ 2 * (j / 2) + 2 = omega (arith, other) in
-        subst (λ (k : ℕ). IsFoundUpTo (found_in least (j / 2)) (found_in least k)) (sym two) (second_upto numbers least are (j / 2))
+        subst (λ (k : ℕ). IsFoundUpTo (least_found least (j / 2)) (least_found least k)) (sym two) (second_upto numbers least are (j / 2))
 
-root_upto : (numbers : List (Option ℕ)) (least : List (Option (ℕ × ℕ))) → AreLeast numbers least → (count i : ℕ) → i ≤ count → IsFoundUpTo (found_in least 0) (found_in least i)
-root_upto numbers least are count zero le = upto_same (found_in least 0)
+root_upto : (numbers : List (Option ℕ)) (least : List (Option (ℕ × ℕ))) → AreLeast numbers least → (count i : ℕ) → i ≤ count → IsFoundUpTo (least_found least 0) (least_found least i)
+root_upto numbers least are count zero le = upto_same (least_found least 0)
 root_upto numbers least are zero (suc i) le = absurd (omega (arith, le))
 root_upto numbers least are (suc count) (suc i) le =
     let next : i + 1 ≡ suc i = omega arith in
-    upto_trans (found_in least 0) (found_in least (i / 2)) (found_in least (suc i)) (root_upto numbers least are count (i / 2) (omega (arith, le)))
-    (subst (λ (k : ℕ). IsFoundUpTo (found_in least (i / 2)) (found_in least k)) next (below_half numbers least are i))
+    upto_trans (least_found least 0) (least_found least (i / 2)) (least_found least (suc i)) (root_upto numbers least are count (i / 2) (omega (arith, le)))
+    (subst (λ (k : ℕ). IsFoundUpTo (least_found least (i / 2)) (least_found least k)) next (below_half numbers least are i))
 
-number_upto : (numbers : List (Option ℕ)) (least : List (Option (ℕ × ℕ))) → AreLeast numbers least → (i m : ℕ) → number_in numbers i ≡ Some m → IsFoundUpTo (found_in least 0) (Some (m, i))
+number_upto : (numbers : List (Option ℕ)) (least : List (Option (ℕ × ℕ))) → AreLeast numbers least → (i m : ℕ) → number_in numbers i ≡ Some m → IsFoundUpTo (least_found least 0) (Some (m, i))
 number_upto numbers least are i m is =
-    subst (λ (o : Option ℕ). IsFoundUpTo (found_in least 0) (option_map (λ n. (n, i)) o)) is
-    (upto_trans (found_in least 0) (found_in least i) (own_in numbers i) (root_upto numbers least are i i (omega arith)) (own_upto numbers least are i))
+    subst (λ (o : Option ℕ). IsFoundUpTo (least_found least 0) (option_map (λ n. (n, i)) o)) is
+    (upto_trans (least_found least 0) (least_found least i) (own_number numbers i) (root_upto numbers least are i i (omega arith)) (own_upto numbers least are i))
 
 -- what is found is a number with its place
-own_there : (numbers : List (Option ℕ)) (i : ℕ) (e : ℕ × ℕ) → own_in numbers i ≡ Some e → number_in numbers e.1 ≡ Some e.0
+own_there : (numbers : List (Option ℕ)) (i : ℕ) (e : ℕ × ℕ) → own_number numbers i ≡ Some e → number_in numbers e.1 ≡ Some e.0
 own_there numbers i e is = by_number (number_in numbers i) refl is
   where
     by_number : (o : Option ℕ) → number_in numbers i ≡ o → option_map (λ n. (n, i)) o ≡ Some e → number_in numbers e.1 ≡ Some e.0
     by_number None at h = absurd (none-some e h)
     by_number (Some n) at h = subst (λ (x : ℕ × ℕ). number_in numbers x.1 ≡ Some x.0) (same_Some (n, i) e h) at
 
-found_there : (numbers : List (Option ℕ)) (least : List (Option (ℕ × ℕ))) → AreLeast numbers least → (count i : ℕ) → length least ≤ i + count → (e : ℕ × ℕ) → found_in least i ≡ Some e → number_in numbers e.1 ≡ Some e.0
+found_there : (numbers : List (Option ℕ)) (least : List (Option (ℕ × ℕ))) → AreLeast numbers least → (count i : ℕ) → length least ≤ i + count → (e : ℕ × ℕ) → least_found least i ≡ Some e → number_in numbers e.1 ≡ Some e.0
 found_there numbers least are zero i le e is = absurd (none-some e (sym (get_or_past least i None (omega (arith, le))) ∙ is))
 found_there numbers least are (suc count) i le e is =
     by_part (λ one. found_there numbers least are count (2 * i + 1) (omega (arith, le)) e one) (λ two. found_there numbers least are count (2 * i + 2) (omega (arith, le)) e two)
-    (lesser_is (own_in numbers i) (lesser (found_in least (2 * i + 1)) (found_in least (2 * i + 2))) e (sym (are.each i) ∙ is))
+    (lesser_is (own_number numbers i) (lesser (least_found least (2 * i + 1)) (least_found least (2 * i + 2))) e (sym (are.each i) ∙ is))
   where
-    by_part : (found_in least (2 * i + 1) ≡ Some e → number_in numbers e.1 ≡ Some e.0) → (found_in least (2 * i + 2) ≡ Some e → number_in numbers e.1 ≡ Some e.0) →
-        (own_in numbers i ≡ Some e) ⊎ (lesser (found_in least (2 * i + 1)) (found_in least (2 * i + 2)) ≡ Some e) → number_in numbers e.1 ≡ Some e.0
+    by_part : (least_found least (2 * i + 1) ≡ Some e → number_in numbers e.1 ≡ Some e.0) → (least_found least (2 * i + 2) ≡ Some e → number_in numbers e.1 ≡ Some e.0) →
+        (own_number numbers i ≡ Some e) ⊎ (lesser (least_found least (2 * i + 1)) (least_found least (2 * i + 2)) ≡ Some e) → number_in numbers e.1 ≡ Some e.0
     by_part first second (inl own) = own_there numbers i e own
-    by_part first second (inr below) = by_side (lesser_is (found_in least (2 * i + 1)) (found_in least (2 * i + 2)) e below)
+    by_part first second (inr below) = by_side (lesser_is (least_found least (2 * i + 1)) (least_found least (2 * i + 2)) e below)
       where
-        by_side : (found_in least (2 * i + 1) ≡ Some e) ⊎ (found_in least (2 * i + 2) ≡ Some e) → number_in numbers e.1 ≡ Some e.0
+        by_side : (least_found least (2 * i + 1) ≡ Some e) ⊎ (least_found least (2 * i + 2) ≡ Some e) → number_in numbers e.1 ≡ Some e.0
         by_side (inl one) = first one
         by_side (inr two) = second two
 
-pub least_there : (numbers : List (Option ℕ)) (least : List (Option (ℕ × ℕ))) (e : ℕ × ℕ) → AreLeast numbers least → found_in least 0 ≡ Some e → IsLeastNumber numbers e.1
+pub least_there : (numbers : List (Option ℕ)) (least : List (Option (ℕ × ℕ))) (e : ℕ × ℕ) → AreLeast numbers least → least_found least 0 ≡ Some e → IsLeastNumber numbers e.1
 least_there numbers least e are is = record {
   number = e.0;
   there = found_there numbers least are (length least) 0 (omega arith) e is;
   upto = λ i m at. subst (λ (o : Option (ℕ × ℕ)). IsFoundUpTo o (Some (m, i))) is (number_upto numbers least are i m at);
 }
 
-pub least_none : (numbers : List (Option ℕ)) (least : List (Option (ℕ × ℕ))) → AreLeast numbers least → found_in least 0 ≡ None → (i : ℕ) → number_in numbers i ≡ None
+pub least_none : (numbers : List (Option ℕ)) (least : List (Option (ℕ × ℕ))) → AreLeast numbers least → least_found least 0 ≡ None → (i : ℕ) → number_in numbers i ≡ None
 least_none numbers least are none i = by_number (number_in numbers i) refl
   where
     by_number : (o : Option ℕ) → number_in numbers i ≡ o → o ≡ None

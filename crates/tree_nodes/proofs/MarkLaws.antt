@@ -8,7 +8,7 @@ use Rattle.record_map.specs.Cells.{value_at}
 use Rattle.tree_nodes.specs.declared.node.Node.{Node}
 use Rattle.tree_nodes.specs.Nodes.{NodeRow, node_at, placed}
 use Rattle.tree_nodes.specs.Levels.{row_of}
-use Rattle.tree_nodes.specs.Due.{AreDue, name_in}
+use Rattle.tree_nodes.specs.Due.{AreDueKept, name_in}
 use Rattle.tree_nodes.specs.Marks.{AllFrom, AllSince, IsFromRow, IsMarkOr, IsMarkOrAt, IsMarkOrOfRow, IsSinceRow, before_at, before_of, is_before, is_marked_before, mark_at, mark_of}
 use Rattle.tree_nodes.proofs.Places.{value_placed}
 use Rattle.tree_nodes.proofs.DuePlaces.{place_is}
@@ -52,19 +52,19 @@ mark_more bound names nodes k a b (inr is) h = inr (k, is)
 
 -- ---- a level
 
-pub since_row : (since : ℕ) (lows : List (Name × ℕ)) (nodes : List Node) (names : List (Option Name)) (due : List (Option ℕ)) → AreDue lows nodes names due → ((i : ℕ) → before_at since names nodes i ≡ false) →
+pub since_row : (since : ℕ) (lows : List (Name × ℕ)) (nodes : List Node) (names : List (Option Name)) (due : List (Option ℕ)) → AreDueKept lows nodes names due → ((i : ℕ) → before_at since names nodes i ≡ false) →
     IsSinceRow since (placed lows nodes)
 since_row since lows nodes names due are none low n there =
     let p = place_is lows nodes low n there in
     subst (λ (m : Node). is_before since m ≡ false) p.2 (ap (λ (o : Option Name). before_of since o (node_at nodes p.0)) (sym (are.named low p.0 p.1)) ∙ none p.0)
 
-pub from_row : (least : ℕ) (lows : List (Name × ℕ)) (nodes : List Node) (names : List (Option Name)) (due : List (Option ℕ)) → AreDue lows nodes names due → ((i : ℕ) → is_marked_before (mark_at names nodes i) least ≡ false) →
+pub from_row : (least : ℕ) (lows : List (Name × ℕ)) (nodes : List Node) (names : List (Option Name)) (due : List (Option ℕ)) → AreDueKept lows nodes names due → ((i : ℕ) → is_marked_before (mark_at names nodes i) least ≡ false) →
     IsFromRow least (placed lows nodes)
 from_row least lows nodes names due are none low n there =
     let p = place_is lows nodes low n there in
     subst (λ (m : Node). is_marked_before m.from least ≡ false) p.2 (ap (λ (o : Option Name). is_marked_before (mark_of o (node_at nodes p.0)) least) (sym (are.named low p.0 p.1)) ∙ none p.0)
 
-pub mark_row : (bound : ℕ) (lows : List (Name × ℕ)) (nodes : List Node) (names : List (Option Name)) (due : List (Option ℕ)) (lsn : ℕ) → AreDue lows nodes names due → IsMarkOrAt bound names nodes lsn →
+pub mark_row : (bound : ℕ) (lows : List (Name × ℕ)) (nodes : List Node) (names : List (Option Name)) (due : List (Option ℕ)) (lsn : ℕ) → AreDueKept lows nodes names due → IsMarkOrAt bound names nodes lsn →
     IsMarkOrOfRow bound (placed lows nodes) lsn
 mark_row bound lows nodes names due lsn are (inl same) = inl same
 mark_row bound lows nodes names due lsn are (inr (i, is)) = by_name (name_in names i) refl is

@@ -19,26 +19,26 @@ lesser (Some a) None = Some a
 lesser (Some a) (Some b) = if nat_lt b.0 a.0 then Some b else Some a
 
 -- what is found for a place; nothing behind the last
-abbrev pub found_in : List (Option (ℕ × ℕ)) → ℕ → Option (ℕ × ℕ)
-found_in least place = slice_index_or least place None
+abbrev pub least_found : List (Option (ℕ × ℕ)) → ℕ → Option (ℕ × ℕ)
+least_found least place = slice_index_or least place None
 
 -- the number of a place, with the place
-abbrev pub own_in : List (Option ℕ) → ℕ → Option (ℕ × ℕ)
-own_in numbers place = option_map (λ n. (n, place)) (number_in numbers place)
+abbrev pub own_number : List (Option ℕ) → ℕ → Option (ℕ × ℕ)
+own_number numbers place = option_map (λ n. (n, place)) (number_in numbers place)
 
 -- the least of a place's number and of what is found for the two places below it
 abbrev pub least_at : List (Option ℕ) → List (Option (ℕ × ℕ)) → ℕ → Option (ℕ × ℕ)
-least_at numbers least place = lesser (own_in numbers place) (lesser (found_in least (2 * place + 1)) (found_in least (2 * place + 2)))
+least_at numbers least place = lesser (own_number numbers place) (lesser (least_found least (2 * place + 1)) (least_found least (2 * place + 2)))
 
 -- for each place that is found
 pub record AreLeast (numbers : List (Option ℕ)) (least : List (Option (ℕ × ℕ))) : Type 0 where
   pub size : length least ≡ length numbers
-  pub each : (i : ℕ) → found_in least i ≡ least_at numbers least i
+  pub each : (i : ℕ) → least_found least i ≡ least_at numbers least i
 
 -- for each place but one
 pub record AreLeastBut (but : ℕ) (numbers : List (Option ℕ)) (least : List (Option (ℕ × ℕ))) : Type 0 where
   pub size : length least ≡ length numbers
-  pub each : (i : ℕ) → (i ≡ but → ⊥) → found_in least i ≡ least_at numbers least i
+  pub each : (i : ℕ) → (i ≡ but → ⊥) → least_found least i ≡ least_at numbers least i
 
 -- a number is the least one
 pub record IsLeastNumber (numbers : List (Option ℕ)) (place : ℕ) : Type 0 where
@@ -56,7 +56,7 @@ abbrev pub count_numbers : List (Option ℕ) → ℕ
 count_numbers numbers = count_by is_some numbers
 
 -- the least ones are found for all places, and there are so many numbers
-pub record AreFound (numbers : List (Option ℕ)) (least : List (Option (ℕ × ℕ))) (count : ℕ) : Type 0 where
+pub record AreLeastKept (numbers : List (Option ℕ)) (least : List (Option (ℕ × ℕ))) (count : ℕ) : Type 0 where
   pub found : AreLeast numbers least
   pub counted : count ≡ count_numbers numbers
 
@@ -72,7 +72,7 @@ due_number None n = None
 due_number (Some low) n = if is_due n then Some n.number else None
 
 -- lows stand at their places, and each place has the number of its node where that is due
-pub record AreDue (lows : List (Name × ℕ)) (nodes : List Node) (names : List (Option Name)) (due : List (Option ℕ)) : Type 0 where
+pub record AreDueKept (lows : List (Name × ℕ)) (nodes : List Node) (names : List (Option Name)) (due : List (Option ℕ)) : Type 0 where
   pub places : ArePlaces lows nodes
   pub count : length names ≡ length nodes
   pub covers : length nodes ≤ length due

@@ -19,13 +19,13 @@ pub(crate) struct DueNumbers {
 
 impl Model for DueNumbers {
     ghost use Rattle.std.specs.Prelude.{ℕ, List as Items, Option as Maybe};
-    ghost use Rattle.tree_nodes.specs.Due.{AreFound};
+    ghost use Rattle.tree_nodes.specs.Due.{AreLeastKept};
 
     ghost Value = { Items (Maybe ℕ) };
 
     ghost view = { λ a. a.numbers.items };
 
-    ghost invariant = { λ a. AreFound a.numbers.items a.least.items a.count };
+    ghost invariant = { λ a. AreLeastKept a.numbers.items a.least.items a.count };
 }
 
 // The lesser of two numbers with their places, where there are both.

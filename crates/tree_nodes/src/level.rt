@@ -15,7 +15,7 @@ ghost use Rattle.je_order.specs.Edges.{is_between};
 ghost use Rattle.tree_nodes.specs.Lows.{low_up_to};
 ghost use Rattle.tree_nodes.specs.Noted.{NextDue, count_due, has_noted_child, is_low_over, noted_row};
 ghost use Rattle.tree_nodes.specs.Marks.{IsFromRow, IsMarkOrOfRow, IsSinceRow};
-ghost use Rattle.tree_nodes.specs.Due.{AreDue, due_number, name_in, number_in, without};
+ghost use Rattle.tree_nodes.specs.Due.{AreDueKept, due_number, name_in, number_in, without};
 ghost use Rattle.tree_nodes.specs.Nodes.{least, IsUpTo, IsOver, IsLowOver, HasMarked, HasUnmarked, low_behind, HasPut, HasTaken, is_dirty, marked, node_at, placed, ArePlaces};
 
 use crate::Node;
@@ -45,13 +45,13 @@ pub struct Level {
 
 impl Model for Level {
     ghost use Rattle.tree_nodes.specs.Nodes.{NodeRow, placed};
-    ghost use Rattle.tree_nodes.specs.Due.{AreDue};
+    ghost use Rattle.tree_nodes.specs.Due.{AreDueKept};
 
     ghost Value = { NodeRow };
 
     ghost view = { λ a. placed a.lows.entries a.nodes.items };
 
-    ghost invariant = { λ a. AreDue a.lows.entries a.nodes.items a.names.items a.due };
+    ghost invariant = { λ a. AreDueKept a.lows.entries a.nodes.items a.names.items a.due };
 }
 
 #[tactic(auto, using(record_map::proofs::EdgeLaws::last_is))]
@@ -230,7 +230,7 @@ fn note_each(nodes: &mut [Node], names: &[Option<SortKey>], due: &mut DueNumbers
     requires same { length names.now ≡ length nodes.old }
     requires covers { length nodes.old ≤ length due.old }
     ensures size { length nodes.new ≡ length nodes.old }
-    ensures due { (lows : Items (Name × ℕ)) → AreDue lows nodes.old names.now due.old → AreDue lows nodes.new names.now due.new }
+    ensures due { (lows : Items (Name × ℕ)) → AreDueKept lows nodes.old names.now due.old → AreDueKept lows nodes.new names.now due.new }
     ensures noted { (lows : Items (Name × ℕ)) → AllByRecursion (λ e. e.1 < length nodes.old) lows → placed lows nodes.new ≡ noted_row (λ e. is_dirty e.1) (placed lows nodes.old) }
 {
     for place in 0..nodes.len() {

@@ -3,7 +3,7 @@ use Rattle.std.specs.List.{flat_map}
 use Rattle.log_trees.specs.Images.{slot_shown}
 use Rattle.log_trees.specs.Bounds.{Child, children}
 use Rattle.log_trees.specs.Walk.{read_child, read_node}
-use Rattle.recovery_je.specs.Putting.{loaded, child_put}
+use Rattle.recovery_je.specs.Putting.{as_loaded, child_put}
 use Rattle.recovery_je.specs.Walking.{IsWalking, waiting}
 use Rattle.recovery_je.proofs.PutLaws.{IsPuttingOn, putting_on, put_node_then, put_one}
 use Rattle.recovery_je.proofs.WalkLaws.{IsWalkingOn, walking_on}
@@ -25,12 +25,12 @@ read_node-returns-clause-walk g t c walk at =
 
 pub read_node-returns-clause-nodes : goal.read_node-returns-clause-nodes
 read_node-returns-clause-nodes g t c =
-    put_node_then (loaded g.T.Loads.nodes g.T.Loads.read) c.args.entries.now c.args.d c.args.above c.args.low.now (option_copied c.args.high) c.args.at c.in_ok-node.node c.as_slice.result.now c.args.walking.now c.take_node.new.walking
+    put_node_then (as_loaded g.T.Loads.nodes g.T.Loads.read) c.args.entries.now c.args.d c.args.above c.args.low.now (option_copied c.args.high) c.args.at c.in_ok-node.node c.as_slice.result.now c.args.walking.now c.take_node.new.walking
     c.read_below-done.new.walking c.read_below-done.result c.as_slice.ensures.value c.in_ok-node.ensures.nodes c.read_below-done.ensures.nodes
 
 pub read_pending-returns-clause-nodes : goal.read_pending-returns-clause-nodes
 read_pending-returns-clause-nodes g t c =
-    rw c.in-Some.is (put_one (loaded g.T.Loads.nodes g.T.Loads.read) (child_put c.args.entries.now c.args.d c.args.above) (record { low = c.args.low.now; high = option_copied c.args.high; at = c.in-Some.child.now })
+    rw c.in-Some.is (put_one (as_loaded g.T.Loads.nodes g.T.Loads.read) (child_put c.args.entries.now c.args.d c.args.above) (record { low = c.args.low.now; high = option_copied c.args.high; at = c.in-Some.child.now })
     c.args.walking.now c.read_node.new.walking c.read_node.result c.read_node.ensures.nodes)
 
 pub read_children-loop-marked-preserved : goal.read_children-loop-marked-preserved
@@ -55,7 +55,7 @@ read_children-loop-marked-preserved g t c =
           walking_on (read_child files (read_node files es c.args.d c.args.above) c.args.at) all left more rest
           (IsWalking (g.T.Loads.stored before.trees) before.seen.keys before.node before.db) (IsWalking (g.T.Loads.stored after.trees) after.seen.keys after.node after.db) walk
           step (c.loop-marked.invariant.walk walk at) c.in_ok-read_pending.ensures.walk;
-      nodes = putting_on (loaded g.T.Loads.nodes g.T.Loads.read) (child_put es c.args.d c.args.above) all left rest more c.args.walking.now before after step c.loop-marked.invariant.nodes c.in_ok-read_pending.ensures.nodes;
+      nodes = putting_on (as_loaded g.T.Loads.nodes g.T.Loads.read) (child_put es c.args.d c.args.above) all left rest more c.args.walking.now before after step c.loop-marked.invariant.nodes c.in_ok-read_pending.ensures.nodes;
     }
 
 -- the child that waits has no name within the bounds
@@ -73,5 +73,5 @@ read_children-loop-marked-preserved-then-not-child_ends_at g t c =
       walk = λ walk at.
           subst (λ (l : List Child). IsWalkingOn (read_child files (read_node files es c.args.d c.args.above) c.args.at) all l (IsWalking (g.T.Loads.stored walking.trees) walking.seen.keys walking.node walking.db) walk) step
           (c.loop-marked.invariant.walk walk at);
-      nodes = subst (λ (l : List Child). IsPuttingOn (loaded g.T.Loads.nodes g.T.Loads.read) (child_put es c.args.d c.args.above) all l c.args.walking.now walking) step c.loop-marked.invariant.nodes;
+      nodes = subst (λ (l : List Child). IsPuttingOn (as_loaded g.T.Loads.nodes g.T.Loads.read) (child_put es c.args.d c.args.above) all l c.args.walking.now walking) step c.loop-marked.invariant.nodes;
     }

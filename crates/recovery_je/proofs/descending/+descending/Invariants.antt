@@ -5,7 +5,7 @@ use Rattle.log_trees.specs.Sound.{children}
 use Rattle.log_trees.specs.Walk.{Walk, read_child, read_node}
 use Rattle.recovery_je.specs.Walking.{IsWalking}
 use Rattle.recovery_je.proofs.WalkLaws.{IsWalkingOn}
-use Rattle.recovery_je.specs.Putting.{loaded, child_put}
+use Rattle.recovery_je.specs.Putting.{as_loaded, child_put}
 use Rattle.recovery_je.proofs.NodeWalks.{children_left}
 use Rattle.recovery_je.proofs.PutLaws.{IsPuttingOn}
 use Rattle.recovery_je.proofs.descending.+descending.Given as goal
@@ -29,6 +29,6 @@ invariant-read_children-loop-marked g l = record {
       IsWalkingOn (read_child (map (λ f. f.0) l.files) (read_node (map (λ f. f.0) l.files) l.entries l.d l.above) l.at) (children l.initial.low (option_copied l.high) (flat_map slot_shown l.slots))
       (children_left l.low (option_copied l.high) (option_copied l.pending) (flat_map slot_shown (drop l.marked-index l.slots)))
       (IsWalking (g.T.Loads.stored l.walking.trees) l.walking.seen.keys l.walking.node l.walking.db) walk;
-  nodes : IsPuttingOn (loaded g.T.Loads.nodes g.T.Loads.read) (child_put l.entries l.d l.above) (children l.initial.low (option_copied l.high) (flat_map slot_shown l.slots))
+  nodes : IsPuttingOn (as_loaded g.T.Loads.nodes g.T.Loads.read) (child_put l.entries l.d l.above) (children l.initial.low (option_copied l.high) (flat_map slot_shown l.slots))
       (children_left l.low (option_copied l.high) (option_copied l.pending) (flat_map slot_shown (drop l.marked-index l.slots))) l.initial.walking l.walking;
 }

@@ -4,7 +4,7 @@ use Rattle.log_trees.proofs.Right.{here-is}
 use Rattle.log_trees.specs.Walk.{read_here}
 use Rattle.record_tree.specs.LoadedNodes.{node_read, HasPutNode}
 use Rattle.record_tree.specs.LoadedSlots.{shows_deletion_inside, HasGone}
-use Rattle.recovery_je.specs.Putting.{loaded}
+use Rattle.recovery_je.specs.Putting.{as_loaded}
 use Rattle.recovery_je.specs.Walking.{IsWalking}
 use Rattle.recovery_je.proofs.NodeWalks.{here_same, not_met}
 use Rattle.recovery_je.proofs.PutLaws.{put_so, node_put}
@@ -26,6 +26,6 @@ pub returns-clause-nodes : goal.returns-clause-nodes
 returns-clause-nodes g c =
     let node = c.in_ok-node.node in
     let is = here-is (map (λ f. f.0) c.args.files.now) c.args.entries.now c.args.d c.args.level c.args.at c.args.walking.now.seen.keys node c.in_ok-node.ensures in
-    put_so (loaded g.T.Loads.nodes g.T.Loads.read) (λ (keeps : Bool) (most : ℕ) (x y : Loaded). (node.number ≤ most) × HasPutNode x.nodes y.nodes node.db (node.level - 1) c.args.low.now (node_read node.number c.args.at keeps) × HasGone x.slots y.slots node.db (shows_deletion_inside c.args.low.now (option_copied c.args.high) node.slots) c.args.at)
+    put_so (as_loaded g.T.Loads.nodes g.T.Loads.read) (λ (keeps : Bool) (most : ℕ) (x y : Loaded). (node.number ≤ most) × HasPutNode x.nodes y.nodes node.db (node.level - 1) c.args.low.now (node_read node.number c.args.at keeps) × HasGone x.slots y.slots node.db (shows_deletion_inside c.args.low.now (option_copied c.args.high) node.slots) c.args.at)
     (λ (keeps : Bool) (most : ℕ). IsNodeLoaded c.args.entries.now keeps most c.args.d (c.args.level - 1) c.args.low.now (option_copied c.args.high) c.args.at node) c.args.walking.now c.meet.new.walking
     (node_put c.args.entries.now c.args.d c.args.level c.args.low.now (option_copied c.args.high) c.args.at node is.is is.db is.level_is) c.in_ok-meet.ensures.nodes

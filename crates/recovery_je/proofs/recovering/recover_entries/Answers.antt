@@ -7,7 +7,7 @@ use Rattle.log_meaning.specs.Checkpoint.{Checkpoint, no_checkpoint, last_checkpo
 use Rattle.log_meaning.specs.Meaning.{most, node_number, db_number}
 use Rattle.log_meaning.specs.Reading.{meaning_in, redo_corruption}
 use Rattle.recovery_je.specs.Recovering.{IsWalked, IsWrong}
-use Rattle.recovery_je.specs.Putting.{loaded, AreRootsPut, count_from}
+use Rattle.recovery_je.specs.Putting.{as_loaded, AreRootsPut, count_from}
 use Rattle.recovery_je.proofs.ReadAgain.{are_read}
 use Rattle.recovery_je.proofs.MeaningLaws.{meant, found_wrong, handed_on, same_stored}
 use Rattle.recovery_je.proofs.recovering.recover_entries.Goals as goal
@@ -71,7 +71,7 @@ returns-clause-fits g c =
     let walk = c.in_ok-walked.ensures.read.0 in
     let numbers = c.in_ok-walked.walked.numbers in
     let before = g.T.Loads.stored c.in_ok-walked.walked.trees in
-    let state = loaded g.T.Loads.nodes g.T.Loads.read in
+    let state = as_loaded g.T.Loads.nodes g.T.Loads.read in
     let after = state c.in_ok-walked.walked.trees in
     let begun = state c.args.trees in
     let read = c.begin_redo.new.self in

@@ -1,7 +1,7 @@
 use Rattle.std.proofs.Common.{Bool, ℕ, map, drop, ◌∷◌, [], ◌+◌}
 use Rattle.log_meaning.specs.ReadNodes.{IsRootLoaded}
 use Rattle.log_trees.specs.Walk.{read_root}
-use Rattle.recovery_je.specs.Putting.{loaded}
+use Rattle.recovery_je.specs.Putting.{as_loaded}
 use Rattle.recovery_je.specs.Walking.{IsWalking}
 use Rattle.recovery_je.proofs.PutLaws.{putting_on, put_so, each_one, next_left}
 use Rattle.recovery_je.proofs.WalkLaws.{walking_on, one_is}
@@ -22,6 +22,6 @@ loop-root-preserved g c =
           (IsWalking (g.T.Loads.stored before.trees) before.seen.keys before.node before.db) (IsWalking (g.T.Loads.stored after.trees) after.seen.keys after.node after.db) walk
           left (c.loop-root.invariant.walk walk at)
           (λ here is. one_is (read_root (map (λ f. f.0) c.args.files.now) es c.args.end) root here (IsWalking (g.T.Loads.stored after.trees) after.seen.keys after.node after.db) (c.in_ok-read_root.ensures.walk here is));
-      nodes = putting_on (loaded g.T.Loads.nodes g.T.Loads.read) (λ (keeps : Bool) (most : ℕ). IsRootLoaded es keeps most) roots (drop i roots) (drop (i + 1) roots) (root ∷ []) c.args.walking.now before after left c.loop-root.invariant.nodes
-          (put_so (loaded g.T.Loads.nodes g.T.Loads.read) (λ (keeps : Bool) (most : ℕ). IsRootLoaded es keeps most root) _ before after (λ keeps most. each_one (IsRootLoaded es keeps most) root) c.in_ok-read_root.ensures.nodes);
+      nodes = putting_on (as_loaded g.T.Loads.nodes g.T.Loads.read) (λ (keeps : Bool) (most : ℕ). IsRootLoaded es keeps most) roots (drop i roots) (drop (i + 1) roots) (root ∷ []) c.args.walking.now before after left c.loop-root.invariant.nodes
+          (put_so (as_loaded g.T.Loads.nodes g.T.Loads.read) (λ (keeps : Bool) (most : ℕ). IsRootLoaded es keeps most root) _ before after (λ keeps most. each_one (IsRootLoaded es keeps most) root) c.in_ok-read_root.ensures.nodes);
     }

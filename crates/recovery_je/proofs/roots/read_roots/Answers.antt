@@ -2,7 +2,7 @@ use Rattle.std.proofs.Common.{◌≡◌, ◌∙◌, ap, sym, subst, map, List, [
 use Rattle.log_entry.specs.declared.root.Root.{Root}
 use Rattle.log_trees.specs.Walk.{Walk, each, read_root, read_roots}
 use Rattle.log_meaning.specs.Checkpoint.{Checkpoint}
-use Rattle.recovery_je.specs.Putting.{loaded, are_whole}
+use Rattle.recovery_je.specs.Putting.{as_loaded, are_whole}
 use Rattle.recovery_je.proofs.MeaningLaws.{handed_on}
 use Rattle.log_meaning.specs.ReadNodes.{AreLoadedEach, IsRootLoaded}
 use Rattle.recovery_je.proofs.PutLaws.{all_whole}
@@ -40,5 +40,5 @@ returns-clause-nodes g c =
     record {
       keeps = c.entries.inside.whole;
       whole = λ t. all_whole es (sym (c.entries.invariant.1 ∙ ap are_whole c.entries.view_is) ∙ t);
-      put = λ most le. subst (λ (l : List Root). AreLoadedEach (IsRootLoaded es c.entries.inside.whole most) l (loaded g.T.Loads.nodes g.T.Loads.read c.args.trees) (loaded g.T.Loads.nodes g.T.Loads.read after.trees)) roots (c.in_ok-read_each.ensures.nodes.puts most le);
+      put = λ most le. subst (λ (l : List Root). AreLoadedEach (IsRootLoaded es c.entries.inside.whole most) l (as_loaded g.T.Loads.nodes g.T.Loads.read c.args.trees) (as_loaded g.T.Loads.nodes g.T.Loads.read after.trees)) roots (c.in_ok-read_each.ensures.nodes.puts most le);
     }

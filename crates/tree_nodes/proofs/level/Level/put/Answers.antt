@@ -7,7 +7,7 @@ use Rattle.je_order.specs.declared.name.Name.{Name}
 use Rattle.record_map.specs.Cells.{value_at}
 use Rattle.tree_nodes.specs.declared.node.Node.{Node}
 use Rattle.tree_nodes.specs.Nodes.{NodeRow, HasPut, placed}
-use Rattle.tree_nodes.specs.Due.{AreDue, due_number}
+use Rattle.tree_nodes.specs.Due.{AreDueKept, due_number}
 use Rattle.tree_nodes.proofs.DuePlaces.{due_by, due_put, due_same}
 use Rattle.tree_nodes.proofs.LowLaws.{lows_placed, keys_inserted}
 use Rattle.tree_nodes.proofs.Places.{no_low, puts, puts_places, rising_placed, HasPlace, put_items}
@@ -31,7 +31,7 @@ invariant_of-self-2 c =
     let nodes = c.room_for.new.nodes.items in
     let names = c.room_for.new.names.items in
     let due = c.room_for.new.due in
-    let kept : AreDue lows nodes names due =
+    let kept : AreDueKept lows nodes names due =
     due_same lows lows c.self.inside.nodes.items nodes c.self.inside.names.items names c.self.inside.due due refl c.room_for.ensures.nodes c.room_for.ensures.names c.room_for.ensures.due c.room_for.ensures.longer c.self.invariant in
     let has : HasPlace lows new c.args.low (length nodes) = subst (HasPlace lows new c.args.low) (ap length c.as_slice.ensures.value) c.in_ok-insert.ensures.updates.0 in
     let free : value_at c.args.low lows ≡ None = no_low c.args.low lows c.self.inside.nodes.items (subst (λ (row : NodeRow). value_at c.args.low row ≡ None) (sym c.self.view_is) c.requires) in
