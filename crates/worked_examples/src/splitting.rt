@@ -230,3 +230,50 @@ fn many_records_in_wide_nodes(rt: HostRuntime) -> Result<(), Fail> {
     assert_many(&rt, rt.alloc(), &RUN_WIDE)?;
     Ok(())
 }
+
+// Seven records, whose keys do not rise.
+const UNSORTED: &[u8] = b"s1 create t plain\n\
+s1 begin rr sync wait\n\
+s1 put t 01 31\n\
+s1 put t 02 31\n\
+s1 put t 04 31\n\
+s1 put t 05 31\n\
+s1 put t 03 31\n\
+s1 put t 06 31\n\
+s1 put t 07 31\n\
+s1 commit\n";
+
+const UNSORTED_TEXT: &str = "1 s1 ok\n\
+2 s1 ok txn 2\n\
+3 s1 ok\n\
+4 s1 ok\n\
+5 s1 ok\n\
+6 s1 ok\n\
+7 s1 ok\n\
+8 s1 ok\n\
+9 s1 ok\n\
+10 s1 ok\n\
+end commits 2 databases 1 records 7\n";
+
+// The nodes in which the log has images have the numbers up to 4. An opening without a checkpoint makes the catalog's node, 5, and that of the
+// records, 6, which the fifth of these splits: 7 has 04 to 07 in the end, and 8 is the root. In the order of keys the seventh would split a node again.
+const FLUSHES: &[u8] = b"m begin\nm flush\nm flush\nm flush\nm flush\nm flush\nm finish\n";
+
+const FLUSHES_TEXT: &str = "1 m ok\n\
+2 m flushed 5\n\
+3 m flushed 6\n\
+4 m flushed 7\n\
+5 m flushed 8\n\
+6 m nothing\n\
+7 m ok\n\
+end commits 0 databases 1 records 7\n";
+
+#[test]
+fn changes_are_redone_in_order(rt: HostRuntime) -> Result<(), Fail> {
+    let alloc = rt.alloc();
+    let ran = run_args(alloc, &RUN_NARROW, MemDisk::new(alloc), UNSORTED)?;
+    assert_ran(&rt, &ran, 0, UNSORTED_TEXT);
+    let again = run_args(alloc, &RUN_NARROW, disk_of(ran), FLUSHES)?;
+    assert_ran(&rt, &again, 0, FLUSHES_TEXT);
+    Ok(())
+}
