@@ -252,24 +252,6 @@ impl DbTree {
         })
     }
 
-    /// Makes a cell for the name where it has none.
-    pub fn put_cell(&mut self, alloc: Global, name: &SortKey) -> Result<(), AllocError>
-        ensures there { OnOk result (IsSome (value_at name.now self.new.cells)) }
-        ensures same { occupied self.new.cells ≡ occupied self.old.cells }
-        ensures kept { (x : Name) → IsSome (value_at x self.old.cells) → IsSome (value_at x self.new.cells) }
-        ensures cell { OnOk result (HasCell self.old.cells self.new.cells name.now (cell_or_fresh (value_at name.now self.old.cells))) }
-        ensures list { OnOk result (value_at name.now self.old.cells ≡ None → self.new.cells ≡ insert_entry name_cmp self.old.cells name.now fresh) }
-        ensures err { OnErr result (self.new.cells ≡ self.old.cells) }
-        ensures tree { OnOk result ((es : Placed) (base : ℕ) (newest : Name → ℕ) → IsTree es base newest self.old.levels self.old.cells → IsTree es base newest self.new.levels self.new.cells) }
-        ensures levels { self.new.levels ≡ self.old.levels }
-        ensures exact { (due : Items NodeAt) → AreExact due self.old.levels self.old.cells → OnOk result (AreExact due self.new.levels self.new.cells) }
-    {
-        let _before = self.cells.len();
-        make_cell(&mut self.cells, alloc, name)?;
-        let _after = self.cells.len();
-        Ok(())
-    }
-
     // Makes a cell for a name that has none.
     pub(crate) fn put_new(&mut self, alloc: Global, name: &SortKey) -> Result<(), AllocError>
         requires { value_at name.now self.old.cells ≡ None }

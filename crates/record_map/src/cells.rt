@@ -113,19 +113,6 @@ fn give_version_in(
     }
 }
 
-// Commits the change of the name's cell.
-fn commit_in(cells: &mut BTreeMap<SortKey, Cell>, name: &SortKey, at: Lsn, last: &Option<Lsn>)
-    requires { IsSome (value_at name.now cells.old.entries) }
-    ensures list { (c : _) → value_at name.now cells.old.entries ≡ Some c → cells.new.entries ≡ set_value (is_at (name_cmp name.now)) cells.old.entries (committed at last.now c) }
-    ensures others { (x : Name) → value_at x cells.new.entries ≡ (if is_eq (name_cmp name.now x) then option_map (committed at last.now) (value_at name.now cells.old.entries) else value_at x cells.old.entries) }
-    ensures rising { IsRising cells.new.entries }
-{
-    match cells.get_mut(name) {
-        Some(cell) => cell.commit(at, last),
-        None => {}
-    }
-}
-
 // Commits the change of the name's cell, if it has one, and gives where that was logged.
 fn commit_change_in(
     cells: &mut BTreeMap<SortKey, Cell>,
@@ -375,18 +362,6 @@ impl Cells {
     {
         let Cells { cells, runs: _ } = self;
         give_version_in(cells, name, version, data, at, last)
-    }
-
-    /// Commits the change of the name's cell, by the Commit at `at`. The last image of the cell's BIN is
-    /// at `last`. It takes no memory.
-    pub fn commit(&mut self, name: &SortKey, at: Lsn, last: &Option<Lsn>)
-        requires { IsSome (value_at name.now self.old) }
-        ensures list { (c : _) → value_at name.now self.old ≡ Some c → self.new ≡ set_value (is_at (name_cmp name.now)) self.old (committed at last.now c) }
-        ensures others { (x : Name) → value_at x self.new ≡ (if is_eq (name_cmp name.now x) then option_map (committed at last.now) (value_at name.now self.old) else value_at x self.old) }
-        ensures rising { IsRising self.new }
-    {
-        let Cells { cells, runs: _ } = self;
-        commit_in(cells, name, at, last);
     }
 
     /// Commits the change of the name's cell, if it has one, by the Commit at `at`. It gives where the change was logged, and whether the
