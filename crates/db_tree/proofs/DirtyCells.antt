@@ -18,7 +18,8 @@ use Rattle.tree_nodes.specs.Levels.{row_of}
 use Rattle.tree_nodes.proofs.RisingLists.{none_behind}
 use Rattle.db_tree.specs.declared.node_at.NodeAt.{NodeAt}
 use Rattle.db_tree.specs.Content.{NameState, held_under, kept_by, shown_held}
-use Rattle.db_tree.specs.Dirty.{AreExact, is_as_shown, is_same_version}
+use Rattle.db_tree.specs.Dirty.{AreExact}
+use Rattle.record_map.specs.Cells.{is_as_shown, is_same_version}
 use Rattle.db_tree.proofs.Contents.{passed_found}
 use Rattle.db_tree.proofs.DirtyExact.{passed_none, passed_rises}
 use Rattle.db_tree.proofs.DirtyLaws.{all_pass}

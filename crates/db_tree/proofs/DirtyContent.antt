@@ -11,7 +11,8 @@ use Rattle.tree_nodes.specs.Nodes.{NodeRow, IsOver, is_dirty, low_behind}
 use Rattle.tree_nodes.specs.Levels.{row_of}
 use Rattle.db_tree.specs.declared.node_at.NodeAt.{NodeAt}
 use Rattle.db_tree.specs.Content.{kept_by, shown_held}
-use Rattle.db_tree.specs.Dirty.{AreExact, HasContent, are_as_shown, is_as_imaged, is_as_shown}
+use Rattle.db_tree.specs.Dirty.{AreExact, HasContent, are_as_shown, is_as_imaged}
+use Rattle.record_map.specs.Cells.{is_as_shown}
 use Rattle.db_tree.specs.Images.{Placed}
 use Rattle.db_tree.specs.Laws.{BinsAreDirtyByContent}
 use Rattle.db_tree.specs.Trees.{KnowImages}

@@ -20,7 +20,8 @@ use Rattle.tree_nodes.proofs.LowLaws.{keys_passed, low_after_is}
 use Rattle.tree_nodes.specs.Lows.{low_after, lows_of}
 use Rattle.tree_nodes.proofs.RisingLists.{same_lists}
 use Rattle.db_tree.specs.declared.node_at.NodeAt.{NodeAt}
-use Rattle.db_tree.specs.Dirty.{AreExact, HasSettled, are_as_shown, is_as_imaged, is_as_shown}
+use Rattle.db_tree.specs.Dirty.{AreExact, HasSettled, are_as_shown, is_as_imaged}
+use Rattle.record_map.specs.Cells.{is_as_shown}
 use Rattle.db_tree.proofs.Contents.{passed_found}
 use Rattle.db_tree.proofs.Over.{over_once}
 use Rattle.db_tree.proofs.Records.{marked_over, over_marked}

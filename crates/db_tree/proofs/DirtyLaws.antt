@@ -17,7 +17,8 @@ use Rattle.tree_nodes.specs.declared.node.Node.{Node}
 use Rattle.tree_nodes.specs.Nodes.{NodeRow, IsOver, low_behind, without_mark}
 use Rattle.tree_nodes.specs.Levels.{row_of, HasPutAt, HasUnmarkedAt}
 use Rattle.db_tree.specs.Content.{NameState, name_state, held_under, kept_by, shown_held}
-use Rattle.db_tree.specs.Dirty.{are_as_shown, is_as_imaged, is_as_shown, is_same_version, is_unlike}
+use Rattle.db_tree.specs.Dirty.{are_as_shown, is_as_imaged, is_unlike}
+use Rattle.record_map.specs.Cells.{is_as_shown, is_same_version}
 use Rattle.db_tree.specs.Images.{Placed, IsRead, child_in, entry_at, last_says, shown, version_imaged}
 use Rattle.db_tree.specs.Trees.{IsBehind, IsMarked, IsTree, IsTreeOf, KnowImages}
 use Rattle.db_tree.proofs.Contents.{passed_found, within}
@@ -180,6 +181,15 @@ imaged_last row cells e is = by_tests (not e.1.forced) (is_some e.1.last) (are_a
     by_tests false b c h = absurd (true≢false (sym h))
     by_tests true false c h = absurd (true≢false (sym h))
     by_tests true true c h = (refl, h)
+
+-- such a BIN has an image, and does not wait
+pub imaged_may : (row : NodeRow) (cells : List (Name × Cell)) (e : Name × Node) → is_as_imaged row cells e ≡ true → (not e.1.forced && is_some e.1.last) ≡ true
+imaged_may row cells e is = by_tests (not e.1.forced) (is_some e.1.last) (are_as_shown e.1.last e.0 row cells) is
+  where
+    by_tests : (a b c : Bool) → (a && (b && c)) ≡ true → (a && b) ≡ true
+    by_tests false b c h = absurd (true≢false (sym h))
+    by_tests true false c h = absurd (true≢false (sym h))
+    by_tests true true c h = refl
 
 -- a BIN with a name of which its last image says something else has not its content
 pub unlike_away : (row : NodeRow) (cells : List (Name × Cell)) (x : Name) (e : Name × Node) → IsOver row x e → is_unlike e.1.last (value_at x cells) ≡ true → is_as_imaged row cells e ≡ false

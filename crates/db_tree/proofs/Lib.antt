@@ -86,3 +86,5 @@ pub mod NodesExact
 pub mod DirtyContent
 -- BINs that were read are not dirty.
 pub mod ReadExact
+-- BINs that have not their last images' content, as it is known without going over their cells.
+pub mod AwayLaws

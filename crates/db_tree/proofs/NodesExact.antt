@@ -14,7 +14,8 @@ use Rattle.tree_nodes.specs.Levels.{row_of, AreParts, HasPutAt}
 use Rattle.tree_nodes.specs.Lows.{lows_of}
 use Rattle.db_tree.specs.declared.node_at.NodeAt.{NodeAt}
 use Rattle.db_tree.specs.Content.{NameState, kept_by, shown_held}
-use Rattle.db_tree.specs.Dirty.{AreExact, are_as_shown, is_as_imaged, is_as_shown}
+use Rattle.db_tree.specs.Dirty.{AreExact, are_as_shown, is_as_imaged}
+use Rattle.record_map.specs.Cells.{is_as_shown}
 use Rattle.db_tree.specs.Images.{Placed}
 use Rattle.db_tree.specs.Trees.{IsImageOf}
 use Rattle.db_tree.specs.Waiting.{is_among, is_same_name}

@@ -8,7 +8,8 @@ use Rattle.record_map.specs.declared.cell.Cell.{Cell}
 use Rattle.record_map.specs.Cells.{value_at, between_edges, upper_edge, shown_by, IsRising}
 use Rattle.tree_nodes.specs.declared.node.Node.{Node}
 use Rattle.tree_nodes.specs.Nodes.{NodeRow, is_dirty, low_behind}
-use Rattle.db_tree.specs.Dirty.{are_as_shown, is_as_imaged, is_as_shown}
+use Rattle.db_tree.specs.Dirty.{are_as_shown, is_as_imaged}
+use Rattle.record_map.specs.Cells.{is_as_shown}
 use Rattle.db_tree.proofs.Contents.{passed_found}
 use Rattle.db_tree.proofs.DirtyCells.{found_all, passes}
 use Rattle.db_tree.proofs.DirtyExact.{passed_none, passed_rises}

@@ -1,5 +1,5 @@
 -- Changes of a tree's records keep that it fits its log.
-use Rattle.std.proofs.Common.{◌≡◌, ◌<◌, ◌≤◌, ◌⊎◌, ℕ, List, Bool, true, false, cond, Option, None, Some, IsSome, option_map, refl, ap, ap₂, sym, subst, ◌∙◌, inl, inr, arith, is_eq}
+use Rattle.std.proofs.Common.{◌≡◌, ◌<◌, ◌≤◌, ◌⊎◌, ℕ, List, [], Bool, true, false, cond, Option, None, Some, IsSome, option_map, unwrap_or, refl, ap, ap₂, sym, subst, ◌∙◌, inl, inr, arith, is_eq}
 use Rattle.std.proofs.lemmas.Bool.{true≢false}
 use Rattle.std.proofs.lemmas.Option.{same_Some}
 use Rattle.je_order.specs.Order.{name_cmp}
@@ -8,7 +8,7 @@ use Rattle.record_map.specs.declared.cell.Cell.{Cell}
 use Rattle.node_core.specs.declared.slot.Version.{Version}
 use Rattle.node_core.specs.declared.slot.Version.TheVariants.{There, Deleted, Unset}
 use Rattle.node_core.specs.Changes.{is_committed}
-use Rattle.record_map.specs.Cells.{fresh, value_at, with_write}
+use Rattle.record_map.specs.Cells.{fresh, value_at, with_version, with_write}
 use Rattle.record_map.proofs.NameLaws.{same_or_other, name_same, other_stays, same_gets}
 use Rattle.tree_nodes.specs.declared.node.Node.{Node}
 use Rattle.tree_nodes.specs.Nodes.{NodeRow, IsUpTo, IsOver, earlier, marked}
@@ -214,3 +214,21 @@ given_kept old new name has unset x = by_name (same_or_other name x)
 pub gives_up : (es : Placed) (base : ℕ) (newest : Name → ℕ) (rows : List NodeRow) (old new : List (Name × Cell)) (name : Name) →
     ((x : Name) → value_at x new ≡ cond (is_eq (name_cmp name x)) (given_up (value_at name old)) (value_at x old)) → IsTree es base newest rows old → IsTree es base newest rows new
 gives_up es base newest rows old new name has tree = same_held es base newest rows (kept_by old) (kept_by new) (given_kept old new name has (tree.know.unset name)) tree
+
+-- ---- what is committed of a name, in its cell or in a new one
+
+logged_is : (value : Option (List ℕ)) (at commit : ℕ) (last : Option ℕ) (cell : Cell) → with_version (version_logged at value) (unwrap_or value []) commit last cell ≡ with_logged value at commit last cell
+logged_is None at commit last cell = refl
+logged_is (Some value) at commit last cell = refl
+
+given_logged : (value : Option (List ℕ)) (at commit : ℕ) (last : Option ℕ) (version : Version) (bytes : List ℕ) (cell : Cell) → version ≡ version_logged at value → bytes ≡ unwrap_or value [] →
+    with_version version bytes commit last cell ≡ with_logged value at commit last cell
+given_logged value at commit last version bytes cell same_version same_bytes =
+    ap₂ (λ (v : Version) (d : List ℕ). with_version v d commit last cell) same_version same_bytes ∙ logged_is value at commit last cell
+
+pub given_has : (old new : List (Name × Cell)) (name : Name) (value : Option (List ℕ)) (at commit : ℕ) (last : Option ℕ) (version : Version) (bytes : List ℕ) → version ≡ version_logged at value → bytes ≡ unwrap_or value [] →
+    IsSome (value_at name old) → ((x : Name) → value_at x new ≡ cond (is_eq (name_cmp name x)) (option_map (with_version version bytes commit last) (value_at name old)) (value_at x old)) →
+    HasCell old new name (with_logged value at commit last (cell_or_fresh (value_at name old)))
+given_has old new name value at commit last version bytes same_version same_bytes some changed =
+    subst (λ (cell : Cell). HasCell old new name cell) (given_logged value at commit last version bytes (cell_or_fresh (value_at name old)) same_version same_bytes)
+    (made_and_changed old old new name (cell_or_fresh (value_at name old)) (with_version version bytes commit last) (there_cell old name some) changed)

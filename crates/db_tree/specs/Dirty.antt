@@ -1,12 +1,10 @@
 -- Which BINs are dirty: what their last images say of names, beside what is committed.
-use Rattle.std.specs.Prelude.{◌≡◌, ◌≤◌, ◌<◌, ◌+◌, ◌^◌, ◌==◌, ◌&&◌, not, ℕ, Bool, true, false, List, Option, None, Some, is_some}
+use Rattle.std.specs.Prelude.{◌≡◌, ◌≤◌, ◌<◌, ◌+◌, ◌^◌, ◌&&◌, not, ℕ, Bool, true, false, List, Option, None, Some, is_some}
 use Rattle.std.specs.List.{AllByRecursion, list_all}
 use Rattle.je_order.specs.Edges.Edge.{At}
 use Rattle.je_order.specs.declared.name.Name.{Name}
-use Rattle.node_core.specs.declared.slot.Version.{Version}
-use Rattle.node_core.specs.declared.slot.Version.TheVariants.{There, Deleted, Unset}
 use Rattle.record_map.specs.declared.cell.Cell.{Cell}
-use Rattle.record_map.specs.Cells.{value_at, between_edges, upper_edge, shown_by}
+use Rattle.record_map.specs.Cells.{value_at, between_edges, is_as_shown, upper_edge}
 use Rattle.tree_nodes.specs.declared.node.Node.{Node}
 use Rattle.tree_nodes.specs.Nodes.{NodeRow, IsOver, is_dirty, low_behind, without_mark}
 use Rattle.tree_nodes.specs.Levels.{row_of, HasPutAt, HasMarkedAt}
@@ -14,20 +12,6 @@ use Rattle.db_tree.specs.declared.node_at.NodeAt.{NodeAt}
 use Rattle.db_tree.specs.Content.{kept_by}
 use Rattle.db_tree.specs.Images.{Placed, IsBin, entry_at, version_imaged}
 use Rattle.db_tree.specs.Waiting.{is_among}
-
--- ---- versions
-
--- whether two versions are the same
-abbrev pub is_same_version : Version → Version → Bool
-is_same_version (There a) (There b) = a == b
-is_same_version (There a) Deleted = false
-is_same_version (There a) Unset = false
-is_same_version Deleted (There b) = false
-is_same_version Deleted Deleted = true
-is_same_version Deleted Unset = false
-is_same_version Unset (There b) = false
-is_same_version Unset Deleted = false
-is_same_version Unset Unset = true
 
 -- ---- where Commits stand
 
@@ -43,11 +27,7 @@ pub record IsRedoneAt (es : Placed) (base at : ℕ) : Type 0 where
 
 -- ---- marks that go
 
--- whether the last image of a cell's BIN, which is at an LSN, says of it what is committed
-abbrev pub is_as_shown : Option ℕ → Cell → Bool
-is_as_shown last cell = is_same_version (shown_by last cell) cell.version
-
--- whether it says something else of a name
+-- whether the last image of a name's BIN, which is at an LSN, says something else of the name than what is committed
 abbrev pub is_unlike : Option ℕ → Option Cell → Bool
 is_unlike last None = false
 is_unlike last (Some cell) = not (is_as_shown last cell)
@@ -66,6 +46,12 @@ pub record HasSettled (cells : List (Name × Cell)) (old new : List NodeRow) (x 
   pub over : IsOver (row_of old 0) x e
   pub cleared : is_as_imaged (row_of old 0) cells e ≡ true → HasPutAt old new 0 e.0 (without_mark e.1)
   pub kept : is_as_imaged (row_of old 0) cells e ≡ false → new ≡ old
+
+-- the BIN over a name has not its last image's content, or waits to be logged
+pub record IsAway (cells : List (Name × Cell)) (rows : List NodeRow) (x : Name) : Type 0 where
+  pub e : Name × Node
+  pub over : IsOver (row_of rows 0) x e
+  pub away : is_as_imaged (row_of rows 0) cells e ≡ false
 
 -- the BIN over a name is marked, and has no mark where it has its last image's content then
 abbrev pub IsMarkedOrSettled : List (Name × Cell) → List NodeRow → List NodeRow → Name → ℕ → Type 0

@@ -146,6 +146,37 @@ fn put_deletions(
     Ok(())
 }
 
+// Notes the names of a BIN as a run of the cells, where the node is one.
+fn note_low(cells: &mut Cells, alloc: Global, low: &Key, level: usize)
+    ensures { cells.new ≡ cells.old }
+{
+    if level > 0 {
+        return;
+    }
+    match key_of(alloc, low) {
+        Ok(key) => cells.note_run(key),
+        Err(failed) => drop(failed),
+    }
+}
+
+// Puts the slots of a node of a level as `put_deletions` does, and notes the names of a BIN as a run of the cells.
+fn put_and_note(
+    cells: &mut Cells,
+    alloc: Global,
+    low: &Key,
+    high: Option<&Key>,
+    slots: &[Marked],
+    at: Lsn,
+    level: usize,
+) -> Result<(), AllocError>
+    ensures got { OnOk result (GetsDeletions (shows_deletion_inside low.now (option_copied high.entry) slots.now) at cells.old cells.new) }
+    ensures some { (count : ℕ) × GetsDeletions (shows_deletion_inside low.now (option_copied high.entry) (take count slots.now)) at cells.old cells.new }
+{
+    put_deletions(cells, alloc, low, high, slots, at)?;
+    note_low(cells, alloc, low, level);
+    Ok(())
+}
+
 // How many of the slots an image shows.
 fn count_shown(slots: &[Marked]) -> u32
     requires { length slots.now ≤ 128 }
@@ -346,12 +377,13 @@ impl DbTree {
     {
         let _before = self.cells.len();
         let slots = image.slots.as_slice();
-        let done = put_deletions(&mut self.cells, alloc, low, high, slots, at);
+        let level = level_of(image);
+        let done = put_and_note(&mut self.cells, alloc, low, high, slots, at, level);
         let _after = self.cells.len();
         done?;
         let low = key_of(alloc, low)?;
         let node = shown_node(image, at, keeps);
-        put_node(&mut self.levels, alloc, level_of(image), &low, node)
+        put_node(&mut self.levels, alloc, level, &low, node)
     }
 
     /// Puts the cell of a record that was logged at `at`, which the last image of its BIN shows. Running out of memory

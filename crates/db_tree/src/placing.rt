@@ -67,7 +67,7 @@ impl DbTree {
         ensures tree { OnOk result ((es : Placed) (base : ℕ) (newest : Name → ℕ) → IsTree es base newest self.old.levels self.old.cells → IsTree es base newest self.new.levels self.new.cells) }
     {
         let _before = self.cells.len();
-        self.put_cell(alloc, name)?;
+        self.put_new(alloc, name)?;
         match self.take_images(alloc, db, nodes) {
             Ok(images) => Ok(images),
             Err(failed) => {

@@ -1,10 +1,10 @@
 // The tree of one database.
-ghost use Rattle.std.specs.Prelude.{◌≡◌, ◌<◌, ◌≤◌, ◌⊎◌, ◌++◌, ◌∷◌, ◌+◌, ◌^◌, ℕ, true, [], Option, None, Some, IsSome, IfOk, IfSome, OnOk, OnErr, List as Items, option_map, if◌then◌else◌};
+ghost use Rattle.std.specs.Prelude.{◌≡◌, ◌<◌, ◌≤◌, ◌⊎◌, ◌++◌, ◌∷◌, ◌+◌, ◌^◌, ℕ, true, [], Option, None, Some, IsSome, IfOk, IfSome, OnOk, OnErr, List as Items, option_map, unwrap_or, if◌then◌else◌};
 ghost use Rattle.std.specs.Ordering.{is_eq};
 ghost use Rattle.je_order.specs.Order.{name_cmp};
 ghost use Rattle.je_order.specs.declared.name.Name.{Name};
 ghost use Rattle.std.specs.BTreeMap.{insert_entry};
-ghost use Rattle.record_map.specs.Cells.{value_at, fresh, with_write, committed, IsRising};
+ghost use Rattle.record_map.specs.Cells.{value_at, fresh, is_as_shown, with_version, with_write, committed, IsRising};
 ghost use Rattle.db_tree.specs.declared.node_at.NodeAt.{NodeAt};
 ghost use Rattle.db_tree.specs.Images.{Placed};
 ghost use Rattle.tree_nodes.specs.Nodes.{least};
@@ -13,7 +13,8 @@ ghost use Rattle.tree_nodes.specs.Lows.{lows_of};
 ghost use Rattle.db_tree.specs.Content.{slot_for, record_slots, bin_image};
 ghost use Rattle.db_tree.specs.Trees.{IsTree, HasCell, cell_or_fresh, given_up};
 ghost use Rattle.db_tree.specs.Seen.{occupied, seen, with_change, with_value};
-ghost use Rattle.db_tree.specs.Dirty.{is_same_version, AreExact, IsCommitAt, IsMarkedOrSettled, IsCommittedOver, IsRedoneAt};
+ghost use Rattle.db_tree.specs.Dirty.{AreExact, IsCommitAt, IsMarkedOrSettled, IsCommittedOver, IsRedoneAt};
+ghost use Rattle.record_map.specs.Cells.{is_same_version};
 ghost use Rattle.db_tree.specs.Stored.{with_logged};
 ghost use Rattle.db_tree.specs.Stored.{HasLogged, loaded_cell, version_logged, IsLoggedAlready};
 ghost use Rattle.record_tree.specs.Occupied.{after_commit, after_abort};
@@ -24,11 +25,12 @@ ghost use Rattle.std.specs.BTreeMap.{is_at};
 ghost use Rattle.record_map.specs.declared.cell.Cell.{Cell as Kept};
 ghost use Rattle.db_tree.specs.Shapes.{shape_in, new_shape, AreAlike};
 
+use crate::settling::may_settle;
 use je_lsn::Lsn;
 use je_order::{List, Octets};
 use log_entry::{Entry, RecordSlot};
 use node_core::Version;
-use record_map::{Cell, Cells, Data, SortKey, Write};
+use record_map::{Cell, Cells, Data, SortKey, Write, is_same_version};
 use std::alloc::{AllocError, Global};
 use std::collections::btree_map::Range;
 use tree_nodes::{Levels, Node};
@@ -49,6 +51,75 @@ fn make_cell(cells: &mut Cells, alloc: Global, name: &SortKey) -> Result<(), All
     match cells.get(name) {
         Some(_) => Ok(()),
         None => cells.insert(name.copy(alloc)?, Cell::new()),
+    }
+}
+
+// Makes a cell for a name that has none.
+fn make_new(cells: &mut Cells, alloc: Global, name: &SortKey) -> Result<(), AllocError>
+    requires { value_at name.now cells.old ≡ None }
+    ensures cell { OnOk result (HasCell cells.old cells.new name.now (cell_or_fresh (value_at name.now cells.old))) }
+    ensures list { OnOk result (cells.new ≡ insert_entry name_cmp cells.old name.now fresh) }
+    ensures err { OnErr result (cells.new ≡ cells.old) }
+{
+    cells.insert(name.copy(alloc)?, Cell::new())
+}
+
+// What is committed where a change was logged at `at`, with its data: the record there, or that it was deleted.
+fn logged(value: Option<Octets>, at: Lsn) -> (Version, Data)
+    ensures version { result.0 ≡ version_logged at value }
+    ensures bytes { result.1 ≡ unwrap_or value [] }
+{
+    match value {
+        Some(octets) => (Version::There(at), Data::new(octets)),
+        None => (Version::Deleted, Data::empty()),
+    }
+}
+
+// Puts the cell of a name that has none, with a version and its data, and says whether the last image of its BIN says that.
+fn put_version(
+    cells: &mut Cells,
+    alloc: Global,
+    name: &SortKey,
+    version: Version,
+    data: Data,
+    commit: Lsn,
+    last: &Option<Lsn>,
+) -> Result<bool, AllocError>
+    requires { value_at name.now cells.old ≡ None }
+    ensures cell { OnOk result (HasCell cells.old cells.new name.now (with_version version «data» commit last.now fresh)) }
+    ensures shown { IfOk result (λ shown. option_map (is_as_shown last.now) (value_at name.now cells.new) ≡ Some shown) }
+    ensures err { OnErr result (cells.new ≡ cells.old) }
+    ensures rising { IsRising cells.new }
+{
+    let mut cell = Cell::new();
+    cell.set_version(version, data, commit, last);
+    let is_shown = cell.is_as_shown(last);
+    let _len = cells.len();
+    let copy = name.copy(alloc)?;
+    cells.insert(copy, cell)?;
+    Ok(is_shown)
+}
+
+// Sets what is committed of a name, in a cell that it makes where there is none: the record that was logged at `at`, or none. It says whether
+// the last image of its BIN, which is at `last`, says that.
+fn make_logged(
+    cells: &mut Cells,
+    alloc: Global,
+    name: &SortKey,
+    value: Option<Octets>,
+    at: Lsn,
+    commit: Lsn,
+    last: &Option<Lsn>,
+) -> Result<bool, AllocError>
+    ensures shown { IfOk result (λ shown. option_map (is_as_shown last.now) (value_at name.now cells.new) ≡ Some shown) }
+    ensures cell { OnOk result (HasCell cells.old cells.new name.now (with_logged value at commit last.now (cell_or_fresh (value_at name.now cells.old)))) }
+    ensures err { OnErr result (cells.new ≡ cells.old) }
+    ensures rising { IsRising cells.new }
+{
+    let (version, data) = logged(value, at);
+    match cells.give_version(name, &version, data, commit, last) {
+        Ok(is_shown) => Ok(is_shown),
+        Err(data) => Ok(put_version(cells, alloc, name, version, data, commit, last)?),
     }
 }
 
@@ -92,27 +163,6 @@ fn version_logged(value: &Option<Octets>, at: Lsn) -> Version
     match value {
         Some(_) => Version::There(at),
         None => Version::Deleted,
-    }
-}
-
-// Whether the version is that of a record that was logged at the LSN.
-fn is_there(version: Version, at: Lsn) -> bool
-    ensures { result ≡ is_same_version version (There at) }
-{
-    match version {
-        Version::There(lsn) => lsn.as_u64() == at.as_u64(),
-        Version::Deleted | Version::Unset => false,
-    }
-}
-
-// Whether two versions are the same.
-pub(crate) fn is_same(a: Version, b: Version) -> bool
-    ensures { result ≡ is_same_version a b }
-{
-    match b {
-        Version::There(at) => is_there(a, at),
-        Version::Deleted => matches!(a, Version::Deleted),
-        Version::Unset => matches!(a, Version::Unset),
     }
 }
 
@@ -202,20 +252,20 @@ impl DbTree {
         })
     }
 
-    /// Makes a cell for the name where it has none.
-    pub fn put_cell(&mut self, alloc: Global, name: &SortKey) -> Result<(), AllocError>
+    // Makes a cell for a name that has none.
+    pub(crate) fn put_new(&mut self, alloc: Global, name: &SortKey) -> Result<(), AllocError>
+        requires { value_at name.now self.old.cells ≡ None }
         ensures there { OnOk result (IsSome (value_at name.now self.new.cells)) }
         ensures same { occupied self.new.cells ≡ occupied self.old.cells }
         ensures kept { (x : Name) → IsSome (value_at x self.old.cells) → IsSome (value_at x self.new.cells) }
         ensures cell { OnOk result (HasCell self.old.cells self.new.cells name.now (cell_or_fresh (value_at name.now self.old.cells))) }
-        ensures list { OnOk result (value_at name.now self.old.cells ≡ None → self.new.cells ≡ insert_entry name_cmp self.old.cells name.now fresh) }
+        ensures list { OnOk result (self.new.cells ≡ insert_entry name_cmp self.old.cells name.now fresh) }
         ensures err { OnErr result (self.new.cells ≡ self.old.cells) }
         ensures tree { OnOk result ((es : Placed) (base : ℕ) (newest : Name → ℕ) → IsTree es base newest self.old.levels self.old.cells → IsTree es base newest self.new.levels self.new.cells) }
         ensures levels { self.new.levels ≡ self.old.levels }
-        ensures exact { (due : Items NodeAt) → AreExact due self.old.levels self.old.cells → OnOk result (AreExact due self.new.levels self.new.cells) }
     {
         let _before = self.cells.len();
-        make_cell(&mut self.cells, alloc, name)?;
+        make_new(&mut self.cells, alloc, name)?;
         let _after = self.cells.len();
         Ok(())
     }
@@ -247,7 +297,8 @@ impl DbTree {
         self.cells.set_write(name, Some(write));
     }
 
-    /// Commits the name's change, by the Commit at `at`. Where it has none nothing changes.
+    /// Commits the name's change, by the Commit at `at`, and marks its BIN: the log has a committed change that the BIN's last image
+    /// lacks. Where the BIN has that image's content then, it has no mark. Where the name has no change nothing changes. It takes no memory.
     pub fn commit_write(&mut self, name: &SortKey, at: Lsn)
         ensures cells { (x : Name) → value_at x (occupied self.new.cells) ≡ (if is_eq (name_cmp name.now x) then after_commit (value_at x (occupied self.old.cells)) else value_at x (occupied self.old.cells)) }
         ensures rising { IsRising (occupied self.new.cells) }
@@ -259,10 +310,16 @@ impl DbTree {
         ensures tree { (es : Placed) (base : ℕ) (newest : Name → ℕ) → IfSome (written_lsn (value_at name.now self.old.cells)) (λ from. from ≤ newest name.now) → IsCommitAt es at → IsTree es base newest self.old.levels self.old.cells → IsTree es base newest self.new.levels self.new.cells }
     {
         let _before = self.cells.len();
-        match self.written_at(name) {
-            Some(from) => self.commit(name, at, from),
+        let _height = self.levels.height();
+        let (_low, node) = self.levels.over(0, name);
+        let last = node.last;
+        let may = may_settle(node);
+        let done = match self.cells.commit_change(name, at, &last) {
+            Some(done) => done,
             None => return,
-        }
+        };
+        self.levels.mark(0, name, done.from);
+        self.settle_if(name, may, done.is_shown);
         let _after = self.cells.len();
     }
 
@@ -274,7 +331,7 @@ impl DbTree {
         ensures there { result ≡ true → IsSome (value_at name.now self.now.cells) }
     {
         match self.cells.get(name) {
-            Some(cell) => is_same(cell.version, version_logged(value, at)),
+            Some(cell) => is_same_version(cell.version, version_logged(value, at)),
             None => false,
         }
     }
@@ -328,14 +385,13 @@ impl DbTree {
     {
         let _height = self.levels.height();
         let _before = self.cells.len();
-        make_cell(&mut self.cells, alloc, name)?;
-        let _made = self.cells.len();
         let (_low, node) = self.levels.over(0, name);
         let last = node.last;
-        self.levels.mark(0, name, first);
+        let may = may_settle(node);
         let commit = behind(&last, at);
-        set_logged(&mut self.cells, name, value, at, commit, &last);
-        self.settle(name);
+        let is_shown = make_logged(&mut self.cells, alloc, name, value, at, commit, &last)?;
+        self.levels.mark(0, name, first);
+        self.settle_if(name, may, is_shown);
         Ok(())
     }
 
@@ -369,20 +425,6 @@ impl DbTree {
         self.redo_first(alloc, name, value, first, at)
     }
 
-    // The LSN of the name's change, where it has one.
-    fn written_at(&self, name: &SortKey) -> Option<Lsn>
-        ensures there { IsSome result → IsSome (value_at name.now self.now.cells) }
-        ensures from { result ≡ written_lsn (value_at name.now self.now.cells) }
-    {
-        match self.cells.get(name) {
-            Some(cell) => match &cell.write {
-                Some(write) => Some(write.at),
-                None => None,
-            },
-            None => None,
-        }
-    }
-
     /// Gives the name a change that is not committed. Running out of memory changes nothing, and does
     /// not come where the name has a cell.
     pub fn set_write(
@@ -401,26 +443,6 @@ impl DbTree {
         make_cell(&mut self.cells, alloc, name)?;
         self.cells.set_write(name, Some(write));
         Ok(())
-    }
-
-    /// Commits the change of the name, by the Commit at `at`, and marks its BIN: the log has a committed
-    /// change at `from` that the BIN's last image lacks. Where the BIN has that image's content then, it has no mark. It takes no memory.
-    pub fn commit(&mut self, name: &SortKey, at: Lsn, from: Lsn)
-        requires { IsSome (value_at name.now self.old.cells) }
-        ensures cells { (last : Option ℕ) × ((x : Name) → value_at x self.new.cells ≡ (if is_eq (name_cmp name.now x) then option_map (committed at last) (value_at name.now self.old.cells) else value_at x self.old.cells)) }
-        ensures waits { AreAlike self.old.levels self.new.levels }
-        ensures nodes { AreSameNodes self.old.levels self.new.levels }
-        ensures marked { IsMarkedOrSettled self.new.cells self.old.levels self.new.levels name.now from }
-        ensures tree { (es : Placed) (base : ℕ) (newest : Name → ℕ) → from ≤ newest name.now → IsCommitAt es at → IsTree es base newest self.old.levels self.old.cells → IsTree es base newest self.new.levels self.new.cells }
-        ensures exact { (due : Items NodeAt) → AreExact due self.old.levels self.old.cells → AreExact due self.new.levels self.new.cells }
-    {
-        let _height = self.levels.height();
-        let _len = self.cells.len();
-        let (_low, node) = self.levels.over(0, name);
-        let last = node.last;
-        self.levels.mark(0, name, from);
-        self.cells.commit(name, at, &last);
-        self.settle(name);
     }
 
     /// Gives the change of the name up: a cell of which nothing is committed goes. It takes no memory.

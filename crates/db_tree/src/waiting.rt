@@ -79,6 +79,7 @@ impl DbTree {
         first: u64,
         mark: Lsn,
     ) -> Result<(), AllocError>
+        requires { value_at name.now self.old.cells ≡ None }
         ensures few { OnOk result (count_in self.new ≤ count_in self.old + 2 * made_for splits.now (lows_of self.old.levels)) }
         ensures split { OnOk result (AreSplitWaiting first splits.now self.old.levels self.new.levels) }
         ensures since { OnOk result (AreUnnotedSince mark self.old.levels → AreUnnotedSince mark self.new.levels) }
@@ -94,7 +95,7 @@ impl DbTree {
         let root = least_name(alloc)?;
         self.grow(alloc, splits, first, mark)?;
         let _grown = self.levels.height();
-        match self.put_cell(alloc, name) {
+        match self.put_new(alloc, name) {
             Ok(()) => {}
             Err(failed) => {
                 self.shrink(splits, is_raised);

@@ -1,5 +1,5 @@
 -- The bounds of runs, where cells come and go and runs are noted.
-use Rattle.std.proofs.Common.{◌≡◌, ◌≤◌, ◌<◌, ◌⊎◌, inl, inr, ℕ, zero, suc, List, [], ◌∷◌, ◌++◌, Bool, true, false, cond, not, ◌&&◌, Option, None, Some, IsSome, filter, length, set, get_or, refl, ap, sym, subst, ◌∙◌, ◌≢◌, arith, Ordering, Less, Equal, Greater, is_eq, is_lt, is_gt, get_or-set_same, get_or-set_other}
+use Rattle.std.proofs.Common.{◌≡◌, ◌≤◌, ◌<◌, ◌⊎◌, inl, inr, ℕ, suc, List, [], ◌∷◌, ◌++◌, Bool, true, false, cond, not, ◌&&◌, Option, None, Some, IsSome, IfSome, filter, length, set, get_or, refl, ap, sym, subst, ◌∙◌, ◌≢◌, arith, Ordering, Less, Equal, Greater, is_eq, is_gt, get_or-set_same, get_or-set_other}
 use Rattle.std.specs.Ordering.{match_ordering, eq_by_cmp, ordering_reverse}
 use Rattle.std.specs.Map.{remove_entry, set_value}
 use Rattle.std.specs.BTreeMap.{is_at, insert_entry}
@@ -8,13 +8,15 @@ use Rattle.std.proofs.lemmas.Option.{none-some, same_Some}
 use Rattle.std.proofs.lemmas.Bool.{true≢false, cases_eq}
 use Rattle.std.proofs.lemmas.List.{get_or_append_left, get_or_push, get_or_read, length-set, length_push}
 use Rattle.je_order.specs.Order.{name_cmp}
-use Rattle.je_order.specs.Edges.{is_below, is_between}
-use Rattle.je_order.specs.Edges.Edge.{At, End}
+use Rattle.je_order.specs.Edges.{is_between}
+use Rattle.je_order.specs.Edges.Edge.{At}
 use Rattle.je_order.specs.declared.name.Name.{Name}
 use Rattle.record_map.specs.Held.{names_are_ordered}
 use Rattle.record_map.specs.Cells.{value_at, between_edges, upper_edge}
 use Rattle.record_map.specs.Runs.{LiesIn, IsBound, AreRuns, IsRunOver, FindsRun, IsEnd}
+use Rattle.std.specs.Prelude.{Result, Ok, Err, OnOk, OnErr}
 use Rattle.record_map.specs.declared.cell.Cell.{Cell}
+use Rattle.record_map.specs.declared.committed_change.CommittedChange.{CommittedChange}
 use Rattle.record_map.proofs.NameLaws.{name_exact, name_same, same_or_other}
 
 -- ---- how many of a list pass a test on their names, where it changes at one name
@@ -329,3 +331,17 @@ kept_runs lows bounds old new name next some is runs = by_value (value_at name o
     by_value : (o : Option Cell) → value_at name old ≡ o → IsSome o → AreRuns lows bounds new
     by_value None there some = absurd (true≢false (sym some))
     by_value (Some c) there some = subst (λ (l : List (Name × Cell)). AreRuns lows bounds l) (sym (is c there)) (set_runs lows bounds old (is_at (name_cmp name)) (next c) runs)
+
+-- another cell under a name, if it has one
+pub given_runs : (lows : List (Name × ℕ)) (bounds : List ℕ) (old new : List (Name × Cell)) (name : Name) (next : Cell → Cell) (done : Result Bool (List ℕ)) → OnOk done (IsSome (value_at name old)) →
+    OnOk done ((c : Cell) → value_at name old ≡ Some c → new ≡ set_value (is_at (name_cmp name)) old (next c)) → OnErr done (new ≡ old) → AreRuns lows bounds old → AreRuns lows bounds new
+given_runs lows bounds old new name next (Ok shown) given is same runs = kept_runs lows bounds old new name next given is runs
+given_runs lows bounds old new name next (Err d) given is same runs = subst (λ (l : List (Name × Cell)). AreRuns lows bounds l) (sym same) runs
+
+pub changed_runs : (lows : List (Name × ℕ)) (bounds : List ℕ) (old new : List (Name × Cell)) (name : Name) (next : Cell → Cell) (from : Option CommittedChange) → IfSome from (λ f. IsSome (value_at name old)) →
+    IfSome from (λ f. (c : Cell) → value_at name old ≡ Some c → new ≡ set_value (is_at (name_cmp name)) old (next c)) → (from ≡ None → new ≡ old) → AreRuns lows bounds old → AreRuns lows bounds new
+changed_runs lows bounds old new name next from given is same runs = by_from from refl given is
+  where
+    by_from : (o : Option CommittedChange) → from ≡ o → IfSome o (λ f. IsSome (value_at name old)) → IfSome o (λ f. (c : Cell) → value_at name old ≡ Some c → new ≡ set_value (is_at (name_cmp name)) old (next c)) → AreRuns lows bounds new
+    by_from None none some set = subst (λ (l : List (Name × Cell)). AreRuns lows bounds l) (sym (same none)) runs
+    by_from (Some f) at some set = kept_runs lows bounds old new name next some set runs

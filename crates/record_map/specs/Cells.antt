@@ -1,5 +1,5 @@
 -- The cells of a database: how they are found by their names, and how they change.
-use Rattle.std.specs.Prelude.{ℕ, List, [], ◌∷◌, Option, None, Some, filter, nat_lt, option_map, Box, if◌then◌else◌}
+use Rattle.std.specs.Prelude.{ℕ, ◌==◌, Bool, true, false, List, [], ◌∷◌, Option, None, Some, filter, nat_lt, option_map, Box, if◌then◌else◌}
 use Rattle.std.specs.Global.{Global}
 use Rattle.std.specs.Map.{lookup, keys_of}
 use Rattle.std.specs.BTreeMap.{is_at}
@@ -67,10 +67,30 @@ upper_edge (Some name) = At name
 abbrev pub fresh : Cell
 fresh = record { version = Unset; shown = Unset; touched = 0; «data» = []; write = None }
 
+-- whether two versions are the same
+abbrev pub is_same_version : Version → Version → Bool
+is_same_version (There a) (There b) = a == b
+is_same_version (There a) Deleted = false
+is_same_version (There a) Unset = false
+is_same_version Deleted (There b) = false
+is_same_version Deleted Deleted = true
+is_same_version Deleted Unset = false
+is_same_version Unset (There b) = false
+is_same_version Unset Deleted = false
+is_same_version Unset Unset = true
+
+-- where the change of a cell was logged, if it has one
+abbrev pub change_at : Cell → Option ℕ
+change_at cell = option_map (λ write. write.value.at) cell.write
+
 -- what the last image of a cell's BIN shows of it, by the image's LSN; without one, what is kept for it
 abbrev pub shown_by : Option ℕ → Cell → Version
 shown_by None cell = cell.shown
 shown_by (Some last) cell = if nat_lt last cell.touched then cell.shown else cell.version
+
+-- whether the last image of a cell's BIN, which is at an LSN, says of it what is committed
+abbrev pub is_as_shown : Option ℕ → Cell → Bool
+is_as_shown last cell = is_same_version (shown_by last cell) cell.version
 
 -- a cell with a version and its data, committed by the Commit at an LSN
 abbrev pub with_version : Version → List ℕ → ℕ → Option ℕ → Cell → Cell

@@ -1,6 +1,7 @@
 // What a database has under a name.
 ghost use Rattle.std.specs.Prelude.{◌≡◌, None};
-ghost use Rattle.record_map.specs.Cells.{fresh, shown_by, with_version, committed};
+ghost use Rattle.record_map.specs.Cells.{change_at, is_as_shown, is_same_version, fresh, shown_by, with_version, committed};
+ghost use Rattle.node_core.specs.declared.slot.Version.TheVariants.{There};
 
 use crate::{Data, Write};
 use je_lsn::{FileNo, Lsn};
@@ -24,6 +25,27 @@ pub struct Cell {
     pub write: Option<Box<Write>>,
 }
 
+// Whether the version is that of a record that was logged at the LSN.
+fn is_there(version: Version, at: Lsn) -> bool
+    ensures { result ≡ is_same_version version (There at) }
+{
+    match version {
+        Version::There(lsn) => lsn.as_u64() == at.as_u64(),
+        Version::Deleted | Version::Unset => false,
+    }
+}
+
+/// Whether two versions are the same.
+pub fn is_same_version(a: Version, b: Version) -> bool
+    ensures { result ≡ is_same_version a b }
+{
+    match b {
+        Version::There(at) => is_there(a, at),
+        Version::Deleted => matches!(a, Version::Deleted),
+        Version::Unset => matches!(a, Version::Unset),
+    }
+}
+
 impl Cell {
     /// The cell of a name of which nothing is committed. It takes no memory.
     pub fn new() -> Cell
@@ -36,6 +58,23 @@ impl Cell {
             data: Data::empty(),
             write: None,
         }
+    }
+
+    /// The LSN of the cell's change, if it has one.
+    pub fn written(&self) -> Option<Lsn>
+        ensures { result ≡ change_at self.now }
+    {
+        match &self.write {
+            Some(write) => Some(write.at),
+            None => None,
+        }
+    }
+
+    /// Whether the last image of the cell's BIN, which is at `last`, says of it what is committed.
+    pub fn is_as_shown(&self, last: &Option<Lsn>) -> bool
+        ensures { result ≡ is_as_shown last.now self.now }
+    {
+        is_same_version(self.shown_by(last), self.version)
     }
 
     /// What the last image of the cell's BIN shows of it, if that image is at `last`; where the BIN has no image,

@@ -1,5 +1,5 @@
 // The cells of one database.
-ghost use Rattle.std.specs.Prelude.{◌≡◌, ℕ, [], length, Option, None, Some, IsSome, IfSome, OnOk, OnErr, option_map, option_copied, if◌then◌else◌};
+ghost use Rattle.std.specs.Prelude.{◌≡◌, ℕ, [], length, Option, None, Some, IsSome, IfSome, IfOk, IfErr, OnOk, OnErr, option_and_then, option_map, option_copied, if◌then◌else◌};
 ghost use Rattle.std.specs.Ordering.{is_eq};
 ghost use Rattle.std.specs.declared.cmp.Ordering.TheVariants.{Less};
 ghost use Rattle.std.specs.Map.{set_value, remove_entry};
@@ -7,10 +7,10 @@ ghost use Rattle.std.specs.BTreeMap.{is_at, insert_entry};
 ghost use Rattle.je_order.specs.Order.{name_cmp};
 ghost use Rattle.je_order.specs.Edges.Edge.{At};
 ghost use Rattle.je_order.specs.declared.name.Name.{Name};
-ghost use Rattle.record_map.specs.Cells.{value_at, IsRising, first_of, last_of, from_edge, below_edge, between_edges, count_if, edge_of, upper_edge, with_version, with_write, committed};
+ghost use Rattle.record_map.specs.Cells.{value_at, IsRising, first_of, last_of, from_edge, below_edge, between_edges, change_at, count_if, is_as_shown, edge_of, upper_edge, with_version, with_write, committed};
 
 use crate::runs::Runs;
-use crate::{Cell, Data, EdgeRef, SortKey, Write};
+use crate::{Cell, CommittedChange, Data, EdgeRef, SortKey, Write};
 use je_lsn::Lsn;
 use node_core::Version;
 use std::alloc::{AllocError, Global};
@@ -85,16 +85,61 @@ fn set_version_in(
     }
 }
 
-// Commits the change of the name's cell.
-fn commit_in(cells: &mut BTreeMap<SortKey, Cell>, name: &SortKey, at: Lsn, last: &Option<Lsn>)
-    requires { IsSome (value_at name.now cells.old.entries) }
-    ensures list { (c : _) → value_at name.now cells.old.entries ≡ Some c → cells.new.entries ≡ set_value (is_at (name_cmp name.now)) cells.old.entries (committed at last.now c) }
-    ensures others { (x : Name) → value_at x cells.new.entries ≡ (if is_eq (name_cmp name.now x) then option_map (committed at last.now) (value_at name.now cells.old.entries) else value_at x cells.old.entries) }
+// Commits a version with its data for the name's cell, and says whether the last image of its BIN says that. It gives the data back where the
+// name has no cell.
+fn give_version_in(
+    cells: &mut BTreeMap<SortKey, Cell>,
+    name: &SortKey,
+    version: &Version,
+    data: Data,
+    at: Lsn,
+    last: &Option<Lsn>,
+) -> Result<bool, Data>
+    ensures given { OnOk result (IsSome (value_at name.now cells.old.entries)) }
+    ensures list { OnOk result ((c : _) → value_at name.now cells.old.entries ≡ Some c → cells.new.entries ≡ set_value (is_at (name_cmp name.now)) cells.old.entries (with_version version.now «data» at last.now c)) }
+    ensures others { OnOk result ((x : Name) → value_at x cells.new.entries ≡ (if is_eq (name_cmp name.now x) then option_map (with_version version.now «data» at last.now) (value_at name.now cells.old.entries) else value_at x cells.old.entries)) }
+    ensures shown { IfOk result (λ shown. option_map (is_as_shown last.now) (value_at name.now cells.new.entries) ≡ Some shown) }
+    ensures back { IfErr result (λ d. d ≡ «data») }
+    ensures absent { OnErr result (value_at name.now cells.old.entries ≡ None) }
+    ensures same { OnErr result (cells.new.entries ≡ cells.old.entries) }
     ensures rising { IsRising cells.new.entries }
 {
     match cells.get_mut(name) {
-        Some(cell) => cell.commit(at, last),
-        None => {}
+        Some(cell) => {
+            cell.set_version(*version, data, at, last);
+            Ok(cell.is_as_shown(last))
+        }
+        None => Err(data),
+    }
+}
+
+// Commits the change of the name's cell, if it has one, and gives where that was logged.
+fn commit_change_in(
+    cells: &mut BTreeMap<SortKey, Cell>,
+    name: &SortKey,
+    at: Lsn,
+    last: &Option<Lsn>,
+) -> Option<CommittedChange>
+    ensures from { option_map (λ r. r.from) result ≡ option_and_then change_at (value_at name.now cells.old.entries) }
+    ensures given { IfSome result (λ r. IsSome (value_at name.now cells.old.entries)) }
+    ensures shown { IfSome result (λ r. option_map (is_as_shown last.now) (value_at name.now cells.new.entries) ≡ Some r.is_shown) }
+    ensures list { IfSome result (λ r. (c : _) → value_at name.now cells.old.entries ≡ Some c → cells.new.entries ≡ set_value (is_at (name_cmp name.now)) cells.old.entries (committed at last.now c)) }
+    ensures others { IfSome result (λ r. (x : Name) → value_at x cells.new.entries ≡ (if is_eq (name_cmp name.now x) then option_map (committed at last.now) (value_at name.now cells.old.entries) else value_at x cells.old.entries)) }
+    ensures same { result ≡ None → cells.new.entries ≡ cells.old.entries }
+    ensures rising { IsRising cells.new.entries }
+{
+    match cells.get_mut(name) {
+        Some(cell) => match cell.written() {
+            Some(from) => {
+                cell.commit(at, last);
+                Some(CommittedChange {
+                    from,
+                    is_shown: cell.is_as_shown(last),
+                })
+            }
+            None => None,
+        },
+        None => None,
     }
 }
 
@@ -297,15 +342,44 @@ impl Cells {
         set_version_in(cells, name, version, data, at, last);
     }
 
-    /// Commits the change of the name's cell, by the Commit at `at`. The last image of the cell's BIN is
-    /// at `last`. It takes no memory.
-    pub fn commit(&mut self, name: &SortKey, at: Lsn, last: &Option<Lsn>)
-        requires { IsSome (value_at name.now self.old) }
-        ensures list { (c : _) → value_at name.now self.old ≡ Some c → self.new ≡ set_value (is_at (name_cmp name.now)) self.old (committed at last.now c) }
-        ensures others { (x : Name) → value_at x self.new ≡ (if is_eq (name_cmp name.now x) then option_map (committed at last.now) (value_at name.now self.old) else value_at x self.old) }
+    /// Commits a version with its data for the name's cell, by the Commit at `at`, and says whether the last image of the cell's BIN, which is
+    /// at `last`, says that. Where the name has no cell it changes nothing, and gives the data back. It takes no memory.
+    pub fn give_version(
+        &mut self,
+        name: &SortKey,
+        version: &Version,
+        data: Data,
+        at: Lsn,
+        last: &Option<Lsn>,
+    ) -> Result<bool, Data>
+        ensures given { OnOk result (IsSome (value_at name.now self.old)) }
+        ensures others { OnOk result ((x : Name) → value_at x self.new ≡ (if is_eq (name_cmp name.now x) then option_map (with_version version.now «data» at last.now) (value_at name.now self.old) else value_at x self.old)) }
+        ensures shown { IfOk result (λ shown. option_map (is_as_shown last.now) (value_at name.now self.new) ≡ Some shown) }
+        ensures back { IfErr result (λ d. d ≡ «data») }
+        ensures absent { OnErr result (value_at name.now self.old ≡ None) }
+        ensures same { OnErr result (self.new ≡ self.old) }
         ensures rising { IsRising self.new }
     {
         let Cells { cells, runs: _ } = self;
-        commit_in(cells, name, at, last);
+        give_version_in(cells, name, version, data, at, last)
+    }
+
+    /// Commits the change of the name's cell, if it has one, by the Commit at `at`. It gives where the change was logged, and whether the
+    /// last image of the cell's BIN, which is at `last`, says what is committed then. It takes no memory.
+    pub fn commit_change(
+        &mut self,
+        name: &SortKey,
+        at: Lsn,
+        last: &Option<Lsn>,
+    ) -> Option<CommittedChange>
+        ensures from { option_map (λ r. r.from) result ≡ option_and_then change_at (value_at name.now self.old) }
+        ensures given { IfSome result (λ r. IsSome (value_at name.now self.old)) }
+        ensures shown { IfSome result (λ r. option_map (is_as_shown last.now) (value_at name.now self.new) ≡ Some r.is_shown) }
+        ensures others { IfSome result (λ r. (x : Name) → value_at x self.new ≡ (if is_eq (name_cmp name.now x) then option_map (committed at last.now) (value_at name.now self.old) else value_at x self.old)) }
+        ensures same { result ≡ None → self.new ≡ self.old }
+        ensures rising { IsRising self.new }
+    {
+        let Cells { cells, runs: _ } = self;
+        commit_change_in(cells, name, at, last)
     }
 }

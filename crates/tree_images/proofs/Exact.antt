@@ -16,7 +16,8 @@ use Rattle.tree_nodes.specs.Levels.{row_of}
 use Rattle.tree_nodes.specs.Lows.{lows_of}
 use Rattle.db_tree.specs.declared.node_at.NodeAt.{NodeAt}
 use Rattle.db_tree.specs.declared.node_split.NodeSplit.{NodeSplit}
-use Rattle.db_tree.specs.Dirty.{AreExact, are_as_shown, is_as_imaged, is_as_shown}
+use Rattle.db_tree.specs.Dirty.{AreExact, are_as_shown, is_as_imaged}
+use Rattle.record_map.specs.Cells.{is_as_shown}
 use Rattle.db_tree.specs.NodeSteps.{AreWaiting, MayWait, slot_splits}
 use Rattle.db_tree.specs.Shapes.{shape_in}
 use Rattle.db_tree.specs.Splits.{is_raised}

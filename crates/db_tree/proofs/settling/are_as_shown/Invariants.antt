@@ -1,6 +1,6 @@
 use Rattle.std.proofs.Common.{◌≡◌}
 use Rattle.std.specs.List.{list_all}
-use Rattle.db_tree.specs.Dirty.{is_as_shown}
+use Rattle.record_map.specs.Cells.{is_as_shown}
 use Rattle.db_tree.proofs.settling.are_as_shown.Given as goal
 
 abbrev pub invariant-loop-name : goal.invariant-loop-name

@@ -1,4 +1,4 @@
-use Rattle.std.proofs.Common.{◌≡◌, ◌∙◌, ◌≤◌, ◌+◌, ℕ, List, length, take, arith, refl, sym, ap, true, Equal, Ordering}
+use Rattle.std.proofs.Common.{◌≡◌, ◌∙◌, arith, refl, sym, ap, true, Ordering}
 use Rattle.std.specs.Ordering.{nat_cmp, ordering_then, is_ne}
 use Rattle.je_order.specs.Order.{bytes_cmp}
 use Rattle.je_order.proofs.Parts.{less_same, more_same, all_same, found, not_found, decides}

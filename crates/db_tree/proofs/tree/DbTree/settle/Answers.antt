@@ -4,10 +4,20 @@ use Rattle.je_order.specs.declared.name.Name.{Name}
 use Rattle.tree_nodes.specs.declared.node.Node.{Node}
 use Rattle.tree_nodes.specs.Nodes.{without_mark}
 use Rattle.tree_nodes.specs.Levels.{row_of}
-use Rattle.db_tree.proofs.DirtyLaws.{imaged_last, settled_tree, unlike_away, unmarked_at}
+use Rattle.db_tree.proofs.DirtyLaws.{imaged_last, imaged_may, settled_tree, unlike_away, unmarked_at}
 use Rattle.db_tree.proofs.NodeSteps.{nodes_put}
 use Rattle.db_tree.proofs.WaitLaws.{put_alike}
 use Rattle.db_tree.proofs.tree.DbTree.settle.Goals as goal
+
+pub returns-then-not-may_settle-clause-settled : goal.returns-then-not-may_settle-clause-settled
+returns-then-not-may_settle-clause-settled c =
+    let e : Name × Node = (c.over.result.0.now, c.over.result.1.now) in
+    record {
+      e = e;
+      over = c.over.ensures.over;
+      cleared = λ h. absurd (true≢false (sym (imaged_may (row_of c.args.self.now.levels 0) c.args.self.now.cells e h) ∙ sym c.may_settle.ensures ∙ c.if-not-may_settle.true));
+      kept = λ h. refl;
+    }
 
 pub returns-then-differs-clause-settled : goal.returns-then-differs-clause-settled
 returns-then-differs-clause-settled c =

@@ -1,4 +1,4 @@
-use Rattle.std.proofs.Common.{◌≡◌, ◌<◌, ◌∙◌, ℕ, suc, get_or, length, sym, arith}
+use Rattle.std.proofs.Common.{◌<◌, length, arith}
 use Rattle.record_map.proofs.RunLaws.{bound_read, no_run, none_counts, raised_runs, run_counts, run_found}
 use Rattle.record_map.proofs.runs.Runs.count_name.Goals as goal
 

@@ -1,4 +1,4 @@
-use Rattle.std.proofs.Common.{◌<◌, ◌∙◌, ℕ, get_or, option_copied, subst, sym, arith}
+use Rattle.std.proofs.Common.{◌<◌, get_or, option_copied, subst, sym, arith}
 use Rattle.record_map.specs.Runs.{IsEnd}
 use Rattle.record_map.proofs.RunLaws.{few_between, bound_read}
 use Rattle.record_map.proofs.runs.Runs.is_below.Goals as goal
