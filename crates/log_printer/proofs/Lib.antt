@@ -1,4 +1,4 @@
 -- The lines of entries, one entry after another.
 mod EntryLines
 -- A reading of the log for printing.
-mod ReadingLaws
+pub mod ReadingLaws
