@@ -1,33 +1,76 @@
--- What transactions changed, after a change of the map.
-use Rattle.std.proofs.Common.{◌≡◌, ℕ, cond, List, [], Some, None, Option, ap, sym, ◌∙◌, subst, ⊎_elim}
-use Rattle.std.specs.Prelude.{Vec}
-use Rattle.std.specs.declared.alloc.Global.{Global}
-use Rattle.std.specs.Option.{option_map_or}
-use Rattle.std.proofs.lemmas.Bool.{cases_Bool, cond-true, cond-false}
+-- The counts of what transactions changed, after a change of their map.
+use Rattle.std.proofs.Common.{◌≡◌, ℕ, ◌+◌, ◌==◌, true, false, cond, List, [], ◌∷◌, ◌++◌, Some, None, Option, length, refl, ap, ap₂, sym, ◌∙◌, subst, ⊎_elim, arith}
+use Rattle.std.specs.Prelude.{unwrap_or, count_by}
+use Rattle.std.proofs.lemmas.Bool.{cases_Bool, cond-true, cond-false, eqb-true}
+use Rattle.std.proofs.lemmas.Bool.Decides.{nat_tests}
+use Rattle.std.proofs.lemmas.List.{length-append}
+use Rattle.std.proofs.lemmas.List.Sums.{sum_by-append}
 use Rattle.je_order.specs.declared.txn_id.TxnId.{TxnId}
 use Rattle.je_order.specs.Transactions.{is_same_txn}
 use Rattle.je_order.proofs.TxnIds.{same_is}
 use Rattle.lock_table.specs.Table.{at_txn}
 use Rattle.lock_table.proofs.RecordLists.{IsChangedAt, changed_here, changed_there}
 use Rattle.store_model.specs.declared.record_change.RecordChange.{RecordChange}
-use Rattle.active_txns.specs.Own.{changes_at, OwnEntries}
+use Rattle.je_answers.specs.Standing.{with_at}
+use Rattle.active_txns.specs.declared.own_counts.OwnCounts.{OwnCounts}
+use Rattle.active_txns.specs.Own.{AreCounted, OwnEntries, counted, counts_at, if_counted, is_set, joined, none_counted}
 
-abbrev pub Changes : Type 0
-Changes = Vec (ℕ × RecordChange) Global
+abbrev Changes : Type 0
+Changes = List (ℕ × RecordChange)
 
-abbrev changes_in : Option Changes → List (ℕ × RecordChange)
-changes_in o = option_map_or (λ (x : Changes). x.items) o []
-
--- one transaction's entry is another one
-pub changes_put : (old new : OwnEntries) (u : TxnId) (w : Changes) (list : List (ℕ × RecordChange)) → IsChangedAt old new u (Some w) → w.items ≡ list → (t : TxnId) → changes_at t new ≡ cond (is_same_txn u t) list (changes_at t old)
-changes_put old new u w list c is t = ⊎_elim
-    (λ h. ap changes_in (changed_here old new u (Some w) c t h) ∙ (is ∙ sym (cond-true (is_same_txn u t) list (changes_at t old) h)))
-    (λ h. ap changes_in (changed_there old new u (Some w) c t h) ∙ sym (cond-false (is_same_txn u t) list (changes_at t old) h))
+-- one transaction's entry is another one, or none
+pub counts_put : (old new : OwnEntries) (u : TxnId) (w : Option OwnCounts) → IsChangedAt old new u w → (t : TxnId) → counts_at t new ≡ cond (is_same_txn u t) (unwrap_or w none_counted) (counts_at t old)
+counts_put old new u w c t = ⊎_elim
+    (λ h. ap (λ o. unwrap_or o none_counted) (changed_here old new u w c t h) ∙ sym (cond-true (is_same_txn u t) (unwrap_or w none_counted) (counts_at t old) h))
+    (λ h. ap (λ o. unwrap_or o none_counted) (changed_there old new u w c t h) ∙ sym (cond-false (is_same_txn u t) (unwrap_or w none_counted) (counts_at t old) h))
     (cases_Bool (is_same_txn u t))
 
--- and its changes are what they were
-pub changes_stay : (old new : OwnEntries) (u : TxnId) (v w : Changes) → Some v ≡ at_txn u old → IsChangedAt old new u (Some w) → w.items ≡ v.items → (t : TxnId) → changes_at t new ≡ changes_at t old
-changes_stay old new u v w has c is t = ⊎_elim
-    (λ h. ap changes_in (changed_here old new u (Some w) c t h) ∙ (is ∙ ap changes_in (subst (λ (x : TxnId). Some v ≡ at_txn x old) (same_is u t h) has)))
-    (λ h. ap changes_in (changed_there old new u (Some w) c t h))
-    (cases_Bool (is_same_txn u t))
+same_either : (m n : ℕ) → (m == n) ≡ (n == m)
+same_either m n = grind (arith, nat_tests)
+
+-- one transaction changed more, or less
+pub are_counted_at : (old new : OwnEntries) (txn : TxnId) (counts : OwnCounts) (own : ℕ → Changes) (list : Changes) → ((t : TxnId) → counts_at t new ≡ cond (is_same_txn txn t) counts (counts_at t old))
+    → counts ≡ counted list → ((n : ℕ) → (n == txn.0) ≡ false → counts_at (record { 0 = n }) old ≡ counted (own n)) → AreCounted new (with_at txn.0 list own)
+are_counted_at old new txn counts own list put is others n = ⊎_elim
+    (λ e. put (record { 0 = n }) ∙ (cond-true (txn.0 == n) counts (counts_at (record { 0 = n }) old) (same_either txn.0 n ∙ e) ∙ (is ∙ ap counted (sym (cond-true (n == txn.0) list (own n) e)))))
+    (λ e. put (record { 0 = n }) ∙ (cond-false (txn.0 == n) counts (counts_at (record { 0 = n }) old) (same_either txn.0 n ∙ e) ∙ (others n e ∙ ap counted (sym (cond-false (n == txn.0) list (own n) e)))))
+    (cases_Bool (n == txn.0))
+
+set_append : (xs ys : Changes) → count_by (λ c. is_set c.1) (xs ++ ys) ≡ count_by (λ c. is_set c.1) xs + count_by (λ c. is_set c.1) ys
+set_append xs ys = sum_by-append _ xs ys
+
+joined_counts : (xs ys : Changes) → joined (counted xs) (counted ys) ≡ counted (xs ++ ys)
+joined_counts xs ys = ap₂ (λ (n m : ℕ). record { len = n; set = m }) (sym (length-append xs ys)) (sym (set_append xs ys))
+
+pub are_pushed : (old new : OwnEntries) (txn : TxnId) (counts : OwnCounts) → ((t : TxnId) → counts_at t new ≡ cond (is_same_txn txn t) (joined (counts_at txn old) counts) (counts_at t old))
+    → (own : ℕ → Changes) (more : Changes) → counts ≡ counted more → AreCounted old own → AreCounted new (with_at txn.0 (own txn.0 ++ more) own)
+are_pushed old new txn counts put own more is are =
+    are_counted_at old new txn (joined (counts_at txn old) counts) own (own txn.0 ++ more) put (ap₂ joined (are txn.0) is ∙ joined_counts (own txn.0) more) (λ n e. are n)
+
+pub are_gone : (old new : OwnEntries) (txn : TxnId) → ((t : TxnId) → counts_at t new ≡ cond (is_same_txn txn t) none_counted (counts_at t old))
+    → (own : ℕ → Changes) → AreCounted old own → AreCounted new (with_at txn.0 [] own)
+are_gone old new txn put own are = are_counted_at old new txn none_counted own [] put refl (λ n e. are n)
+
+-- where nothing is counted of changes and more of them, there are none
+none_before : (xs ys : Changes) → none_counted ≡ counted (xs ++ ys) → none_counted ≡ counted xs
+none_before [] ys e = refl
+none_before (x ∷ xs) ys e = absurd (omega (arith, ap (λ (c : OwnCounts). c.len) e))
+
+-- the changes before the last ones are all again
+pub are_back : (old new : OwnEntries) (txn : TxnId) (counts : OwnCounts) → ((t : TxnId) → counts_at t new ≡ cond (is_same_txn txn t) (if_counted (at_txn txn old) counts) (counts_at t old))
+    → (own : ℕ → Changes) (more : Changes) → counts ≡ counted (own txn.0) → AreCounted old (with_at txn.0 (own txn.0 ++ more) own) → AreCounted new own
+are_back old new txn counts put own more is are n = ⊎_elim
+    (λ e. let k : n ≡ txn.0 = eqb-true n txn.0 e in
+    put (record { 0 = n }) ∙ (cond-true (txn.0 == n) (if_counted (at_txn txn old) counts) (counts_at (record { 0 = n }) old) (same_either txn.0 n ∙ e) ∙ (back (at_txn txn old) (here ∙ ap counted (cond-true (txn.0 == txn.0) (own txn.0 ++ more) (own txn.0) (itself txn.0))) ∙ ap (λ (m : ℕ). counted (own m)) (sym k))))
+    (λ e. put (record { 0 = n }) ∙ (cond-false (txn.0 == n) (if_counted (at_txn txn old) counts) (counts_at (record { 0 = n }) old) (same_either txn.0 n ∙ e) ∙ (are n ∙ ap counted (cond-false (n == txn.0) (own txn.0 ++ more) (own n) e))))
+    (cases_Bool (n == txn.0))
+  where
+    here : unwrap_or (at_txn txn old) none_counted ≡ counted (with_at txn.0 (own txn.0 ++ more) own txn.0)
+    here = are txn.0
+
+    itself : (m : ℕ) → (m == m) ≡ true
+    itself m = grind (arith, nat_tests)
+
+    back : (o : Option OwnCounts) → unwrap_or o none_counted ≡ counted (own txn.0 ++ more) → if_counted o counts ≡ counted (own txn.0)
+    back None e = none_before (own txn.0) more e
+    back (Some old) e = is

@@ -1,29 +1,47 @@
--- What transactions under way changed, by their numbers.
-use Rattle.std.specs.Prelude.{ℕ, ◌≡◌, ◌++◌, if◌then◌else◌, List, [], ◌∷◌, Bool, true, false, Vec}
-use Rattle.std.specs.declared.alloc.Global.{Global}
-use Rattle.std.specs.Option.{option_map_or}
+-- What is kept of the own changes of transactions under way, by their numbers.
+use Rattle.std.specs.Prelude.{ℕ, ◌≡◌, ◌+◌, ◌==◌, not, List, [], ◌∷◌, Bool, true, false, Option, Some, None, unwrap_or, length, count_by}
 use Rattle.je_order.specs.declared.txn_id.TxnId.{TxnId}
-use Rattle.je_order.specs.Transactions.{is_same_txn}
 use Rattle.lock_table.specs.Table.{at_txn}
 use Rattle.store_model.specs.declared.record_change.RecordChange.{RecordChange}
+use Rattle.store_model.specs.declared.record_change.RecordChange.TheVariants.{Set, Unset}
+use Rattle.active_txns.specs.declared.own_counts.OwnCounts.{OwnCounts}
 
--- what each transaction changed, each change with its database's number
+-- whether a change sets a name
+abbrev pub is_set : RecordChange → Bool
+is_set (Set at value) = true
+is_set (Unset at) = false
+
+-- the counts of changes
+abbrev pub counted : List (ℕ × RecordChange) → OwnCounts
+counted cs = record { len = length cs; set = count_by (λ c. is_set c.1) cs }
+
+abbrev pub none_counted : OwnCounts
+none_counted = record { len = 0; set = 0 }
+
+abbrev pub joined : OwnCounts → OwnCounts → OwnCounts
+joined a b = record { len = a.len + b.len; set = a.set + b.set }
+
+-- the counts of each transaction that changed something
 abbrev pub OwnEntries : Type 0
-OwnEntries = List (TxnId × Vec (ℕ × RecordChange) Global)
+OwnEntries = List (TxnId × OwnCounts)
 
--- the changes of a transaction, in order
-abbrev pub changes_at : TxnId → OwnEntries → List (ℕ × RecordChange)
-changes_at t entries = option_map_or (λ own. own.items) (at_txn t entries) []
+abbrev pub counts_at : TxnId → OwnEntries → OwnCounts
+counts_at t entries = unwrap_or (at_txn t entries) none_counted
 
--- the own changes of each transaction, by its number
-abbrev pub own_of : OwnEntries → ℕ → List (ℕ × RecordChange)
-own_of entries n = changes_at (record { 0 = n }) entries
+-- the counts of a transaction, if there are some
+abbrev pub if_counted : Option OwnCounts → OwnCounts → OwnCounts
+if_counted None counts = none_counted
+if_counted (Some old) counts = counts
+
+-- the counts are those of what each transaction changed
+abbrev pub AreCounted : OwnEntries → (ℕ → List (ℕ × RecordChange)) → Type 0
+AreCounted entries own = (n : ℕ) → counts_at (record { 0 = n }) entries ≡ counted (own n)
 
 -- whether something was changed
 abbrev pub has_changes : List (ℕ × RecordChange) → Bool
 has_changes [] = false
 has_changes (c ∷ cs) = true
 
--- a transaction has these changes more
-abbrev pub HasMore : TxnId → List (ℕ × RecordChange) → OwnEntries → OwnEntries → Type 0
-HasMore t more old new = (u : TxnId) → changes_at u new ≡ (if is_same_txn t u then changes_at t old ++ more else changes_at u old)
+-- the same by the counts
+abbrev pub has_some : OwnCounts → Bool
+has_some counts = not (counts.len == 0)

@@ -1,35 +1,37 @@
 // The transactions under way.
-ghost use Rattle.std.specs.Prelude.{List as Items, filter, length, ◌==◌, ℕ, ◌≡◌, ◌++◌, ◌∷◌, [], None, take, if◌then◌else◌, OnOk, OnErr};
+ghost use Rattle.std.specs.Prelude.{List as Items, filter, length, ◌==◌, ℕ, ◌≡◌, ◌++◌, ◌∷◌, [], None, OnOk, OnErr};
 ghost use Rattle.std.specs.Option.{option_copied};
 ghost use Rattle.je_answers.specs.Standing.{active_of, with_at};
 ghost use Rattle.je_answers.specs.After.{marked, without_session};
 ghost use Rattle.active_txns.specs.Marks.{marked_for, HaveOwnSessions};
-ghost use Rattle.active_txns.specs.Own.{own_of, has_changes};
+ghost use Rattle.active_txns.specs.Own.{AreCounted, counted, counts_at, has_some};
+ghost use Rattle.store_model.specs.declared.record_change.RecordChange.{RecordChange as Changed};
 ghost use Rattle.je_answers.specs.declared.active.Active.{Active as Begun};
 ghost use Rattle.je_order.specs.declared.txn_id.TxnId.{TxnId};
 
+use crate::OwnCounts;
 use crate::marking::mark_in;
-use crate::owned::{push_all_at, read_at, remove_at, truncate_at};
+use crate::owned::{push_at, read_at, remove_at, set_at};
 use je_answers::Active;
 use je_order::{List, TxnId};
 use std::alloc::{AllocError, Global};
 use std::collections::BTreeMap;
-use store_model::{Durability, Isolation, RecordChange};
+use store_model::{Durability, Isolation};
 
-/// The transactions under way, in the order of their numbers, and what each has changed so far. It is made
+/// The transactions under way, in the order of their numbers, and how much each has changed so far. It is made
 /// once and lives as long as the environment. A session has one transaction at most.
 #[derive(Drop)]
 pub struct ActiveTxns {
     actives: Vec<Active>,
-    // What each has changed, each change with its database's number.
-    own: BTreeMap<TxnId, Vec<(u32, RecordChange)>>,
+    // The counts of what each has changed.
+    own: BTreeMap<TxnId, OwnCounts>,
 }
 
 impl ActiveTxns {
     /// No transaction. It takes no memory.
     pub fn new(alloc: Global) -> ActiveTxns
         ensures actives { result.actives.items ≡ [] }
-        ensures own { own_of result.own.entries ≡ (λ n. []) }
+        ensures own { AreCounted result.own.entries (λ n. []) }
     {
         ActiveTxns {
             actives: Vec::new(alloc),
@@ -88,7 +90,7 @@ impl ActiveTxns {
 
     /// How many transactions have changed something.
     pub fn owing(&self) -> usize
-        ensures { result ≡ length (filter (λ a. has_changes (own_of self.now.own.entries a.txn.0)) self.now.actives.items) }
+        ensures { result ≡ length (filter (λ a. has_some (counts_at a.txn self.now.own.entries)) self.now.actives.items) }
     {
         self.actives
             .iter()
@@ -98,9 +100,9 @@ impl ActiveTxns {
 
     // Whether a transaction has changed something.
     fn has_own(&self, txn: TxnId) -> bool
-        ensures { result ≡ has_changes (own_of self.now.own.entries txn.0) }
+        ensures { result ≡ has_some (counts_at txn self.now.own.entries) }
     {
-        !read_at(&self.own, txn).is_empty()
+        read_at(&self.own, txn).len != 0
     }
 
     /// Takes back the last transaction that was begun. It takes no memory.
@@ -111,35 +113,30 @@ impl ActiveTxns {
         let _ = self.actives.pop();
     }
 
-    /// What a transaction has changed so far, in order, each change with its database's number.
-    pub fn own(&self, txn: TxnId) -> &[(u32, RecordChange)]
-        ensures { result.now ≡ own_of self.now.own.entries txn.0 }
+    /// How many changes a transaction has made so far, and how many of them set a name.
+    pub fn own(&self, txn: TxnId) -> OwnCounts
+        ensures { result ≡ counts_at txn self.now.own.entries }
     {
         read_at(&self.own, txn)
     }
 
-    /// Puts changes, each with its database's number, at the end of a transaction's, all of them or none. The
-    /// only error is out of memory, and nothing is changed by it.
-    pub fn push_all(
-        &mut self,
-        alloc: Global,
-        txn: TxnId,
-        changes: Vec<(u32, RecordChange)>,
-    ) -> Result<(), AllocError>
-        ensures own { OnOk result (own_of self.new.own.entries ≡ with_at txn.0 (own_of self.old.own.entries txn.0 ++ changes.items) (own_of self.old.own.entries)) }
+    /// Counts changes that are put at the end of a transaction's. The only error is out of memory, or that a
+    /// number ends; nothing is changed by it.
+    pub fn push(&mut self, txn: TxnId, counts: OwnCounts) -> Result<(), AllocError>
+        ensures own { OnOk result ((own : ℕ → Items (ℕ × Changed)) (more : Items (ℕ × Changed)) → counts ≡ counted more → AreCounted self.old.own.entries own → AreCounted self.new.own.entries (with_at txn.0 (own txn.0 ++ more) own)) }
         ensures actives { self.new.actives.items ≡ self.old.actives.items }
-        ensures err { OnErr result (own_of self.new.own.entries ≡ own_of self.old.own.entries) }
+        ensures err { OnErr result (self.new.own.entries ≡ self.old.own.entries) }
     {
-        push_all_at(&mut self.own, alloc, txn, changes)
+        push_at(&mut self.own, txn, counts)
     }
 
-    /// Leaves the first changes of a transaction, as where the log did not take the last ones. It takes no
-    /// memory.
-    pub fn truncate_own(&mut self, txn: TxnId, len: usize)
-        ensures own { own_of self.new.own.entries ≡ with_at txn.0 (take len (own_of self.old.own.entries txn.0)) (own_of self.old.own.entries) }
+    /// Sets a transaction's counts back to those before its last changes, as where the log did not take these.
+    /// It takes no memory.
+    pub fn set_back(&mut self, txn: TxnId, counts: OwnCounts)
+        ensures own { (own : ℕ → Items (ℕ × Changed)) (more : Items (ℕ × Changed)) → counts ≡ counted (own txn.0) → AreCounted self.old.own.entries (with_at txn.0 (own txn.0 ++ more) own) → AreCounted self.new.own.entries own }
         ensures actives { self.new.actives.items ≡ self.old.actives.items }
     {
-        truncate_at(&mut self.own, txn, len);
+        set_at(&mut self.own, txn, counts);
     }
 
     /// Marks a session's transaction as the victim of this cycle; it can then only be aborted. It takes no
@@ -155,7 +152,7 @@ impl ActiveTxns {
     /// Ends a session's transaction, with what it changed. It takes no memory.
     pub fn end(&mut self, session: u8, txn: TxnId)
         ensures actives { self.new.actives.items ≡ without_session session self.old.actives.items }
-        ensures own { own_of self.new.own.entries ≡ with_at txn.0 [] (own_of self.old.own.entries) }
+        ensures own { (own : ℕ → Items (ℕ × Changed)) → AreCounted self.old.own.entries own → AreCounted self.new.own.entries (with_at txn.0 [] own) }
     {
         self.actives.retain(|active| active.session != session);
         remove_at(&mut self.own, txn);

@@ -1,6 +1,7 @@
 -- The disk of a log buffer while its log grows.
-use Rattle.std.specs.Prelude.{◌≡◌, ℕ, ◌≤◌, Bool, true, List, [], ◌++◌, Option}
-use Rattle.je_disk.specs.Moments.{History, Passes, now}
+use Rattle.std.specs.Prelude.{◌≡◌, ℕ, ◌≤◌, true, List, [], ◌++◌, Option}
+use Rattle.je_disk.specs.DiskMeaning.{DiskMeaning}
+use Rattle.je_disk.specs.Moments.{Passes, now}
 use Rattle.store_model.specs.declared.change.Change.{Change}
 use Rattle.store_model.specs.declared.store.Store.{Store}
 use Rattle.log_entry.specs.declared.entry.Entry.{Entry}
@@ -16,27 +17,27 @@ use Rattle.crash_recovery.specs.Recovery.{RecoversLog, IsStateRecovered}
 
 module _ {D : Type 0} where
   -- a buffer over an observable disk has a log of which a crash keeps so many entries
-  pub record IsHeld (observable : Bool) (history : D → History) (x : LogBuffer D) (log : Log) (least : ℕ) (begun : Option ℕ) : Type 0 where
-    pub observed : observable ≡ true
-    pub has : HasLog observable (now (history (disk_of x))) x log
-    pub holds : Holds log [] least begun (first_of x) (now (history (disk_of x)))
+  pub record IsHeld (meaning : DiskMeaning D) (x : LogBuffer D) (log : Log) (least : ℕ) (begun : Option ℕ) : Type 0 where
+    pub observed : meaning.observable ≡ true
+    pub has : HasLog meaning.observable (now (meaning.history (disk_of x))) x log
+    pub holds : Holds log [] least begun (first_of x) (now (meaning.history (disk_of x)))
 
   -- the disk of a buffer that has a log
-  abbrev pub StandingRecovers : Bool → (D → History) → Type 0
-  StandingRecovers observable history = (first : ℕ) (opening : Store) (base least : ℕ) (begun : Option ℕ) (transactions : List (List Change)) (x : LogBuffer D) (log : Log)
-      → IsHeld observable history x log least begun → RecoversLog first opening base transactions log → base ≤ least
-      → IsStateRecovered log opening (commits_in base least (placed log)) transactions (now (history (disk_of x)))
+  abbrev pub StandingRecovers : DiskMeaning D → Type 0
+  StandingRecovers meaning = (first : ℕ) (opening : Store) (base least : ℕ) (begun : Option ℕ) (transactions : List (List Change)) (x : LogBuffer D) (log : Log)
+      → IsHeld meaning x log least begun → RecoversLog first opening base transactions log → base ≤ least
+      → IsStateRecovered log opening (commits_in base least (placed log)) transactions (now (meaning.history (disk_of x)))
 
   -- at each moment since, where the log got entries: the transactions that the longer log recovers, at least those that the entries kept of the log before commit
-  abbrev pub GrowthRecovers : Bool → (D → History) → (D → Option ℕ) → (D → Option ℕ) → (D → ℕ) → Type 0
-  GrowthRecovers observable history sync_out read_out read_of = (first : ℕ) (opening : Store) (base least : ℕ) (begun : Option ℕ) (transactions : List (List Change)) (x y : LogBuffer D)
-      (entries : List Entry) (log : Log) → IsHeld observable history x log least begun → Grew observable history sync_out read_out read_of x y entries
+  abbrev pub GrowthRecovers : DiskMeaning D → Type 0
+  GrowthRecovers meaning = (first : ℕ) (opening : Store) (base least : ℕ) (begun : Option ℕ) (transactions : List (List Change)) (x y : LogBuffer D)
+      (entries : List Entry) (log : Log) → IsHeld meaning x log least begun → Grew meaning x y entries
       → RecoversLog first opening base transactions (longer x entries log) → base ≤ least
-      → Passes (history (disk_of x)) (history (disk_of y)) (IsStateRecovered (longer x entries log) opening (commits_in base least (placed log)) transactions)
+      → Passes (meaning.history (disk_of x)) (meaning.history (disk_of y)) (IsStateRecovered (longer x entries log) opening (commits_in base least (placed log)) transactions)
 
   -- the same where the disk failed while the first of these entries were appended
-  abbrev pub TriedRecovers : Bool → (D → History) → (D → Option ℕ) → (D → Option ℕ) → (D → ℕ) → Type 0
-  TriedRecovers observable history sync_out read_out read_of = (first : ℕ) (opening : Store) (base least : ℕ) (begun : Option ℕ) (transactions : List (List Change)) (x y : LogBuffer D)
-      (front rest entries : List Entry) (log : Log) → IsHeld observable history x log least begun → Tried observable history sync_out read_out read_of x y front → front ++ rest ≡ entries
+  abbrev pub TriedRecovers : DiskMeaning D → Type 0
+  TriedRecovers meaning = (first : ℕ) (opening : Store) (base least : ℕ) (begun : Option ℕ) (transactions : List (List Change)) (x y : LogBuffer D)
+      (front rest entries : List Entry) (log : Log) → IsHeld meaning x log least begun → Tried meaning x y front → front ++ rest ≡ entries
       → RecoversLog first opening base transactions (longer x entries log) → base ≤ least
-      → Passes (history (disk_of x)) (history (disk_of y)) (IsStateRecovered (longer x entries log) opening (commits_in base least (placed log)) transactions)
+      → Passes (meaning.history (disk_of x)) (meaning.history (disk_of y)) (IsStateRecovered (longer x entries log) opening (commits_in base least (placed log)) transactions)

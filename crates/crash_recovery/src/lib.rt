@@ -57,7 +57,7 @@ pub fn found_logs_recover()
 /// The disk of a log buffer, before a call, at each moment of a call that appends entries, and of one
 /// that meets a fault, whatever entries were to follow.
 pub fn growth_recovers<D: Disk>()
-    ensures standing { StandingRecovers D.observable D.history }
-    ensures grew { GrowthRecovers D.observable D.history D.sync_out D.read_out D.read_of }
-    ensures tried { TriedRecovers D.observable D.history D.sync_out D.read_out D.read_of }
+    ensures standing { StandingRecovers D.meaning }
+    ensures grew { GrowthRecovers D.meaning }
+    ensures tried { TriedRecovers D.meaning }
 {}

@@ -6,3 +6,5 @@ pub mod Walks
 pub mod ListLaws
 -- Rising names between edges, and how they are walked.
 pub mod NameWalks
+-- A look for the record of one name passes that name.
+mod PassedLaws

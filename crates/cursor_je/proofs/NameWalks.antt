@@ -52,6 +52,15 @@ first_is from upto (m ∷ names) up = by (is_below from m) refl (is_below upto m
         ∙ ap (λ (t : Bool). cond t (Some m) None) f
         ∙ sym (ap₂ (λ (t u : Bool). cond (not t && u) (Some m) (find within names)) e f ∙ none_later from upto m names f up.0)
 
+-- none is between an edge and itself
+pub none_between : (edge : Edge) (names : List Name) → find (is_within (range edge edge)) names ≡ None
+none_between edge [] = refl
+none_between edge (n ∷ names) = by (is_below edge n) ∙ none_between edge names
+  where
+    by : (b : Bool) → cond (not b && b) (Some n) (find (is_within (range edge edge)) names) ≡ find (is_within (range edge edge)) names
+    by true = refl
+    by false = refl
+
 -- ---- a walk
 
 dropped : (p : Name → Bool) (m : Name) (names : List Name) → p m ≡ false → filter p (m ∷ names) ≡ filter p names

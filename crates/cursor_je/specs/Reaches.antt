@@ -37,6 +37,12 @@ pub record HasPassed (kind : Kind) (l : Look) (pairs : List Pair) (p : Passed) :
   pub within : range_in p ≡ passed_to kind l.way l.range (seen_by kind l pairs)
   pub ended : (answered : Bool) → (p.is_ended && answered) ≡ ends l.way answered (seen_by kind l pairs)
 
+-- what was passed, as far as it is locked: by the types of the locks, and by whether the record that was taken is answered
+abbrev pub LocksPassed : Kind → Look → List Pair → ReadPart → Bool → Passed → Type 0
+LocksPassed kind l pairs part answered p = (db : ℕ) (occupied : List Name) →
+    part_needs db (part_in (Some part)) (range_in p) (p.is_ended && answered) occupied
+    ≡ part_needs db (part_in (Some part)) (passed_to kind l.way l.range (seen_by kind l pairs)) (ends l.way answered (seen_by kind l pairs)) occupied
+
 -- the name that was found, if it is below an edge
 abbrev pub kept_below : Edge → Option Name → Option Name
 kept_below upto None = None

@@ -17,6 +17,7 @@ pub mod name_edge;
 pub mod name_ref;
 pub mod names;
 pub mod needing;
+mod passing;
 pub mod planned;
 pub mod planning;
 pub mod reach;

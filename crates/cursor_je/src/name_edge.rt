@@ -1,6 +1,7 @@
 // Where a search begins or ends.
-ghost use Rattle.std.specs.Prelude.{◌≡◌};
+ghost use Rattle.std.specs.Prelude.{◌≡◌, true};
 ghost use Rattle.je_order.specs.Edges.{is_below};
+ghost use Rattle.je_order.specs.Edges.Edge.{Behind};
 ghost use Rattle.cursor_je.specs.Looks.{name_in, edge_in};
 
 use crate::NameRef;
@@ -33,6 +34,16 @@ impl<'a> NameEdge<'a> {
             NameEdge::Behind(edge) => edge.cmp_name(name).is_ge(),
             NameEdge::BehindKey(key) => cmp_bytes(key, name.key).is_ge(),
             NameEdge::End => true,
+        }
+    }
+
+    /// Whether it is right behind the name.
+    pub fn is_behind(&self, name: &NameRef<'_>) -> bool
+        ensures { result ≡ true → edge_in self.now ≡ Behind (name_in name.now) }
+    {
+        match self {
+            NameEdge::Behind(edge) => edge.cmp_name(name).is_eq(),
+            _ => false,
         }
     }
 }

@@ -1,19 +1,20 @@
 // The locks that a call needs.
-ghost use Rattle.std.specs.Prelude.{◌≡◌, ◌++◌, ◌&&◌, map, filter, find, option_map, Some, IfOk, OnOk};
+ghost use Rattle.std.specs.Prelude.{◌≡◌, ◌++◌, ◌&&◌, map, filter, find, option_map, Some, true, IfOk, OnOk};
 ghost use Rattle.std.specs.Option.{option_copied};
 ghost use Rattle.je_order.specs.declared.bound.Bound.TheVariants.{At as On};
 ghost use Rattle.je_order.specs.declared.name.Name.{Name as OneName};
 ghost use Rattle.je_order.specs.Edges.Edge.{Behind};
 ghost use Rattle.store_model.specs.Reads.{at_name, range, is_within};
-ghost use Rattle.store_model.specs.Records.{evaluation};
+ghost use Rattle.store_model.specs.Records.{conclude, evaluation, look_of};
 ghost use Rattle.store_model.specs.Needs.{need, place_of, first_from, needs_behind, part_needs, write_type, changed_name, insert_needs, write_needs};
-ghost use Rattle.cursor_je.specs.Looks.{name_in, edge_in, planned_in};
+ghost use Rattle.cursor_je.specs.Looks.{name_in, edge_in, planned_in, seen_by};
 ghost use Rattle.cursor_je.specs.Reaches.{part_in, range_in, kept_below, read_needs as needs_of_read, read_unless};
 
 use crate::name_ref::name_ref;
+use crate::passing::pass_planned;
 use crate::planned::Planned;
 use crate::planning::early_of;
-use crate::reach::{Passed, pass, reach_of};
+use crate::reach::Passed;
 use crate::read_part::{ReadPart, part_of};
 use crate::{NameEdge, NameRef, Names, View};
 use je_order::{Bound, Name, copy_of};
@@ -37,6 +38,16 @@ fn name_below<'a>(upto: NameEdge<'_>, found: Option<NameRef<'a>>) -> Option<Name
     }
 }
 
+// Whether both edges are right behind one name, so that no name lies between them.
+fn is_same_edge(from: NameEdge<'_>, upto: NameEdge<'_>) -> bool
+    ensures { result ≡ true → edge_in from.entry ≡ edge_in upto.entry }
+{
+    match from {
+        NameEdge::Behind(name) => upto.is_behind(&name),
+        _ => false,
+    }
+}
+
 // The first occupied name from an edge on and below another one.
 fn first_within<'a, N: Names>(
     alloc: Global,
@@ -46,6 +57,9 @@ fn first_within<'a, N: Names>(
 ) -> Result<Option<NameRef<'a>>, AllocError>
     ensures { IfOk result (λ found. option_map name_in found ≡ find (is_within (range (edge_in from.entry) (edge_in upto.entry))) (N.names_of names.now)) }
 {
+    if is_same_edge(from, upto) {
+        return Ok(None);
+    }
     let found = names.first_name(alloc, from)?;
     Ok(name_below(upto, found))
 }
@@ -148,15 +162,16 @@ fn push_read<V: View + Names>(
     db: u32,
     call: &Call,
     at: Option<&Name>,
-    answered: bool,
+    planned: &Planned,
 ) -> Result<(), AllocError>
-    ensures { OnOk result (needs.new.items ≡ needs.old.items ++ needs_of_read level db (V.kind_of view.now) call.now (option_copied at.entry) answered (V.pairs_of view.now) (V.names_of view.now)) }
+    requires { planned_in planned.now ≡ conclude (V.kind_of view.now) call.now (option_copied at) (seen_by (V.kind_of view.now) (look_of (V.kind_of view.now) call.now (option_copied at)) (V.pairs_of view.now)) }
+    ensures { OnOk result (needs.new.items ≡ needs.old.items ++ needs_of_read level db (V.kind_of view.now) call.now (option_copied at.entry) planned.now.answered (V.pairs_of view.now) (V.names_of view.now)) }
 {
     let Some(part) = part_of(level, call) else {
         return Ok(());
     };
-    let passed = pass(alloc, view, reach_of(view.kind(), call, at))?;
-    push_passed(alloc, view, needs, db, part, passed, answered)
+    let passed = pass_planned(alloc, view, part, call, at, planned)?;
+    push_passed(alloc, view, needs, db, part, passed, planned.answered)
 }
 
 fn write_type(level: Isolation) -> LockType
@@ -239,15 +254,6 @@ pub fn read_needs<V: View + Names>(
     if early_of(alloc, view, call, at)?.is_some() {
         return Ok(needs);
     }
-    push_read(
-        alloc,
-        view,
-        &mut needs,
-        level,
-        db,
-        call,
-        at,
-        planned.answered,
-    )?;
+    push_read(alloc, view, &mut needs, level, db, call, at, planned)?;
     Ok(needs)
 }

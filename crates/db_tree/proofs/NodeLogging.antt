@@ -15,7 +15,6 @@ use Rattle.db_tree.specs.Content.{NameState, bin_image, in_image, kept_by}
 use Rattle.db_tree.specs.NodeSteps.{mark_above}
 use Rattle.db_tree.specs.Trees.{IsTreeOf, IsTree, IsImageOf, IsHandedOn}
 use Rattle.db_tree.proofs.Longer.{longer}
-use Rattle.db_tree.specs.Splitting.{ImagedBelow, IsInImage}
 use Rattle.db_tree.proofs.Contents.{bins_show}
 use Rattle.db_tree.proofs.Children.{ins_show}
 use Rattle.db_tree.proofs.Logging.{logged as is_logged}
@@ -42,40 +41,6 @@ entry_is_last (p ∷ es) at e none = by_test (p.0 == at) (entry_is_last es at e)
     by_test : (t : Bool) → (entry_at es at ≡ None → entry_at (es ++ (at, e) ∷ []) at ≡ Some e) → cond t (Some p.1) (entry_at es at) ≡ None → cond t (Some p.1) (entry_at (es ++ (at, e) ∷ []) at) ≡ Some e
     by_test true rest h = absurd (none-some p.1 (sym h))
     by_test false rest h = rest h
-
--- a BIN is logged: the log gets its image, its mark is handed on, and the image is its last one
-pub bin_logged : (es : Placed) (base : ℕ) (newest : Name → ℕ) (old handed new : List NodeRow) (cells : List (Name × Cell)) (low : Name) (n : Node) (at db number : ℕ) (entry : Entry) →
-    IsRising cells → base ≤ at → AllByRecursion (λ p. p.0 < at) es → entry_at es at ≡ None → entry ≡ bin_image db number low (row_of old 0) cells → AreParts handed → row_of handed 0 ≡ row_of old 0 → value_at low (row_of handed 0) ≡ Some n →
-    IsHandedOn handed 0 low n → HasPutAt handed new 0 low (logged at n) →
-    ((es : Placed) (base : ℕ) (newest : Name → ℕ) (held : Name → NameState) → IsTreeOf es base newest old held → IsTreeOf es base newest handed held) →
-    IsTree es base newest old cells → IsTree (es ++ (at, entry) ∷ []) base newest new cells
-bin_logged es base newest old handed new cells low n at db number entry up begun before fresh_ is are same there hand put kept tree =
-    is_logged (es ++ (at, entry) ∷ []) base newest handed new (kept_by cells) 0 low n (logged at n) at are there put refl
-    (bins_show (es ++ (at, entry) ∷ []) handed cells db number at low n up (λ x. tree.know.touched x at begun before)
-    (entry_is_last es at entry fresh_ ∙ ap Some (is ∙ ap (λ (row : NodeRow). bin_image db number low row cells) (sym same))))
-    hand
-    (kept (es ++ (at, entry) ∷ []) base newest (kept_by cells) (longer es ((at, entry) ∷ []) base newest newest old (kept_by cells) (λ x. omega arith) tree))
-
--- an IN is logged: the log gets its image, its mark is handed on, and the image is its last one
-abbrev pub LogsIn : ℕ → ℕ → Type 0
-LogsIn level k = (es : Placed) (base : ℕ) (newest : Name → ℕ) (old handed new : List NodeRow) (held : Name → NameState) (low : Name) (n : Node) (at : ℕ) (entry : Entry) →
-    entry_at es at ≡ None → ImagedBelow old level k low → IsInImage old level k low entry → AreParts handed → row_of handed level ≡ row_of old level → row_of handed k ≡ row_of old k → value_at low (row_of handed level) ≡ Some n →
-    IsHandedOn handed level low n → HasPutAt handed new level low (logged at n) →
-    ((es : Placed) (base : ℕ) (newest : Name → ℕ) (held : Name → NameState) → IsTreeOf es base newest old held → IsTreeOf es base newest handed held) →
-    IsTreeOf es base newest old held → IsTreeOf (es ++ (at, entry) ∷ []) base newest new held
-
-in_logged_above : (k : ℕ) → LogsIn (suc k) k
-in_logged_above k es base newest old handed new held low n at entry fresh_ imaged is are same below there hand put kept tree =
-    let longer_tree = kept (es ++ (at, entry) ∷ []) base newest held (longer es ((at, entry) ∷ []) base newest newest old held (λ x. omega arith) tree) in
-    let with_image : (x : Name) (c : Name × Node) → IsOver (row_of handed (suc k)) x (low, n) → IsOver (row_of handed k) x c → (lsn : ℕ) × (c.1.last ≡ Some lsn) × IsRead (es ++ (at, entry) ∷ []) k lsn x =
-    λ x c upper over. let image = imaged x (low, n) c refl (subst (λ (row : NodeRow). IsOver row x (low, n)) same upper) (subst (λ (row : NodeRow). IsOver row x c) below over) in (image.0, image.1, longer_tree.reads k x c image.0 over image.1) in
-    is_logged (es ++ (at, entry) ∷ []) base newest handed new held (suc k) low n (logged at n) at are there put refl
-    (ins_show (es ++ (at, entry) ∷ []) handed held is.0 is.1 is.2 k at low n are there with_image
-    (entry_is_last es at entry fresh_ ∙ ap Some (is.3 ∙ ap₂ (λ (row under : NodeRow). in_image is.0 is.1 is.2 low row under) (sym same) (sym below))))
-    hand longer_tree
-
-pub in_logged : (level k : ℕ) → level ≡ suc k → LogsIn level k
-in_logged level k is = subst (λ (l : ℕ). LogsIn l k) (sym is) (in_logged_above k)
 
 -- a level is not the one two above it
 pub not_above : (level k : ℕ) → level ≡ suc k → k ≡ suc level → ⊥

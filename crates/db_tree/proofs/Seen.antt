@@ -195,17 +195,6 @@ made_seen old new name has x = ap seen (has x) ∙ by_name (same_or_other name x
         ∙ ap (λ (y : Name). seen (value_at y old)) same
     by_name (inr apart) = ap seen (other_stays name x (Some (cell_or_fresh (value_at name old))) (value_at x old) apart)
 
--- a cell that says nothing was taken out
-pub taken_seen : (old new : List (Name × Cell)) (name : Name) → ((x : Name) → value_at x new ≡ cond (is_eq (name_cmp name x)) None (value_at x old)) → seen (value_at name old) ≡ None →
-    (x : Name) → seen (value_at x new) ≡ seen (value_at x old)
-taken_seen old new name has none x = ap seen (has x) ∙ by_name (same_or_other name x)
-  where
-    by_name : (name ≡ x) ⊎ (is_eq (name_cmp name x) ≡ false) → seen (cond (is_eq (name_cmp name x)) None (value_at x old)) ≡ seen (value_at x old)
-    by_name (inl same) =
-        let equal : is_eq (name_cmp name x) ≡ true = subst (λ (y : Name). is_eq (name_cmp name y) ≡ true) same (ap is_eq (name_same name)) in
-        ap (λ (t : Bool). seen (cond t None (value_at x old))) equal ∙ sym none ∙ ap (λ (y : Name). seen (value_at y old)) same
-    by_name (inr apart) = ap seen (other_stays name x None (value_at x old) apart)
-
 -- no cell goes where one is put
 pub kept_put : (old new : List (Name × Cell)) (name : Name) (raw : Option Cell) → ((x : Name) → value_at x new ≡ cond (is_eq (name_cmp name x)) raw (value_at x old)) → IsSome raw →
     (x : Name) → IsSome (value_at x old) → IsSome (value_at x new)

@@ -41,13 +41,6 @@ image_is db number of_level level k low high rows slots children is at made are 
     ∙ children_of (between_edges (At low) (upper_edge high) (row_of rows k))
     ∙ ap (λ (o : Option Name). child_slots (between_edges (At low) (upper_edge o) (row_of rows k))) at)
 
--- the level below
-pub below_is : (level k : ℕ) (low : Name) (high : Option Name) (rows : List NodeRow) (slots : List Slot) → level ≡ suc k →
-    slots ≡ map slot_of (between_edges (At low) (upper_edge high) (row_of rows (level - 1))) → slots ≡ map slot_of (between_edges (At low) (upper_edge high) (row_of rows k))
-below_is level k low high rows slots is made =
-    let below : level - 1 ≡ k = omega (arith, is) in
-    made ∙ ap (λ (l : ℕ). map slot_of (between_edges (At low) (upper_edge high) (row_of rows l))) below
-
 -- ---- a split that is taken back
 
 over_same : (old new : NodeRow) (x : Name) (e : Name × Node) → ((q : Name) → value_at q new ≡ value_at q old) → IsOver new x e → IsOver old x e

@@ -34,14 +34,6 @@ name_of o = option_map (λ e. e.0) o
 abbrev pub middle_of : List (Name × Cell) → Option Name
 middle_of cells = name_of (slice_get cells (length cells - length cells / 2))
 
--- each child of the IN of a level with a low has an image, on the level below
-abbrev pub ImagedBelow : List NodeRow → ℕ → ℕ → Name → Type 0
-ImagedBelow rows level k low = (x : Name) (p c : Name × Node) → p.0 ≡ low → IsOver (row_of rows level) x p → IsOver (row_of rows k) x c → (lsn : ℕ) × (c.1.last ≡ Some lsn)
-
--- an entry is the image of the IN of a level with a low, made of its children on the level below
-abbrev pub IsInImage : List NodeRow → ℕ → ℕ → Name → Entry → Type 0
-IsInImage rows level k low entry = (db : ℕ) × (number : ℕ) × (of_level : ℕ) × (entry ≡ in_image db number of_level low (row_of rows level) (row_of rows k))
-
 -- each level has the same node under each low
 abbrev pub AreSameByName : List NodeRow → List NodeRow → Type 0
 AreSameByName old new = (k : ℕ) (x : Name) → value_at x (row_of new k) ≡ value_at x (row_of old k)

@@ -27,7 +27,6 @@ pub mod settling;
 pub mod slot_room;
 pub mod splitting;
 pub mod tree;
-pub mod tree_log;
 pub mod waiting;
 
 pub use laws::{images_show_their_nodes, splits_are_few, trees_are_covered, trees_fit_their_log};
@@ -37,4 +36,3 @@ pub use node_image::NodeImage;
 pub use node_split::NodeSplit;
 pub use slot_room::SlotRoom;
 pub use tree::DbTree;
-pub use tree_log::TreeLog;

@@ -13,28 +13,15 @@ ghost use Rattle.db_tree.specs.Shapes.{count_in, AreAlike};
 ghost use Rattle.db_tree.specs.Waiting.{waiting_of, still_waiting};
 ghost use Rattle.tree_nodes.specs.Lows.{lows_of};
 ghost use Rattle.db_tree.specs.Content.{NameState, bin_image, kept_by};
-ghost use Rattle.db_tree.specs.Splitting.{ImagedBelow, IsInImage};
 ghost use Rattle.tree_nodes.specs.declared.node.Node.{Node as Kept};
 ghost use Rattle.db_tree.specs.Trees.{IsTreeOf, IsTree, IsImageOf, IsHandedOn};
 
-use crate::{DbTree, TreeLog};
+use crate::DbTree;
 use je_lsn::Lsn;
 use log_entry::Entry;
 use record_map::SortKey;
 use record_tree::TreeErr;
 use tree_nodes::{Levels, Node};
-
-// The node of a level with the low.
-fn node_at(levels: &Levels, level: usize, low: &SortKey) -> Node
-    requires there { IsSome (value_at low.now (row_of levels.now level)) }
-    requires level { level < length levels.now }
-    ensures { value_at low.now (row_of levels.now level) ≡ Some result }
-{
-    match levels.at(level, low) {
-        Some(node) => node.copy(),
-        None => unreachable!(),
-    }
-}
 
 // From which LSN on the node above one lacks what an image of that one has, which is logged at `at`.
 fn mark_above(node: &Node, at: Lsn) -> Lsn
@@ -69,59 +56,6 @@ fn hand_on(levels: &mut Levels, level: usize, low: &SortKey, node: &Node, at: Ls
 }
 
 impl DbTree {
-    /// Logs an image of the BIN with the low: it is the BIN's last image, and its mark goes to the node
-    /// above it. The tree stays as it was where the log fails.
-    pub fn log_bin<L: TreeLog>(
-        &mut self,
-        log: &mut L,
-        low: &SortKey,
-        entry: &Entry,
-    ) -> Result<Lsn, TreeErr>
-        requires there { IsSome (value_at low.now (row_of self.old.levels 0)) }
-        requires entry { IsEntry entry.now }
-        requires image { (db : ℕ) × (number : ℕ) × (entry.now ≡ bin_image db number low.now (row_of self.old.levels 0) self.old.cells) }
-        ensures tree { IfOk result (λ at. (es : Placed) (base : ℕ) (newest : Name → ℕ) → base ≤ at → L.is_log log.old es → IsTree es base newest self.old.levels self.old.cells → IsTree (es ++ (at, entry.now) ∷ []) base newest self.new.levels self.new.cells) }
-        ensures log { IfOk result (λ at. (es : Placed) → L.is_log log.old es → L.is_log log.new (es ++ (at, entry.now) ∷ [])) }
-        ensures noted { IfOk result (λ at. IsNoted self.old.levels self.new.levels 0 low.now at) }
-        ensures cells { self.new.cells ≡ self.old.cells }
-        ensures err { OnErr result (self.new.levels ≡ self.old.levels) }
-    {
-        let _height = self.levels.height();
-        let _len = self.cells.len();
-        let at = log.append(entry)?;
-        let node = node_at(&self.levels, 0, low);
-        hand_on(&mut self.levels, 0, low, &node, at);
-        self.levels.set(0, low, node.logged(at));
-        Ok(at)
-    }
-
-    /// Logs an image of the IN of the level with the low, whose children all have an image: it is the IN's last image, and its mark goes
-    /// to the node above it. The tree stays as it was where the log fails.
-    pub fn log_in<L: TreeLog>(
-        &mut self,
-        log: &mut L,
-        level: usize,
-        low: &SortKey,
-        entry: &Entry,
-    ) -> Result<Lsn, TreeErr>
-        requires level { level < length self.old.levels }
-        requires there { IsSome (value_at low.now (row_of self.old.levels level)) }
-        requires entry { IsEntry entry.now }
-        requires image { (k : ℕ) × (level ≡ suc k) × ImagedBelow self.old.levels level k low.now × IsInImage self.old.levels level k low.now entry.now }
-        ensures tree { IfOk result (λ at. (es : Placed) (base : ℕ) (newest : Name → ℕ) → L.is_log log.old es → IsTree es base newest self.old.levels self.old.cells → IsTree (es ++ (at, entry.now) ∷ []) base newest self.new.levels self.new.cells) }
-        ensures log { IfOk result (λ at. (es : Placed) → L.is_log log.old es → L.is_log log.new (es ++ (at, entry.now) ∷ [])) }
-        ensures noted { IfOk result (λ at. IsNoted self.old.levels self.new.levels level low.now at) }
-        ensures cells { self.new.cells ≡ self.old.cells }
-        ensures err { OnErr result (self.new.levels ≡ self.old.levels) }
-    {
-        let _height = self.levels.height();
-        let at = log.append(entry)?;
-        let node = node_at(&self.levels, level, low);
-        hand_on(&mut self.levels, level, low, &node, at);
-        self.levels.set(level, low, node.logged(at));
-        Ok(at)
-    }
-
     /// The last image of the node of a level with the low is at `at`; its mark goes to the node above it. The same nodes are noted.
     pub fn note_image(&mut self, level: usize, low: &SortKey, at: Lsn)
         ensures cells { self.new.cells ≡ self.old.cells }

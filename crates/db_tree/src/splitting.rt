@@ -50,17 +50,6 @@ fn push_child(slots: &mut Vec<ChildSlot>, slot: Slot) -> Result<(), AllocError>
     Ok(())
 }
 
-// The slots of children in their IN's image.
-fn children_in(alloc: Global, slots: List<Slot>) -> Result<List<ChildSlot>, AllocError>
-    ensures { IfOk result (λ children. children ≡ children_in slots) }
-{
-    let mut children = Vec::new(alloc);
-    for slot in slots.into_vec() {
-        push_child(&mut children, slot)?;
-    }
-    Ok(List::from_vec(children))
-}
-
 // The name of the cell with so many before it.
 pub(crate) fn nth_name(
     alloc: Global,
@@ -129,30 +118,5 @@ impl DbTree {
         ensures cells { self.new.cells ≡ self.old.cells }
     {
         self.levels.join(level, middle);
-    }
-
-    /// The image of the IN of the level with the low, of the children that have one. `of_level` is the level as images
-    /// count it, with the BINs at 1.
-    pub fn in_entry(
-        &self,
-        alloc: Global,
-        db: u32,
-        number: u64,
-        of_level: u8,
-        level: usize,
-        low: &SortKey,
-    ) -> Result<Entry, AllocError>
-        requires there { level < length self.now.levels }
-        requires below { 0 < level }
-        ensures { (k : ℕ) → level ≡ suc k → IfOk result (λ entry. entry ≡ in_image db number of_level low.now (row_of self.now.levels level) (row_of self.now.levels k)) }
-    {
-        let high = self.levels.upper_bound(level, low);
-        let slots = self.levels.slots(alloc, level - 1, low, high)?;
-        Ok(Entry::In {
-            db,
-            node: number,
-            level: of_level,
-            slots: children_in(alloc, slots)?,
-        })
     }
 }

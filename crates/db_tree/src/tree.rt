@@ -42,18 +42,6 @@ pub struct DbTree {
     pub levels: Levels,
 }
 
-// Makes a cell for the name where it has none.
-fn make_cell(cells: &mut Cells, alloc: Global, name: &SortKey) -> Result<(), AllocError>
-    ensures cell { OnOk result (HasCell cells.old cells.new name.now (cell_or_fresh (value_at name.now cells.old))) }
-    ensures list { OnOk result (value_at name.now cells.old ≡ None → cells.new ≡ insert_entry name_cmp cells.old name.now fresh) }
-    ensures err { OnErr result (cells.new ≡ cells.old) }
-{
-    match cells.get(name) {
-        Some(_) => Ok(()),
-        None => cells.insert(name.copy(alloc)?, Cell::new()),
-    }
-}
-
 // Makes a cell for a name that has none.
 fn make_new(cells: &mut Cells, alloc: Global, name: &SortKey) -> Result<(), AllocError>
     requires { value_at name.now cells.old ≡ None }
@@ -166,19 +154,6 @@ fn version_logged(value: &Option<Octets>, at: Lsn) -> Version
     }
 }
 
-// Whether the name has a cell that says nothing.
-fn is_unused(cells: &Cells, name: &SortKey) -> bool
-    ensures { result ≡ true → seen (value_at name.now cells.now) ≡ None }
-{
-    match cells.get(name) {
-        Some(cell) => match (cell.version, &cell.write) {
-            (Version::Unset, None) => true,
-            _ => false,
-        },
-        None => false,
-    }
-}
-
 // Gives the change of the name up.
 fn give_up(cells: &mut Cells, name: &SortKey)
     ensures { (x : Name) → value_at x cells.new ≡ (if is_eq (name_cmp name.now x) then given_up (value_at name.now cells.old) else value_at x cells.old) }
@@ -268,17 +243,6 @@ impl DbTree {
         make_new(&mut self.cells, alloc, name)?;
         let _after = self.cells.len();
         Ok(())
-    }
-
-    /// Takes the name's cell out where it says nothing.
-    pub fn drop_unused(&mut self, name: &SortKey)
-        ensures same { occupied self.new.cells ≡ occupied self.old.cells }
-        ensures levels { self.new.levels ≡ self.old.levels }
-    {
-        let _len = self.cells.len();
-        if is_unused(&self.cells, name) {
-            self.cells.remove(name);
-        }
     }
 
     /// Gives the name's cell a change.
@@ -425,26 +389,6 @@ impl DbTree {
         self.redo_first(alloc, name, value, first, at)
     }
 
-    /// Gives the name a change that is not committed. Running out of memory changes nothing, and does
-    /// not come where the name has a cell.
-    pub fn set_write(
-        &mut self,
-        alloc: Global,
-        name: &SortKey,
-        write: Box<Write>,
-    ) -> Result<(), AllocError>
-        ensures cells { OnOk result (HasCell self.old.cells self.new.cells name.now (with_write (Some write) (cell_or_fresh (value_at name.now self.old.cells)))) }
-        ensures tree { (es : Placed) (base : ℕ) (newest : Name → ℕ) → IsTree es base newest self.old.levels self.old.cells → IsTree es base newest self.new.levels self.new.cells }
-        ensures exact { (due : Items NodeAt) → AreExact due self.old.levels self.old.cells → OnOk result (AreExact due self.new.levels self.new.cells) }
-        ensures levels { self.new.levels ≡ self.old.levels }
-        ensures err { OnErr result (self.new.cells ≡ self.old.cells) }
-    {
-        let _before = self.cells.len();
-        make_cell(&mut self.cells, alloc, name)?;
-        self.cells.set_write(name, Some(write));
-        Ok(())
-    }
-
     /// Gives the change of the name up: a cell of which nothing is committed goes. It takes no memory.
     pub fn abort(&mut self, name: &SortKey)
         ensures seen { (x : Name) → value_at x (occupied self.new.cells) ≡ (if is_eq (name_cmp name.now x) then after_abort (value_at x (occupied self.old.cells)) else value_at x (occupied self.old.cells)) }
@@ -457,25 +401,5 @@ impl DbTree {
         let _before = self.cells.len();
         give_up(&mut self.cells, name);
         let _after = self.cells.len();
-    }
-
-    /// The image of the BIN with the low.
-    pub fn bin_entry(
-        &self,
-        alloc: Global,
-        db: u32,
-        number: u64,
-        low: &SortKey,
-    ) -> Result<Entry, AllocError>
-        ensures { IfOk result (λ entry. entry ≡ bin_image db number low.now (row_of self.now.levels 0) self.now.cells) }
-    {
-        let _height = self.levels.height();
-        let high = self.levels.upper_bound(0, low);
-        let slots = record_slots(alloc, self.cells.between(low, high))?;
-        Ok(Entry::Bin {
-            db,
-            node: number,
-            slots,
-        })
     }
 }

@@ -93,19 +93,7 @@ where
 
     type ReadJob = DirReadJob<R::File>;
 
-    ghost observable = { false };
-
-    ghost history = { λ _. record { moment = 0; state_at = λ _. nothing } };
-
-    ghost faults = { λ disk. disk.faults };
-
-    ghost sync_out = { λ disk. disk.jobs.sync };
-
-    ghost read_out = { λ disk. disk.jobs.reading };
-
-    ghost read_of = { λ disk. disk.jobs.file.0 };
-
-    ghost last_job = { λ disk. disk.jobs.last_job };
+    ghost meaning = { record { observable = false; history = λ _. record { moment = 0; state_at = λ _. nothing }; faults = λ disk. disk.faults; sync_out = λ disk. disk.jobs.sync; read_out = λ disk. disk.jobs.reading; read_of = λ disk. disk.jobs.file.0; last_job = λ disk. disk.jobs.last_job } };
 
     fn mount(&mut self) -> Result<(), DiskErr>
         ensures sync_out { self.new.jobs.sync ≡ None }

@@ -1,7 +1,8 @@
 -- An environment answers calls on behind a call and behind a sync.
 use Rattle.std.proofs.Common.{◌≡◌, ℕ, Bool, true, false, true≢false, None, Some, Result, Ok, Err, ap, sym, if◌then◌else◌}
 use Rattle.std.specs.declared.alloc.AllocError.{AllocError}
-use Rattle.je_disk.specs.Moments.{History, now}
+use Rattle.je_disk.specs.DiskMeaning.{DiskMeaning}
+use Rattle.je_disk.specs.Moments.{now}
 use Rattle.store_model.specs.declared.answer.Answer.TheVariants.{Done, DiskFault}
 use Rattle.store_model.specs.declared.event.Event.{Event}
 use Rattle.store_model.specs.declared.event.Event.TheVariants.{SyncBegin}
@@ -12,8 +13,8 @@ use Rattle.environment.specs.declared.outcome.Outcome.{Outcome}
 use Rattle.environment.specs.Whole.{CanGoOn, GoesOn, IsAt, disk_of}
 use Rattle.embed_example.specs.Usable.{IsUsable}
 
-pub usable_at : {D : Type 0} {observable : Bool} {history : D → History} {environment : Environment D} {most : ℕ} {st : Standing} →
-    IsAt most observable (now (history (disk_of environment))) environment st → CanGoOn environment → IsUsable observable history environment
+pub usable_at : {D : Type 0} {meaning : DiskMeaning D} {environment : Environment D} {most : ℕ} {st : Standing} →
+    IsAt most meaning.observable (now (meaning.history (disk_of environment))) environment st → CanGoOn environment → IsUsable meaning environment
 usable_at {most = most} {st = st} here bounds = record { most = most; st = st; here = here; bounds = bounds }
 
 pub begun_valid : (st : Standing) (began : Bool) → began ≡ true → st.fault ≡ None → (after_event st (SyncBegin (if began then Done else DiskFault))).fault ≡ None
@@ -26,7 +27,7 @@ begun_out st true is commits same = ap (λ (n : ℕ). Some n) (sym same)
 begun_out st false is commits same = absurd (true≢false (sym is))
 
 -- it does so behind a call too, and where there was no memory for one
-pub usable_after : {D : Type 0} {observable : Bool} {history : D → History} {new : Environment D} (old : Environment D) (most : ℕ) (st left : Standing) (event : Outcome → Event) (result : Result Outcome AllocError) →
-    GoesOn most observable (now (history (disk_of new))) old new st event left result → CanGoOn new → IsUsable observable history new
+pub usable_after : {D : Type 0} {meaning : DiskMeaning D} {new : Environment D} (old : Environment D) (most : ℕ) (st left : Standing) (event : Outcome → Event) (result : Result Outcome AllocError) →
+    GoesOn most meaning.observable (now (meaning.history (disk_of new))) old new st event left result → CanGoOn new → IsUsable meaning new
 usable_after old most st left event (Ok o) goes bounds = usable_at goes.here bounds
 usable_after old most st left event (Err error) goes bounds = usable_at goes bounds

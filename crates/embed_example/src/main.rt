@@ -102,8 +102,8 @@ fn give<R: Runtime + AllocGlobal, D: Disk + Drop>(
     session: &mut Session<D>,
     call: &Call,
 ) -> Result<(), Trouble>
-    requires here { IsUsable D.observable D.history session.old.environment }
-    ensures here { IsUsable D.observable D.history session.new.environment }
+    requires here { IsUsable D.meaning session.old.environment }
+    ensures here { IsUsable D.meaning session.new.environment }
 {
     let answer = session.execute(call)?;
     print(rt, &answer)?;
@@ -115,7 +115,7 @@ fn give_calls<R: Runtime + AllocGlobal, D: Disk + Drop>(
     rt: &R,
     session: &mut Session<D>,
 ) -> Result<(), Trouble>
-    requires { IsUsable D.observable D.history session.old.environment }
+    requires { IsUsable D.meaning session.old.environment }
 {
     let alloc = rt.alloc();
     let create = Call::Create {

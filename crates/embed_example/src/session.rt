@@ -16,7 +16,7 @@ pub struct Session<D> {
 impl<D: Disk + Drop> Session<D> {
     /// Opens the environment that the disk has, or begins one on a disk without files.
     pub fn open(alloc: Global, disk: D) -> Result<Session<D>, OpenErr>
-        ensures { IfOk result (λ session. IsUsable D.observable D.history session.environment) }
+        ensures { IfOk result (λ session. IsUsable D.meaning session.environment) }
     {
         let config = Config {
             file_max: 10_000_000,
@@ -35,8 +35,8 @@ impl<D: Disk + Drop> Session<D> {
 
     /// Answers a call. A commit that was logged is synced, and answered when it is durable.
     pub fn execute(&mut self, call: &Call) -> Result<Answer, AllocError>
-        requires here { IsUsable D.observable D.history self.old.environment }
-        ensures here { IsUsable D.observable D.history self.new.environment }
+        requires here { IsUsable D.meaning self.old.environment }
+        ensures here { IsUsable D.meaning self.new.environment }
     {
         match self.answer(call)? {
             Answer::Logged { .. } => Ok(self.sync()),
@@ -46,8 +46,8 @@ impl<D: Disk + Drop> Session<D> {
 
     // Answers a call.
     fn answer(&mut self, call: &Call) -> Result<Answer, AllocError>
-        requires here { IsUsable D.observable D.history self.old.environment }
-        ensures here { IsUsable D.observable D.history self.new.environment }
+        requires here { IsUsable D.meaning self.old.environment }
+        ensures here { IsUsable D.meaning self.new.environment }
     {
         let outcome = self.environment.step(self.alloc, 1, 0, call)?;
         let Outcome { answer, victims: _ } = outcome;
@@ -56,8 +56,8 @@ impl<D: Disk + Drop> Session<D> {
 
     // Syncs the log.
     fn sync(&mut self) -> Answer
-        requires here { IsUsable D.observable D.history self.old.environment }
-        ensures here { IsUsable D.observable D.history self.new.environment }
+        requires here { IsUsable D.meaning self.old.environment }
+        ensures here { IsUsable D.meaning self.new.environment }
     {
         if let Some(first) = self.environment.fault() {
             return Answer::Invalid { first };

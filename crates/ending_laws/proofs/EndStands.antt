@@ -1,7 +1,7 @@
 -- The end of a checkpoint may stand behind a log that the trees fit.
 use Rattle.std.proofs.Common.{ℕ, ◌≤◌, ◌<◌, ◌-◌, Bool, List, Option, refl, arith}
 use Rattle.std.proofs.Math.Nat.{le_trans}
-use Rattle.je_disk.specs.Moments.{History}
+use Rattle.je_disk.specs.DiskMeaning.{DiskMeaning}
 use Rattle.je_order.proofs.Lists.{all_weaker}
 use Rattle.je_order.specs.declared.name.Name.{Name}
 use Rattle.log_entry.specs.Encoding.{size_of}
@@ -36,8 +36,8 @@ stands_on es base next later is_open rows is_live logged le s = record {
   apart = s.apart;
 }
 
-pub ends_may_stand : {D : Type 0} (observable : Bool) (history : D → History) → EndsMayStand observable history
-ends_may_stand observable history buffer log rows last_txn last_db is_active own first opening found transactions p summary since last trees h is redo =
+pub ends_may_stand : {D : Type 0} (meaning : DiskMeaning D) → EndsMayStand meaning
+ends_may_stand meaning buffer log rows last_txn last_db is_active own first opening found transactions p summary since last trees h is redo =
     let under = logs_lie_below log (end_of buffer) (last_of buffer) h.has.is_log h.has.ends in
     let some : 0 < pos_lsn (end_of buffer) - 1 = under.some in
     let next_low = h.gives.below in

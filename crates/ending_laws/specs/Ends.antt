@@ -1,7 +1,7 @@
 -- Where the end of a checkpoint may stand behind a log.
 use Rattle.std.specs.Prelude.{ℕ, ◌≡◌, ◌≤◌, Bool, true, List, Option, Some}
 use Rattle.std.specs.List.{AllByRecursion}
-use Rattle.je_disk.specs.Moments.{History}
+use Rattle.je_disk.specs.DiskMeaning.{DiskMeaning}
 use Rattle.store_model.specs.declared.change.Change.{Change}
 use Rattle.store_model.specs.declared.store.Store.{Store}
 use Rattle.log_entry.specs.declared.root.Root.{Root}
@@ -27,16 +27,16 @@ abbrev pub CellsAreRecords : Type 0
 CellsAreRecords = (is_open : ℕ → Bool) (trees : ℕ → Option DbTree) → ((d : ℕ) (tree : DbTree) → trees d ≡ Some tree → IsRising tree.cells)
     → AreRowsOf is_open (λ d x. data_at x (committed (λ b. occupied (cells_of (trees b))) d)) trees
 
-module _ {D : Type 0} (observable : Bool) (history : D → History) (buffer : LogBuffer D) (log : Log) (rows : Rows) (last_txn last_db : ℕ) (is_active : ℕ → Bool) (own : ℕ → List OwnChange) where
+module _ {D : Type 0} (meaning : DiskMeaning D) (buffer : LogBuffer D) (log : Log) (rows : Rows) (last_txn last_db : ℕ) (is_active : ℕ → Bool) (own : ℕ → List OwnChange) where
   -- the log gives the same as before, of the same life, and such an end may stand behind it
   pub record MayGetEnd (base first : ℕ) (p : EndParts) (summary : Option ℕ) : Type 0 where
-    pub given : HasGiven observable history buffer log rows last_txn last_db is_active own
+    pub given : HasGiven meaning buffer log rows last_txn last_db is_active own
     pub same : given.gives.base ≡ base
-    pub may : MayHaveEnd observable history buffer log rows last_txn last_db is_active own given first p summary
+    pub may : MayHaveEnd meaning buffer log rows last_txn last_db is_active own given first p summary
 
   -- An end's redo LSN: the log's redo may begin there, no image of the trees lacks what was logged before it, nor was anything logged before it by a
   -- transaction under way. The trees fit the log, and have its records.
-  pub record HasRedo (h : HasGiven observable history buffer log rows last_txn last_db is_active own) (since redo last : ℕ) (trees : ℕ → Option DbTree) (roots : List Root) : Type 0 where
+  pub record HasRedo (h : HasGiven meaning buffer log rows last_txn last_db is_active own) (since redo last : ℕ) (trees : ℕ → Option DbTree) (roots : List Root) : Type 0 where
     pub from : EndsFrom log h.gives.base since
     pub since_low : since ≤ redo
     pub names : MayEndTrees buffer trees redo roots
@@ -44,10 +44,10 @@ module _ {D : Type 0} (observable : Bool) (history : D → History) (buffer : Lo
     pub records : AreRowsOf h.gives.is_open (λ d x. data_at x (rows d)) trees
     pub firsts : (t : ℕ) → is_live last_txn is_active t ≡ true → AllByRecursion (λ c. redo ≤ c.written.at) (h.gives.logged t)
 
-module _ {D : Type 0} (observable : Bool) (history : D → History) where
+module _ {D : Type 0} (meaning : DiskMeaning D) where
   abbrev pub EndsMayStand : Type 0
   EndsMayStand = (buffer : LogBuffer D) (log : Log) (rows : Rows) (last_txn last_db : ℕ) (is_active : ℕ → Bool) (own : ℕ → List OwnChange) (first : ℕ) (opening : Store) (found : ℕ)
       (transactions : List (List Change)) (p : EndParts) (summary : Option ℕ) (since last : ℕ) (trees : ℕ → Option DbTree)
-      → (h : HasGiven observable history buffer log rows last_txn last_db is_active own) → RecoversLog first opening found transactions log
-      → HasRedo observable history buffer log rows last_txn last_db is_active own h since p.redo last trees p.roots
-      → MayGetEnd observable history buffer log rows last_txn last_db is_active own h.gives.base first p summary
+      → (h : HasGiven meaning buffer log rows last_txn last_db is_active own) → RecoversLog first opening found transactions log
+      → HasRedo meaning buffer log rows last_txn last_db is_active own h since p.redo last trees p.roots
+      → MayGetEnd meaning buffer log rows last_txn last_db is_active own h.gives.base first p summary

@@ -5,7 +5,7 @@ use je_disk::Disk;
 
 /// The end of a checkpoint may stand behind a log that the trees fit.
 pub fn ends_may_stand<D: Disk>()
-    ensures { EndsMayStand D.observable D.history }
+    ensures { EndsMayStand D.meaning }
 {}
 
 /// The records of trees are what transactions find committed in their cells.

@@ -1,8 +1,9 @@
 -- A call goes on as the model does.
 use Rattle.std.proofs.Common.{◌≡◌, ◌==◌, ◌^◌, nat_lt, ℕ, ◌+◌, ◌*◌, ◌<◌, ◌≤◌, Bool, true, List, [], ◌∷◌, Option, Some, None, Result, Ok, Err, IfOk, OnErr, length, refl, ap, ap₂, sym, ◌∙◌, subst, arith, ◌⊎◌, inl, inr}
 use Rattle.std.specs.declared.alloc.AllocError.{AllocError}
+use Rattle.je_disk.specs.DiskMeaning.{DiskMeaning}
 use Rattle.je_disk.specs.States.{State}
-use Rattle.je_disk.specs.Moments.{History, now}
+use Rattle.je_disk.specs.Moments.{now}
 use Rattle.store_model.specs.declared.answer.Answer.{Answer}
 use Rattle.store_model.specs.declared.answer.Answer.TheVariants.{Logged, LogFull, IdsEnded, DiskFault}
 use Rattle.store_model.specs.declared.call.Call.{Call}
@@ -103,31 +104,31 @@ module _ {D : Type 0} where
           let is : d ≡ planned.last_db = eqb-true d planned.last_db parts.1 in
           omega (arith, later, is)
 
-  module _ (observable : Bool) (history : D → History) (sync_out read_out : D → Option ℕ) (read_of : D → ℕ) where
-    drawn_along : (most : ℕ) (buffer other : LogBuffer D) (old new : Contents) (p : Alone) → AreAlone most observable (now (history (disk_of buffer))) buffer old p → old.last_txn < LAST_TXN →
-        IsSame (drawn_contents old) new → IsUnchanged buffer other → AreAlone most observable (now (history (disk_of other))) other new (drawn_alone p)
+  module _ (meaning : DiskMeaning D) where
+    drawn_along : (most : ℕ) (buffer other : LogBuffer D) (old new : Contents) (p : Alone) → AreAlone most meaning.observable (now (meaning.history (disk_of buffer))) buffer old p → old.last_txn < LAST_TXN →
+        IsSame (drawn_contents old) new → IsUnchanged buffer other → AreAlone most meaning.observable (now (meaning.history (disk_of other))) other new (drawn_alone p)
     drawn_along most buffer other old new p at below drawn same =
-        same_at observable history sync_out read_out read_of most buffer other (drawn_contents old) new (drawn_alone p)
-        (drawn_at observable history sync_out read_out read_of most (now (history (disk_of buffer))) buffer old p at below) drawn same
+        same_at meaning most buffer other (drawn_contents old) new (drawn_alone p)
+        (drawn_at meaning most (now (meaning.history (disk_of buffer))) buffer old p at below) drawn same
 
     -- changes were to be logged
     pub logs_end : (most : ℕ) (old new : Engine D) (p : Alone) (session : ℕ) (call : Call) (planned : PlannedChanges) (result : Result Answer AllocError) →
-        AreAlone most observable (now (history (disk_of old.trees.log))) old.trees.log (contents_of old) p → p.fault ≡ None → AreTrees old.trees → IsAutoCommitted call → old.kept.last_txn < LAST_TXN →
+        AreAlone most meaning.observable (now (meaning.history (disk_of old.trees.log))) old.trees.log (contents_of old) p → p.fault ≡ None → AreTrees old.trees → IsAutoCommitted call → old.kept.last_txn < LAST_TXN →
         old.kept.last_db ≤ LAST_DATABASE → IsPlannedLog (known (contents_of old)) p session call planned →
-        LogsChanges observable history sync_out read_out read_of old.trees.log new.trees.log (contents_of old) (contents_of new) planned (limit_in old.trees planned.changes.items 1) result →
+        LogsChanges meaning old.trees.log new.trees.log (contents_of old) (contents_of new) planned (limit_in old.trees planned.changes.items 1) result →
         LeavesTrees old.trees new.trees planned result →
-        EndsBy most observable (now (history (disk_of new.trees.log))) new (limit_planned old planned) p session call result
+        EndsBy most meaning.observable (now (meaning.history (disk_of new.trees.log))) new (limit_planned old planned) p session call result
     logs_end most old new p session call planned (Ok (Logged commit)) at none trees is below low log logs leaves =
-        let state : State = now (history (disk_of old.trees.log)) in
+        let state : State = now (meaning.history (disk_of old.trees.log)) in
         let after : Alone = committed_alone (log.change ∷ log.more) (drawn_alone p) in
         record {
           after = after;
           ends = subst (λ (n : ℕ). EndsAlone (limit_planned old planned) p session call (Logged n) after) (sym (logs.0 ∙ ap (λ n. n + 1) at.commits))
               (subst (λ (l : Option Answer). EndsAlone l p session call (Logged (p.commits + 1)) after) (sym logs.3)
-              (logged_ends (known (contents_of old)) p session call planned none is (model most observable state old.trees.log (contents_of old) p at none below) log logs.2));
-          here = logged_at observable history sync_out read_out read_of most old.trees.log new.trees.log (contents_of old) (contents_of new) p session call planned at none below log logs.2 logs.1 logs.4 logs.5;
+              (logged_ends (known (contents_of old)) p session call planned none is (model most meaning.observable state old.trees.log (contents_of old) p at none below) log logs.2));
+          here = logged_at meaning most old.trees.log new.trees.log (contents_of old) (contents_of new) p session call planned at none below log logs.2 logs.1 logs.4 logs.5;
           trees = λ valid. trees_named old.trees new.trees planned.changes.items planned.gone trees leaves.0 leaves.1
-              (logged_databases (contents_of old) (contents_of new) p session call planned (sound_at most observable state old.trees.log (contents_of old) p at none) log (let few = logs.2 in omega (arith, few)) logs.1);
+              (logged_databases (contents_of old) (contents_of new) p session call planned (sound_at most meaning.observable state old.trees.log (contents_of old) p at none) log (let few = logs.2 in omega (arith, few)) logs.1);
         }
     logs_end most old new p session call planned (Ok LogFull) at none trees is below low log logs leaves = record {
       after = drawn_alone p;
@@ -148,19 +149,19 @@ module _ {D : Type 0} where
         by_limit (inr past) =
             subst (λ (l : Option Answer). EndsAlone l p session call IdsEnded (drawn_alone p)) (sym past.0)
             (ids_ends (known (contents_of old)) p session call planned none is
-            (model most observable (now (history (disk_of old.trees.log))) old.trees.log (contents_of old) p at none below) log low past.1)
+            (model most meaning.observable (now (meaning.history (disk_of old.trees.log))) old.trees.log (contents_of old) p at none below) log low past.1)
     logs_end most old new p session call planned (Ok DiskFault) at none trees is below low log logs leaves =
-        let state : State = now (history (disk_of old.trees.log)) in
+        let state : State = now (meaning.history (disk_of old.trees.log)) in
         record {
           after = faulted_alone p;
           ends = subst (λ (l : Option Answer). EndsAlone l p session call DiskFault (faulted_alone p)) (sym logs.2)
-              (fault_ends (known (contents_of old)) p session call planned none is (model most observable state old.trees.log (contents_of old) p at none below) log logs.1);
-          here = faulted_at most observable state (now (history (disk_of new.trees.log))) old.trees.log new.trees.log (contents_of old) (contents_of new) p p.begun at logs.0 logs.3.tried.max;
+              (fault_ends (known (contents_of old)) p session call planned none is (model most meaning.observable state old.trees.log (contents_of old) p at none below) log logs.1);
+          here = faulted_at most meaning.observable state (now (meaning.history (disk_of new.trees.log))) old.trees.log new.trees.log (contents_of old) (contents_of new) p p.begun at logs.0 logs.3.tried.max;
           trees = λ valid. absurd cc;
         }
     logs_end most old new p session call planned (Ok answer) at none trees is below low log logs leaves = absurd logs
     logs_end most old new p session call planned (Err error) at none trees is below low log logs leaves =
-        (same_at observable history sync_out read_out read_of most old.trees.log new.trees.log (contents_of old) (contents_of new) p at logs.0 logs.1, leaves)
+        (same_at meaning most old.trees.log new.trees.log (contents_of old) (contents_of new) p at logs.0 logs.1, leaves)
 
 -- ---- where the model then stands
 
@@ -201,7 +202,7 @@ module _ {D : Type 0} where
 
 -- ---- how far it reaches
 
-module _ {D : Type 0} (observable : Bool) (history : D → History) (sync_out read_out : D → Option ℕ) (read_of : D → ℕ) where
+module _ {D : Type 0} (meaning : DiskMeaning D) where
   reach_same : (old new : Engine D) → end_file new.trees ≡ end_file old.trees → new.kept.last_node ≡ old.kept.last_node → reach_of new ≡ reach_of old
   reach_same old new end node = ap₂ (λ (f : ℕ) (n : ℕ). record { file = f; node = n }) end node
 
@@ -216,7 +217,7 @@ module _ {D : Type 0} (observable : Bool) (history : D → History) (sync_out re
 
   pub logs_grow : (old new : Engine D) (p : Alone) (session : ℕ) (call : Call) (planned : PlannedChanges) (found : Option TreeErr) (result : Result Answer AllocError) →
       p.fault ≡ None → IsAutoCommitted call → IsPlannedLog (known (contents_of old)) p session call planned →
-      LogsChanges observable history sync_out read_out read_of old.trees.log new.trees.log (contents_of old) (contents_of new) planned found result →
+      LogsChanges meaning old.trees.log new.trees.log (contents_of old) (contents_of new) planned found result →
       EndsNear old.trees new.trees (length planned.changes.items) result →
       IsWithin (reach_of new) (reach_after (reach_of old) (changes_of (early_refusal (alone p) session call) (alone p) session call))
   logs_grow old new p session call planned found (Ok (Logged commit)) none is log logs near =
@@ -230,18 +231,18 @@ module _ {D : Type 0} (observable : Bool) (history : D → History) (sync_out re
 
   -- where there was no memory it reaches as far as it did
   pub logs_stay : (old new : Engine D) (planned : PlannedChanges) (found : Option TreeErr) (result : Result Answer AllocError) →
-      LogsChanges observable history sync_out read_out read_of old.trees.log new.trees.log (contents_of old) (contents_of new) planned found result →
+      LogsChanges meaning old.trees.log new.trees.log (contents_of old) (contents_of new) planned found result →
       EndsNear old.trees new.trees (length planned.changes.items) result → OnErr result (reach_of new ≡ reach_of old)
   logs_stay old new planned found (Ok answer) logs near = tt
   logs_stay old new planned found (Err error) logs near = reach_same old new near logs.0.last_node
 
   -- a commit has the model's number
   pub logs_numbered : (most : ℕ) (state : State) (old new : Engine D) (limit : Option Answer) (st : Standing) (p : Alone) (session line : ℕ) (call : Call) (planned : PlannedChanges) (found : Option TreeErr) (result : Result Answer AllocError) →
-      st ≡ alone p → IsAutoCommitted call → EndsBy most observable state new limit p session call result →
-      LogsChanges observable history sync_out read_out read_of old.trees.log new.trees.log (contents_of old) (contents_of new) planned found result →
+      st ≡ alone p → IsAutoCommitted call → EndsBy most meaning.observable state new limit p session call result →
+      LogsChanges meaning old.trees.log new.trees.log (contents_of old) (contents_of new) planned found result →
       IfOk result (λ answer. IsNumbered answer (after_event st (Called session line call answer [])).commits)
   logs_numbered most state old new limit st p session line call planned found (Ok (Logged commit)) stands is ended logs =
-      let gone = is_gone most observable state new limit st p session line call (Logged commit) stands is ended in
-      logs.0 ∙ sym logs.1.commits ∙ commits_at most observable state new.trees.log (contents_of new) (after_event st (Called session line call (Logged commit) [])) gone.here.at
+      let gone = is_gone most meaning.observable state new limit st p session line call (Logged commit) stands is ended in
+      logs.0 ∙ sym logs.1.commits ∙ commits_at most meaning.observable state new.trees.log (contents_of new) (after_event st (Called session line call (Logged commit) [])) gone.here.at
   logs_numbered most state old new limit st p session line call planned found (Ok answer) stands is ended logs = tt
   logs_numbered most state old new limit st p session line call planned found (Err error) stands is ended logs = tt

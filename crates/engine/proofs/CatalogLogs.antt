@@ -6,7 +6,7 @@ use Rattle.std.proofs.lemmas.Bool.{cond-false, eq-eqb, ne_eqb, true≢false}
 use Rattle.std.proofs.lemmas.List.{append-nil}
 use mathlib.Core.Path.{fun_ext}
 use Rattle.std.specs.Ordering.{is_eq}
-use Rattle.je_disk.specs.Moments.{History}
+use Rattle.je_disk.specs.DiskMeaning.{DiskMeaning}
 use Rattle.je_order.specs.Order.{name_cmp}
 use Rattle.je_order.specs.declared.name.Name.{Name}
 use Rattle.je_order.specs.declared.txn_id.TxnId.{TxnId}
@@ -137,16 +137,16 @@ apart_free is_active own t planned apart =
     all_weaker (λ (p : TreeChange). (u : ℕ) → AllByRecursion (λ (c : OwnChange). c.0 ≢ p.db) (own u)) (λ p. (u : ℕ) → is_active u ≡ true → u ≢ t → has_own p.db p.name (own u) ≡ false)
     (λ p is u active other. none_own p.db p.name (own u) (is u)) planned apart
 
-module _ {D : Type 0} (observable : Bool) (history : D → History) (sync_out read_out : D → Option ℕ) (read_of : D → ℕ) where
+module _ {D : Type 0} (meaning : DiskMeaning D) where
   -- changes the first of which is of the catalog, which has no other one, were logged with their Commit; nobody has own changes in the databases that
   -- they are of
   unfoldable pub changes_leave_log : (old new : LogBuffer D) (log : Log) (rows : Rows) (is_active still : ℕ → Bool) (st after : Standing) (t : TxnId) (change : Change) (more : List Change) (planned : List TreeChange) (dropped : Option ℕ) →
-      IsLogAt observable history old log rows is_active st → ArePlanned rows st.last_db change more planned dropped → HasOwn st.last_txn is_active st.own t.0 [] →
+      IsLogAt meaning old log rows is_active st → ArePlanned rows st.last_db change more planned dropped → HasOwn st.last_txn is_active st.own t.0 [] →
       rows_after planned dropped rows 0 ≡ rows_changed (row_changes 0 st.last_db change rows) rows 0 → AreApart st.own planned →
       ((u : ℕ) → AllByRecursion (λ (c : OwnChange). IsElsewhere rows change c.0) (after.own u)) → ((u : ℕ) → AllByRecursion (MayBeCommitted rows) (after.own u)) →
-      (a : HasAdded observable history sync_out read_out read_of old new (LogsTransaction t planned)) →
+      (a : HasAdded meaning old new (LogsTransaction t planned)) →
       HasCommitted st after (change ∷ more) → st.last_txn ≤ after.last_txn → AreStillActive st.last_txn is_active (with_at t.0 [] st.own) still after.own →
-      IsLogAt observable history new (longer old a.entries log) (rows_after planned dropped rows) still after
+      IsLogAt meaning new (longer old a.entries log) (rows_after planned dropped rows) still after
   changes_leave_log old new log rows is_active still st after t change more planned dropped at are own catalog apart elsewhere may_own a has le active =
       let leaves : LeavesRows rows (rows_after planned dropped rows) st.last_db (change ∷ more) planned dropped = planned_rows rows st.last_db change more planned dropped are in
       let may : MayCommit st.last_txn is_active st.own rows (rows_after planned dropped rows) st.last_db after.last_db (λ d. is_gone d dropped) t [] planned = record {
@@ -155,7 +155,7 @@ module _ {D : Type 0} (observable : Bool) (history : D → History) (sync_out re
         leaves = subst (λ (n : ℕ). LeavesRecords rows (rows_after planned dropped rows) st.last_db n (λ d. is_gone d dropped) planned) (sym has.last_db)
             (leaves_records rows (rows_after planned dropped rows) st.last_db (change ∷ more) planned dropped leaves);
       } in
-      transaction_leaves_log observable history sync_out read_out read_of old new log rows (rows_after planned dropped rows) is_active still st after (λ d. is_gone d dropped) t [] planned (change ∷ more) at may
+      transaction_leaves_log meaning old new log rows (rows_after planned dropped rows) is_active still st after (λ d. is_gone d dropped) t [] planned (change ∷ more) at may
       leaves.store
       (λ name. ap (λ (f : List ℕ → ℕ). f name) (leaves.numbers ∙ numbers_alike (change ∷ more) st.last_db (number_named rows) st.numbers (fun_ext at.makes.named)))
       (λ u. stay (after.own u) (elsewhere u) (may_own u)) a has le active

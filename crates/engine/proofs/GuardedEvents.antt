@@ -2,6 +2,7 @@
 use Rattle.std.proofs.Common.{◌≡◌, ℕ, ◌≤◌, ◌⊎◌, inl, inr, Bool, true, false, List, [], ◌∷◌, ◌++◌, Option, None, refl, ap, sym, ◌∙◌, subst, arith, Some, length}
 use Rattle.std.specs.Prelude.{◌≢◌}
 use Rattle.std.proofs.lemmas.List.{append-nil}
+use Rattle.je_disk.specs.DiskMeaning.{DiskMeaning}
 use Rattle.je_disk.specs.States.{State}
 use Rattle.je_disk.specs.Moments.{History, now}
 use Rattle.je_order.specs.declared.txn_id.TxnId.{TxnId}
@@ -125,49 +126,49 @@ module _ {D : Type 0} where
   guarded_idle history_of st log start buffer other journal event apart same before none durable calm fault g =
       guarded_quiet st log start (history_of (disk_of other)) other journal event apart none durable calm fault (guarded_along history_of st log start buffer other journal same g before)
 
-  module _ (observable : Bool) (history : D → History) (sync_out read_out : D → Option ℕ) (read_of : D → ℕ) where
+  module _ (meaning : DiskMeaning D) where
     -- an event whose entries the log got, whatever sync is out
     pub guarded_grown : (st : Standing) (log : Log) (start : History) (buffer other : LogBuffer D) (journal : List Event) (event : Event) (more : List (List Change)) (entries : List Entry) →
-        observable ≡ true → (g : IsGuardedLog st log start (history (disk_of buffer)) buffer journal) → IsLoggedBy st journal event more →
-        Grew observable history sync_out read_out read_of buffer other entries →
+        meaning.observable ≡ true → (g : IsGuardedLog st log start (meaning.history (disk_of buffer)) buffer journal) → IsLoggedBy st journal event more →
+        Grew meaning buffer other entries →
         RecoversLog g.kept.first st.store g.base (g.kept.logged ++ more) (longer buffer entries log) →
-        IsGuardedLog st (longer buffer entries log) start (history (disk_of other)) other (journal ++ event ∷ [])
+        IsGuardedLog st (longer buffer entries log) start (meaning.history (disk_of other)) other (journal ++ event ∷ [])
     guarded_grown st log start buffer other journal event more entries observed g by grew recovers =
-        let keeping : IsKeeping (now (history (disk_of buffer))) buffer log g.least g.begun = g.works by.before in
-        let has = as_observed observable (now (history (disk_of buffer))) buffer log observed keeping.has in
-        let kept : IsKeeping (now (history (disk_of other))) other (longer buffer entries log) g.least g.begun = record {
-          has = of_observed observable (now (history (disk_of other))) other (longer buffer entries log) observed (grew.log log has);
+        let keeping : IsKeeping (now (meaning.history (disk_of buffer))) buffer log g.least g.begun = g.works by.before in
+        let has = as_observed meaning.observable (now (meaning.history (disk_of buffer))) buffer log observed keeping.has in
+        let kept : IsKeeping (now (meaning.history (disk_of other))) other (longer buffer entries log) g.least g.begun = record {
+          has = of_observed meaning.observable (now (meaning.history (disk_of other))) other (longer buffer entries log) observed (grew.log log has);
           holds = grew.holds observed log [] g.least g.begun has keeping.holds;
         } in
-        guarded_event st log start (history (disk_of buffer)) (history (disk_of other)) buffer other journal event more (longer buffer entries log) (g.kept.logged ++ more) [] g
+        guarded_event st log start (meaning.history (disk_of buffer)) (meaning.history (disk_of other)) buffer other journal event more (longer buffer entries log) (g.kept.logged ++ more) [] g
         (record {
           other = by.other;
           more_is = by.more_is;
           durable = by.durable;
           recovers = recovers;
-          attempts = ap (λ (l : List (List Change)). l ++ more) (all_logged st log start (history (disk_of buffer)) buffer journal g by.before) ∙ sym (append-nil (g.kept.logged ++ more));
-          synced = synced_grown st log start (history (disk_of buffer)) buffer journal entries g keeping.has;
+          attempts = ap (λ (l : List (List Change)). l ++ more) (all_logged st log start (meaning.history (disk_of buffer)) buffer journal g by.before) ∙ sym (append-nil (g.kept.logged ++ more));
+          synced = synced_grown st log start (meaning.history (disk_of buffer)) buffer journal entries g keeping.has;
         })
-        (grown_longer (now (history (disk_of buffer))) buffer log g.base entries keeping.has)
-        by.before (grew.crash observed log [] g.least g.begun has keeping.holds) (keeping_read (now (history (disk_of other))) other (longer buffer entries log) g.least g.begun kept)
+        (grown_longer (now (meaning.history (disk_of buffer))) buffer log g.base entries keeping.has)
+        by.before (grew.crash observed log [] g.least g.begun has keeping.holds) (keeping_read (now (meaning.history (disk_of other))) other (longer buffer entries log) g.least g.begun kept)
         (λ fault. (kept, by.calm))
-        (λ fault. covers_grown (after_events st journal).begun g.base log (longer buffer entries log) g.begun (grown_longer (now (history (disk_of buffer))) buffer log g.base entries keeping.has) (g.covers by.before))
+        (λ fault. covers_grown (after_events st journal).begun g.base log (longer buffer entries log) g.begun (grown_longer (now (meaning.history (disk_of buffer))) buffer log g.base entries keeping.has) (g.covers by.before))
         (λ fault. refl) (λ ok. by.after)
         (λ fault. sizes_more g.most (now start).reads buffer other log entries grew.max keeping.has.is_log keeping.has.ends (g.sizes by.before))
 
     -- an event behind whose first entries the disk failed; the log recovers all that was attempted, or all but these
     pub guarded_tried : (st : Standing) (log : Log) (start : History) (buffer other : LogBuffer D) (journal : List Event) (event : Event) (more : List (List Change)) (front : List Entry) →
-        observable ≡ true → (g : IsGuardedLog st log start (history (disk_of buffer)) buffer journal) → IsFailedBy st journal event more →
-        Tried observable history sync_out read_out read_of buffer other front →
+        meaning.observable ≡ true → (g : IsGuardedLog st log start (meaning.history (disk_of buffer)) buffer journal) → IsFailedBy st journal event more →
+        Tried meaning buffer other front →
         RecoversLog g.kept.first st.store g.base g.kept.logged (longer buffer front log) ⊎ RecoversLog g.kept.first st.store g.base (g.kept.logged ++ more) (longer buffer front log) →
-        IsGuardedLog st (longer buffer front log) start (history (disk_of other)) other (journal ++ event ∷ [])
+        IsGuardedLog st (longer buffer front log) start (meaning.history (disk_of other)) other (journal ++ event ∷ [])
     guarded_tried st log start buffer other journal event more front observed g by tried recovers = by_recovered recovers
       where
         old : History
-        old = history (disk_of buffer)
+        old = meaning.history (disk_of buffer)
 
         new : History
-        new = history (disk_of other)
+        new = meaning.history (disk_of other)
 
         grown : Log
         grown = longer buffer front log
@@ -176,7 +177,7 @@ module _ {D : Type 0} where
         keeping = g.works by.before
 
         through : KeptThrough old new grown [] g.least
-        through = tried.crash observed log [] g.least g.begun (as_observed observable (now old) buffer log observed keeping.has) keeping.holds
+        through = tried.crash observed log [] g.least g.begun (as_observed meaning.observable (now old) buffer log observed keeping.has) keeping.holds
 
         before_it : attempts_of st journal ≡ g.kept.logged
         before_it = all_logged st log start old buffer journal g by.before
@@ -207,127 +208,127 @@ module _ {D : Type 0} where
 
     -- a buffer's log, and the one that is guarded
     same_log : (st : Standing) (log given : Log) (start : History) (buffer : LogBuffer D) (journal : List Event) (rows : Rows) (last_txn last_db : ℕ) (is_active : ℕ → Bool) (own : ℕ → List OwnChange) →
-        observable ≡ true → (g : IsGuardedLog st log start (history (disk_of buffer)) buffer journal) → (after_events st journal).fault ≡ None →
-        HasGiven observable history buffer given rows last_txn last_db is_active own → HasGiven observable history buffer log rows last_txn last_db is_active own
+        meaning.observable ≡ true → (g : IsGuardedLog st log start (meaning.history (disk_of buffer)) buffer journal) → (after_events st journal).fault ≡ None →
+        HasGiven meaning buffer given rows last_txn last_db is_active own → HasGiven meaning buffer log rows last_txn last_db is_active own
     same_log st log given start buffer journal rows last_txn last_db is_active own observed g none h =
-        let state : State = now (history (disk_of buffer)) in
-        subst (λ (l : Log). HasGiven observable history buffer l rows last_txn last_db is_active own)
-        (one_log state buffer given log (of_observed observable state buffer given observed h.has) (g.works none).has) h
+        let state : State = now (meaning.history (disk_of buffer)) in
+        subst (λ (l : Log). HasGiven meaning buffer l rows last_txn last_db is_active own)
+        (one_log state buffer given log (of_observed meaning.observable state buffer given observed h.has) (g.works none).has) h
 
     -- an event that logs changes of a transaction under way, and no commit
     pub guarded_changes : (st : Standing) (log given : Log) (start : History) (buffer other : LogBuffer D) (journal : List Event) (event : Event) (rows : Rows) (last_txn last_db : ℕ) (is_active : ℕ → Bool)
-        (own : ℕ → List OwnChange) (t : TxnId) (changes : List TreeChange) → observable ≡ true → IsGuardedLog st log start (history (disk_of buffer)) buffer journal → IsLoggedBy st journal event [] →
-        HasGiven observable history buffer given rows last_txn last_db is_active own → MayAddChanges last_txn is_active own t changes →
-        (a : HasAdded observable history sync_out read_out read_of buffer other (LogsChanges t changes)) →
-        IsGuardedLog st (longer buffer a.entries log) start (history (disk_of other)) other (journal ++ event ∷ [])
+        (own : ℕ → List OwnChange) (t : TxnId) (changes : List TreeChange) → meaning.observable ≡ true → IsGuardedLog st log start (meaning.history (disk_of buffer)) buffer journal → IsLoggedBy st journal event [] →
+        HasGiven meaning buffer given rows last_txn last_db is_active own → MayAddChanges last_txn is_active own t changes →
+        (a : HasAdded meaning buffer other (LogsChanges t changes)) →
+        IsGuardedLog st (longer buffer a.entries log) start (meaning.history (disk_of other)) other (journal ++ event ∷ [])
     guarded_changes st log given start buffer other journal event rows last_txn last_db is_active own t changes observed g by h may a =
         guarded_grown st log start buffer other journal event [] a.entries observed g by a.grew
         (subst (λ (l : List (List Change)). RecoversLog g.kept.first st.store g.base l (longer buffer a.entries log)) (sym (append-nil g.kept.logged))
-        (changes_are_recovered observable history sync_out read_out read_of buffer other log rows last_txn last_db is_active own t changes g.kept.first st.store g.base g.kept.logged
+        (changes_are_recovered meaning buffer other log rows last_txn last_db is_active own t changes g.kept.first st.store g.base g.kept.logged
         (same_log st log given start buffer journal rows last_txn last_db is_active own observed g by.before h) may a g.kept.recovers))
 
     -- one whose changes met a fault of the disk
     pub guarded_changes_fault : (st : Standing) (log given : Log) (start : History) (buffer other : LogBuffer D) (journal : List Event) (event : Event) (rows : Rows) (last_txn last_db : ℕ) (is_active : ℕ → Bool)
-        (own : ℕ → List OwnChange) (t : TxnId) (changes : List TreeChange) → observable ≡ true → IsGuardedLog st log start (history (disk_of buffer)) buffer journal → IsFailedBy st journal event [] →
-        HasGiven observable history buffer given rows last_txn last_db is_active own → MayAddChanges last_txn is_active own t changes →
-        (f : HasFailed observable history sync_out read_out read_of buffer other (LogsChanges t changes)) →
-        IsGuardedLog st (longer buffer f.front log) start (history (disk_of other)) other (journal ++ event ∷ [])
+        (own : ℕ → List OwnChange) (t : TxnId) (changes : List TreeChange) → meaning.observable ≡ true → IsGuardedLog st log start (meaning.history (disk_of buffer)) buffer journal → IsFailedBy st journal event [] →
+        HasGiven meaning buffer given rows last_txn last_db is_active own → MayAddChanges last_txn is_active own t changes →
+        (f : HasFailed meaning buffer other (LogsChanges t changes)) →
+        IsGuardedLog st (longer buffer f.front log) start (meaning.history (disk_of other)) other (journal ++ event ∷ [])
     guarded_changes_fault st log given start buffer other journal event rows last_txn last_db is_active own t changes observed g by h may f =
         guarded_tried st log start buffer other journal event [] f.front observed g by f.tried
-        (inl (tried_changes_are_recovered observable history sync_out read_out read_of buffer other log rows last_txn last_db is_active own t changes g.kept.first st.store g.base g.kept.logged
+        (inl (tried_changes_are_recovered meaning buffer other log rows last_txn last_db is_active own t changes g.kept.first st.store g.base g.kept.logged
         (same_log st log given start buffer journal rows last_txn last_db is_active own observed g by.before h) may f g.kept.recovers))
 
     -- an event that commits a transaction
     pub guarded_commit : (st : Standing) (log given : Log) (start : History) (buffer other : LogBuffer D) (journal : List Event) (event : Event) (rows after : Rows) (last_txn last_db later_db : ℕ)
-        (is_active : ℕ → Bool) (own : ℕ → List OwnChange) (goes : ℕ → Bool) (t : TxnId) (had : List OwnChange) (changes : List TreeChange) (committed : List Change) → observable ≡ true →
-        IsGuardedLog st log start (history (disk_of buffer)) buffer journal → IsLoggedBy st journal event (committed ∷ []) →
-        HasGiven observable history buffer given rows last_txn last_db is_active own → MayCommit last_txn is_active own rows after last_db later_db goes t had changes →
+        (is_active : ℕ → Bool) (own : ℕ → List OwnChange) (goes : ℕ → Bool) (t : TxnId) (had : List OwnChange) (changes : List TreeChange) (committed : List Change) → meaning.observable ≡ true →
+        IsGuardedLog st log start (meaning.history (disk_of buffer)) buffer journal → IsLoggedBy st journal event (committed ∷ []) →
+        HasGiven meaning buffer given rows last_txn last_db is_active own → MayCommit last_txn is_active own rows after last_db later_db goes t had changes →
         store_of after ≡ all_changed committed (store_of rows) →
-        (a : HasAdded observable history sync_out read_out read_of buffer other (LogsTransaction t changes)) →
-        IsGuardedLog st (longer buffer a.entries log) start (history (disk_of other)) other (journal ++ event ∷ [])
+        (a : HasAdded meaning buffer other (LogsTransaction t changes)) →
+        IsGuardedLog st (longer buffer a.entries log) start (meaning.history (disk_of other)) other (journal ++ event ∷ [])
     guarded_commit st log given start buffer other journal event rows after last_txn last_db later_db is_active own goes t had changes committed observed g by h may store a =
         guarded_grown st log start buffer other journal event (committed ∷ []) a.entries observed g by a.grew
-        (commit_is_recovered observable history sync_out read_out read_of buffer other log rows after last_txn last_db later_db is_active own goes t had changes committed g.kept.first st.store g.base g.kept.logged
+        (commit_is_recovered meaning buffer other log rows after last_txn last_db later_db is_active own goes t had changes committed g.kept.first st.store g.base g.kept.logged
         (same_log st log given start buffer journal rows last_txn last_db is_active own observed g by.before h) may store a g.kept.recovers)
 
     -- one whose commit met a fault of the disk
     pub guarded_commit_fault : (st : Standing) (log given : Log) (start : History) (buffer other : LogBuffer D) (journal : List Event) (event : Event) (rows after : Rows) (last_txn last_db later_db : ℕ)
-        (is_active : ℕ → Bool) (own : ℕ → List OwnChange) (goes : ℕ → Bool) (t : TxnId) (had : List OwnChange) (changes : List TreeChange) (committed : List Change) → observable ≡ true →
-        IsGuardedLog st log start (history (disk_of buffer)) buffer journal → IsFailedBy st journal event (committed ∷ []) →
-        HasGiven observable history buffer given rows last_txn last_db is_active own → MayCommit last_txn is_active own rows after last_db later_db goes t had changes →
+        (is_active : ℕ → Bool) (own : ℕ → List OwnChange) (goes : ℕ → Bool) (t : TxnId) (had : List OwnChange) (changes : List TreeChange) (committed : List Change) → meaning.observable ≡ true →
+        IsGuardedLog st log start (meaning.history (disk_of buffer)) buffer journal → IsFailedBy st journal event (committed ∷ []) →
+        HasGiven meaning buffer given rows last_txn last_db is_active own → MayCommit last_txn is_active own rows after last_db later_db goes t had changes →
         store_of after ≡ all_changed committed (store_of rows) →
-        (f : HasFailed observable history sync_out read_out read_of buffer other (LogsTransaction t changes)) →
-        IsGuardedLog st (longer buffer f.front log) start (history (disk_of other)) other (journal ++ event ∷ [])
+        (f : HasFailed meaning buffer other (LogsTransaction t changes)) →
+        IsGuardedLog st (longer buffer f.front log) start (meaning.history (disk_of other)) other (journal ++ event ∷ [])
     guarded_commit_fault st log given start buffer other journal event rows after last_txn last_db later_db is_active own goes t had changes committed observed g by h may store f =
         guarded_tried st log start buffer other journal event (committed ∷ []) f.front observed g by f.tried
-        (tried_commit_is_recovered observable history sync_out read_out read_of buffer other log rows after last_txn last_db later_db is_active own goes t had changes committed g.kept.first st.store g.base
+        (tried_commit_is_recovered meaning buffer other log rows after last_txn last_db later_db is_active own goes t had changes committed g.kept.first st.store g.base
         g.kept.logged (same_log st log given start buffer journal rows last_txn last_db is_active own observed g by.before h) may store f g.kept.recovers)
 
     -- ---- whatever log the buffer has
 
-    given_log : (state : State) (log given : Log) (buffer : LogBuffer D) (rows : Rows) (last_txn last_db : ℕ) (is_active : ℕ → Bool) (own : ℕ → List OwnChange) → observable ≡ true →
-        state ≡ now (history (disk_of buffer)) → HasLog observable state buffer log → HasGiven observable history buffer given rows last_txn last_db is_active own →
-        HasGiven observable history buffer log rows last_txn last_db is_active own
+    given_log : (state : State) (log given : Log) (buffer : LogBuffer D) (rows : Rows) (last_txn last_db : ℕ) (is_active : ℕ → Bool) (own : ℕ → List OwnChange) → meaning.observable ≡ true →
+        state ≡ now (meaning.history (disk_of buffer)) → HasLog meaning.observable state buffer log → HasGiven meaning buffer given rows last_txn last_db is_active own →
+        HasGiven meaning buffer log rows last_txn last_db is_active own
     given_log state log given buffer rows last_txn last_db is_active own observed here has h =
-        let there : HasLog observable (now (history (disk_of buffer))) buffer log = subst (λ (s : State). HasLog observable s buffer log) here has in
-        subst (λ (l : Log). HasGiven observable history buffer l rows last_txn last_db is_active own)
-        (one_log (now (history (disk_of buffer))) buffer given log (of_observed observable (now (history (disk_of buffer))) buffer given observed h.has)
-        (of_observed observable (now (history (disk_of buffer))) buffer log observed there)) h
+        let there : HasLog meaning.observable (now (meaning.history (disk_of buffer))) buffer log = subst (λ (s : State). HasLog meaning.observable s buffer log) here has in
+        subst (λ (l : Log). HasGiven meaning buffer l rows last_txn last_db is_active own)
+        (one_log (now (meaning.history (disk_of buffer))) buffer given log (of_observed meaning.observable (now (meaning.history (disk_of buffer))) buffer given observed h.has)
+        (of_observed meaning.observable (now (meaning.history (disk_of buffer))) buffer log observed there)) h
 
     -- what it recovers with changes of a transaction under way
     pub changes_recovered_in : (given : Log) (buffer other : LogBuffer D) (rows : Rows) (last_txn last_db : ℕ) (is_active : ℕ → Bool) (own : ℕ → List OwnChange) (t : TxnId) (changes : List TreeChange) →
-        HasGiven observable history buffer given rows last_txn last_db is_active own → MayAddChanges last_txn is_active own t changes →
-        (a : HasAdded observable history sync_out read_out read_of buffer other (LogsChanges t changes)) →
-        observable ≡ true → (log : Log) → HasLog observable (now (history (disk_of buffer))) buffer log → (first : ℕ) (opening : Store) (base : ℕ) (transactions : List (List Change)) →
+        HasGiven meaning buffer given rows last_txn last_db is_active own → MayAddChanges last_txn is_active own t changes →
+        (a : HasAdded meaning buffer other (LogsChanges t changes)) →
+        meaning.observable ≡ true → (log : Log) → HasLog meaning.observable (now (meaning.history (disk_of buffer))) buffer log → (first : ℕ) (opening : Store) (base : ℕ) (transactions : List (List Change)) →
         RecoversLog first opening base transactions log → RecoversLog first opening base (transactions ++ []) (longer buffer a.entries log)
     changes_recovered_in given buffer other rows last_txn last_db is_active own t changes h may a observed log has first opening base transactions is =
         subst (λ (l : List (List Change)). RecoversLog first opening base l (longer buffer a.entries log)) (sym (append-nil transactions))
-        (changes_are_recovered observable history sync_out read_out read_of buffer other log rows last_txn last_db is_active own t changes first opening base transactions
-        (given_log (now (history (disk_of buffer))) log given buffer rows last_txn last_db is_active own observed refl has h) may a is)
+        (changes_are_recovered meaning buffer other log rows last_txn last_db is_active own t changes first opening base transactions
+        (given_log (now (meaning.history (disk_of buffer))) log given buffer rows last_txn last_db is_active own observed refl has h) may a is)
 
     pub tried_changes_recovered_in : (given : Log) (buffer other : LogBuffer D) (rows : Rows) (last_txn last_db : ℕ) (is_active : ℕ → Bool) (own : ℕ → List OwnChange) (t : TxnId) (changes : List TreeChange) →
-        HasGiven observable history buffer given rows last_txn last_db is_active own → MayAddChanges last_txn is_active own t changes →
-        (f : HasFailed observable history sync_out read_out read_of buffer other (LogsChanges t changes)) →
-        observable ≡ true → (log : Log) → HasLog observable (now (history (disk_of buffer))) buffer log → (first : ℕ) (opening : Store) (base : ℕ) (transactions : List (List Change)) →
+        HasGiven meaning buffer given rows last_txn last_db is_active own → MayAddChanges last_txn is_active own t changes →
+        (f : HasFailed meaning buffer other (LogsChanges t changes)) →
+        meaning.observable ≡ true → (log : Log) → HasLog meaning.observable (now (meaning.history (disk_of buffer))) buffer log → (first : ℕ) (opening : Store) (base : ℕ) (transactions : List (List Change)) →
         RecoversLog first opening base transactions log → RecoversLog first opening base (transactions ++ []) (longer buffer f.front log)
     tried_changes_recovered_in given buffer other rows last_txn last_db is_active own t changes h may f observed log has first opening base transactions is =
         subst (λ (l : List (List Change)). RecoversLog first opening base l (longer buffer f.front log)) (sym (append-nil transactions))
-        (tried_changes_are_recovered observable history sync_out read_out read_of buffer other log rows last_txn last_db is_active own t changes first opening base transactions
-        (given_log (now (history (disk_of buffer))) log given buffer rows last_txn last_db is_active own observed refl has h) may f is)
+        (tried_changes_are_recovered meaning buffer other log rows last_txn last_db is_active own t changes first opening base transactions
+        (given_log (now (meaning.history (disk_of buffer))) log given buffer rows last_txn last_db is_active own observed refl has h) may f is)
 
     -- and with a commit
     pub commit_recovered_in : (given : Log) (buffer other : LogBuffer D) (rows after : Rows) (last_txn last_db later_db : ℕ) (is_active : ℕ → Bool) (own : ℕ → List OwnChange) (goes : ℕ → Bool) (t : TxnId)
-        (had : List OwnChange) (changes : List TreeChange) (committed : List Change) → HasGiven observable history buffer given rows last_txn last_db is_active own →
+        (had : List OwnChange) (changes : List TreeChange) (committed : List Change) → HasGiven meaning buffer given rows last_txn last_db is_active own →
         MayCommit last_txn is_active own rows after last_db later_db goes t had changes → store_of after ≡ all_changed committed (store_of rows) →
-        (a : HasAdded observable history sync_out read_out read_of buffer other (LogsTransaction t changes)) →
-        observable ≡ true → (log : Log) → HasLog observable (now (history (disk_of buffer))) buffer log → (first : ℕ) (opening : Store) (base : ℕ) (transactions : List (List Change)) →
+        (a : HasAdded meaning buffer other (LogsTransaction t changes)) →
+        meaning.observable ≡ true → (log : Log) → HasLog meaning.observable (now (meaning.history (disk_of buffer))) buffer log → (first : ℕ) (opening : Store) (base : ℕ) (transactions : List (List Change)) →
         RecoversLog first opening base transactions log → RecoversLog first opening base (transactions ++ committed ∷ []) (longer buffer a.entries log)
     commit_recovered_in given buffer other rows after last_txn last_db later_db is_active own goes t had changes committed h may store a observed log has first opening base transactions is =
-        commit_is_recovered observable history sync_out read_out read_of buffer other log rows after last_txn last_db later_db is_active own goes t had changes committed first opening base transactions
-        (given_log (now (history (disk_of buffer))) log given buffer rows last_txn last_db is_active own observed refl has h) may store a is
+        commit_is_recovered meaning buffer other log rows after last_txn last_db later_db is_active own goes t had changes committed first opening base transactions
+        (given_log (now (meaning.history (disk_of buffer))) log given buffer rows last_txn last_db is_active own observed refl has h) may store a is
 
     -- where the disk failed, by how much of it was appended: a front without the Commit, or all
     pub tried_commit_recovered_in : (given : Log) (buffer other : LogBuffer D) (rows after : Rows) (last_txn last_db later_db : ℕ) (is_active : ℕ → Bool) (own : ℕ → List OwnChange) (goes : ℕ → Bool) (t : TxnId)
-        (had : List OwnChange) (changes : List TreeChange) (committed : List Change) → HasGiven observable history buffer given rows last_txn last_db is_active own →
+        (had : List OwnChange) (changes : List TreeChange) (committed : List Change) → HasGiven meaning buffer given rows last_txn last_db is_active own →
         MayCommit last_txn is_active own rows after last_db later_db goes t had changes → store_of after ≡ all_changed committed (store_of rows) →
-        (f : HasFailed observable history sync_out read_out read_of buffer other (LogsTransaction t changes)) →
-        (observable ≡ true → (log : Log) → HasLog observable (now (history (disk_of buffer))) buffer log → (first : ℕ) (opening : Store) (base : ℕ) (transactions : List (List Change)) →
+        (f : HasFailed meaning buffer other (LogsTransaction t changes)) →
+        (meaning.observable ≡ true → (log : Log) → HasLog meaning.observable (now (meaning.history (disk_of buffer))) buffer log → (first : ℕ) (opening : Store) (base : ℕ) (transactions : List (List Change)) →
         RecoversLog first opening base transactions log → RecoversLog first opening base (transactions ++ []) (longer buffer f.front log))
-        ⊎ (observable ≡ true → (log : Log) → HasLog observable (now (history (disk_of buffer))) buffer log → (first : ℕ) (opening : Store) (base : ℕ) (transactions : List (List Change)) →
+        ⊎ (meaning.observable ≡ true → (log : Log) → HasLog meaning.observable (now (meaning.history (disk_of buffer))) buffer log → (first : ℕ) (opening : Store) (base : ℕ) (transactions : List (List Change)) →
         RecoversLog first opening base transactions log → RecoversLog first opening base (transactions ++ committed ∷ []) (longer buffer f.front log))
     tried_commit_recovered_in given buffer other rows after last_txn last_db later_db is_active own goes t had changes committed h may store f =
-        by_case (tried_commit_decided observable history sync_out read_out read_of buffer other rows after last_txn last_db later_db is_active own goes t had changes committed may store f)
+        by_case (tried_commit_decided meaning buffer other rows after last_txn last_db later_db is_active own goes t had changes committed may store f)
       where
-        same : observable ≡ true → (log : Log) → HasLog observable (now (history (disk_of buffer))) buffer log → HasGiven observable history buffer log rows last_txn last_db is_active own
-        same observed log has = given_log (now (history (disk_of buffer))) log given buffer rows last_txn last_db is_active own observed refl has h
+        same : meaning.observable ≡ true → (log : Log) → HasLog meaning.observable (now (meaning.history (disk_of buffer))) buffer log → HasGiven meaning buffer log rows last_txn last_db is_active own
+        same observed log has = given_log (now (meaning.history (disk_of buffer))) log given buffer rows last_txn last_db is_active own observed refl has h
 
-        by_case : ((l : Log) → HasGiven observable history buffer l rows last_txn last_db is_active own → (x : ℕ) (o : Store) (b : ℕ) (ts : List (List Change)) →
+        by_case : ((l : Log) → HasGiven meaning buffer l rows last_txn last_db is_active own → (x : ℕ) (o : Store) (b : ℕ) (ts : List (List Change)) →
             RecoversLog x o b ts l → RecoversLog x o b ts (longer buffer f.front l))
-            ⊎ ((l : Log) → HasGiven observable history buffer l rows last_txn last_db is_active own → (x : ℕ) (o : Store) (b : ℕ) (ts : List (List Change)) →
+            ⊎ ((l : Log) → HasGiven meaning buffer l rows last_txn last_db is_active own → (x : ℕ) (o : Store) (b : ℕ) (ts : List (List Change)) →
             RecoversLog x o b ts l → RecoversLog x o b (ts ++ committed ∷ []) (longer buffer f.front l)) →
-            (observable ≡ true → (log : Log) → HasLog observable (now (history (disk_of buffer))) buffer log → (first : ℕ) (opening : Store) (base : ℕ) (transactions : List (List Change)) →
+            (meaning.observable ≡ true → (log : Log) → HasLog meaning.observable (now (meaning.history (disk_of buffer))) buffer log → (first : ℕ) (opening : Store) (base : ℕ) (transactions : List (List Change)) →
             RecoversLog first opening base transactions log → RecoversLog first opening base (transactions ++ []) (longer buffer f.front log))
-            ⊎ (observable ≡ true → (log : Log) → HasLog observable (now (history (disk_of buffer))) buffer log → (first : ℕ) (opening : Store) (base : ℕ) (transactions : List (List Change)) →
+            ⊎ (meaning.observable ≡ true → (log : Log) → HasLog meaning.observable (now (meaning.history (disk_of buffer))) buffer log → (first : ℕ) (opening : Store) (base : ℕ) (transactions : List (List Change)) →
             RecoversLog first opening base transactions log → RecoversLog first opening base (transactions ++ committed ∷ []) (longer buffer f.front log))
         by_case (inl less) = inl
             (λ observed log has first opening base transactions is.

@@ -2,7 +2,7 @@
 use Rattle.std.proofs.Common.{◌≡◌, ◌==◌, ◌||◌, ℕ, ◌+◌, ◌<◌, ◌≤◌, nat_lt, Bool, true, false, cond, List, [], ◌∷◌, Option, None, Some, IfSome, length, map, refl, ap, sym, subst, ◌∙◌, arith, ◌⊎◌, Ok, Err, Result, is_some, inl, inr}
 use Rattle.std.specs.List.{AllByRecursion, list_any}
 use Rattle.std.proofs.lemmas.Bool.{true≢false, eqb-true, eq-eqb, ne_eqb, ltb-true, ltb-false, and_parts, or_left, or_right}
-use Rattle.je_disk.specs.Moments.{History}
+use Rattle.je_disk.specs.DiskMeaning.{DiskMeaning}
 use Rattle.je_order.specs.declared.txn_id.TxnId.{TxnId}
 use Rattle.je_order.proofs.Lists.{all_weaker}
 use Rattle.std.specs.declared.alloc.AllocError.{AllocError}
@@ -147,21 +147,21 @@ module _ {D : Type 0} where
   rows_logged old new planned changes same has up_old up_new =
       committed_after planned.changes.items planned.gone (cells_of old) (cells_of new) up_old up_new (subst (λ (cs : List TreeChange). HasCommitted cs planned.gone (cells_of old) (cells_of new)) same has)
 
-  module _ (observable : Bool) (history : D → History) (sync_out read_out : D → Option ℕ) (read_of : D → ℕ) (faults : D → ℕ) where
+  module _ (meaning : DiskMeaning D) where
     -- what a transaction logged
     abbrev pub Logs : LogTrees D → LogTrees D → TxnId → List TreeChange → Type 0
-    Logs old new txn changes = (entries : List Entry) × LogsTransaction txn changes entries × GrewTrees observable history sync_out read_out read_of faults old new entries
+    Logs old new txn changes = (entries : List Entry) × LogsTransaction txn changes entries × GrewTrees meaning old new entries
         × (length entries + waits_of new ≤ waits_of old + (most_entries (length changes) + 1))
 
     pub appended_all : (old new : LogTrees D) (txn : TxnId) (planned : PlannedChanges) (changes : List TreeChange) → changes ≡ planned.changes.items → Logs old new txn changes →
-        HasAppended observable history sync_out read_out read_of old.log new.log txn planned.changes.items
+        HasAppended meaning old.log new.log txn planned.changes.items
     appended_all old new txn planned changes same grew =
         let logs : LogsTransaction txn planned.changes.items grew.0 = subst (λ (cs : List TreeChange). LogsTransaction txn cs grew.0) same grew.1 in
         record { entries = grew.0; logs = logs; grew = grew.2.fitting.grew; fits = grew.2.fitting.fits }
 
     -- and trees that fitted the log fit it still
     pub carried_all : (old new : LogTrees D) (txn : TxnId) (planned : PlannedChanges) (changes : List TreeChange) (same : changes ≡ planned.changes.items) (grew : Logs old new txn changes) →
-        Carries observable history old.log (appended_all old new txn planned changes same grew).entries (λ es base. ForestFits es base (last_node_of old) (trees_of old))
+        Carries meaning old.log (appended_all old new txn planned changes same grew).entries (λ es base. ForestFits es base (last_node_of old) (trees_of old))
         (λ es base. ForestFits es base (last_node_of new) (trees_of new))
     unfolding appended_all
     carried_all old new txn planned changes same grew = grew.2.fits
@@ -208,16 +208,16 @@ module _ {D : Type 0} where
     fits = left.fits;
   }
 
-  module _ (observable : Bool) (history : D → History) (sync_out read_out : D → Option ℕ) (read_of : D → ℕ) where
+  module _ (meaning : DiskMeaning D) where
     -- the answer where numbers may be lacking
     pub refused_logs : (old new : LogTrees D) (kept other : Kept) (planned : PlannedChanges) (found : Option TreeErr) (answer : Answer) → answer ≡ refusal_by found →
         (nat_lt LAST_DATABASE planned.last_db || nat_lt last_number (kept.last_node + numbers_for (length planned.changes.items))) ≡ true → AreLeft old new → other ≡ kept →
-        LogsChanges observable history sync_out read_out read_of old.log new.log (contents old kept) (contents new (record other { last_txn = kept.last_txn + 1 })) planned found (Ok answer)
+        LogsChanges meaning old.log new.log (contents old kept) (contents new (record other { last_txn = kept.last_txn + 1 })) planned found (Ok answer)
     refused_logs old new kept other planned found answer is lacks left same = subst (Logs found) (sym is) (by_found found)
       where
         Logs : Option TreeErr → Answer → Type 0
         Logs found a =
-            LogsChanges observable history sync_out read_out read_of old.log new.log (contents old kept) (contents new (record other { last_txn = kept.last_txn + 1 })) planned found (Ok a)
+            LogsChanges meaning old.log new.log (contents old kept) (contents new (record other { last_txn = kept.last_txn + 1 })) planned found (Ok a)
 
         ended : (a b : Bool) → (a || b) ≡ true → nat_lt LAST_DATABASE planned.last_db ≡ a → (cond b (Some IdsEnded) None ≡ Some IdsEnded) ⊎ ((cond b (Some IdsEnded) None ≡ None) × (LAST_DATABASE < planned.last_db))
         ended a true h test = inl refl

@@ -1,8 +1,9 @@
 -- Where an environment stands after a step, beside the model.
-use Rattle.std.proofs.Common.{◌≡◌, ℕ, ◌+◌, ◌<◌, ◌≤◌, Bool, List, [], ◌∷◌, refl, Option, None, ap, sym, ◌∙◌, subst, arith}
+use Rattle.std.proofs.Common.{◌≡◌, ℕ, ◌+◌, ◌<◌, ◌≤◌, List, [], ◌∷◌, refl, None, ap, sym, ◌∙◌, subst, arith}
 use Rattle.std.proofs.lemmas.Bool.Decides.{nat_tests}
+use Rattle.je_disk.specs.DiskMeaning.{DiskMeaning}
 use Rattle.je_disk.specs.States.{State}
-use Rattle.je_disk.specs.Moments.{History, now}
+use Rattle.je_disk.specs.Moments.{now}
 use Rattle.store_model.specs.declared.call.Call.{Call}
 use Rattle.store_model.specs.declared.change.Change.{Change}
 use Rattle.store_model.specs.declared.change.Change.TheVariants.{Set, Unset, Make, MakeIndex, Remove, Rename, Empty}
@@ -43,10 +44,10 @@ next_is : (last : ℕ) → last < LAST_TXN → next_txn last ≡ last + 1
 next_is last h = grind (arith, nat_tests)
 
 module _ {D : Type 0} where
-  module _ (observable : Bool) (history : D → History) (sync_out read_out : D → Option ℕ) (read_of : D → ℕ) where
+  module _ (meaning : DiskMeaning D) where
     -- an answer that changes nothing allocates a number
-    pub drawn_at : (most : ℕ) (state : State) (buffer : LogBuffer D) (c : Contents) (p : Alone) → AreAlone most observable state buffer c p → c.last_txn < LAST_TXN →
-        AreAlone most observable state buffer (drawn_contents c) (drawn_alone p)
+    pub drawn_at : (most : ℕ) (state : State) (buffer : LogBuffer D) (c : Contents) (p : Alone) → AreAlone most meaning.observable state buffer c p → c.last_txn < LAST_TXN →
+        AreAlone most meaning.observable state buffer (drawn_contents c) (drawn_alone p)
     drawn_at most state buffer c p at below = record {
       file_max = at.file_max;
       fault = at.fault;
@@ -56,12 +57,12 @@ module _ {D : Type 0} where
       totals = at.totals;
       checkpoint = at.checkpoint;
       numbers = at.numbers;
-      valid = λ none. valid_drawn observable history sync_out read_out read_of state buffer c p.store (at.valid none);
+      valid = λ none. valid_drawn meaning state buffer c p.store (at.valid none);
     }
 
     -- where nothing changed, the environment is where it was
-    pub same_at : (most : ℕ) (buffer other : LogBuffer D) (old new : Contents) (p : Alone) → AreAlone most observable (now (history (disk_of buffer))) buffer old p → IsSame old new →
-        IsUnchanged buffer other → AreAlone most observable (now (history (disk_of other))) other new p
+    pub same_at : (most : ℕ) (buffer other : LogBuffer D) (old new : Contents) (p : Alone) → AreAlone most meaning.observable (now (meaning.history (disk_of buffer))) buffer old p → IsSame old new →
+        IsUnchanged buffer other → AreAlone most meaning.observable (now (meaning.history (disk_of other))) other new p
     same_at most buffer other old new p at same log = record {
       file_max = log.kept.max ∙ at.file_max;
       fault = same.fault ∙ at.fault;
@@ -71,16 +72,16 @@ module _ {D : Type 0} where
       totals = same.totals ∙ at.totals;
       checkpoint = ap (λ (k : Checkpoints). k.under_way) same.checkpoints ∙ at.checkpoint;
       numbers = λ none. ap number_named (fun_ext same.rows) ∙ at.numbers none;
-      valid = λ none. valid_same observable history sync_out read_out read_of buffer other old new p.store log same (at.valid none);
+      valid = λ none. valid_same meaning buffer other old new p.store log same (at.valid none);
     }
 
     -- changes were logged
     pub logged_at : (most : ℕ) (buffer other : LogBuffer D) (old new : Contents) (p : Alone) (session : ℕ) (call : Call) (planned : PlannedChanges) →
-        AreAlone most observable (now (history (disk_of buffer))) buffer old p → p.fault ≡ None → old.last_txn < LAST_TXN → (log : IsPlannedLog (known old) p session call planned) →
+        AreAlone most meaning.observable (now (meaning.history (disk_of buffer))) buffer old p → p.fault ≡ None → old.last_txn < LAST_TXN → (log : IsPlannedLog (known old) p session call planned) →
         planned.last_db ≤ LAST_DATABASE → HasLogged old new planned →
-        (appended : HasAppended observable history sync_out read_out read_of buffer other (txn_of (old.last_txn + 1)) planned.changes.items) →
-        CarriesTrees observable history sync_out read_out read_of buffer appended.entries old new →
-        AreAlone most observable (now (history (disk_of other))) other new (committed_alone (log.change ∷ log.more) (drawn_alone p))
+        (appended : HasAppended meaning buffer other (txn_of (old.last_txn + 1)) planned.changes.items) →
+        CarriesTrees meaning buffer appended.entries old new →
+        AreAlone most meaning.observable (now (meaning.history (disk_of other))) other new (committed_alone (log.change ∷ log.more) (drawn_alone p))
     logged_at most buffer other old new p session call planned at none below log low has appended carries =
         let changes : List Change = log.change ∷ log.more in
         let v = at.valid none in
@@ -97,6 +98,6 @@ module _ {D : Type 0} where
               (are_planned old p session call planned (sound_of v.log (end_of buffer) old v.gives) log (omega (arith, low)))).numbers
               ∙ numbered_alike changes old.last_db (number_named old.rows)
               ∙ ap (λ (n : ℕ). all_numbered changes n (number_named old.rows)) at.last_db ∙ ap (all_numbered changes p.last_db) (at.numbers none);
-          valid = λ again. valid_on observable history sync_out read_out read_of buffer other old new log.change log.more planned p.store v
+          valid = λ again. valid_on meaning buffer other old new log.change log.more planned p.store v
               (are_planned old p session call planned (sound_of v.log (end_of buffer) old v.gives) log (omega (arith, low))) log.last_db has appended carries;
         }

@@ -26,28 +26,3 @@ module _ {D : Type 0} where
     numbers = λ none. absurd cc;
     valid = λ none. absurd cc;
   }
-
-  -- a sync began or ended: the log is the same
-  pub synced_at : (most : ℕ) (observable : Bool) (before after : State) (buffer other : LogBuffer D) (c : Contents) (p : Alone) (begun : Option ℕ) → AreAlone most observable before buffer c p →
-      ((log : Log) → HasLog observable before buffer log → HasLog observable after other log) → end_of other ≡ end_of buffer → file_max_of other ≡ file_max_of buffer → has_failed other ≡ false →
-      AreAlone most observable after other c (record p { begun = begun })
-  synced_at most observable before after buffer other c p begun at logs end max works = record {
-    file_max = max ∙ at.file_max;
-    fault = at.fault;
-    last_txn = at.last_txn;
-    last_db = at.last_db;
-    commits = at.commits;
-    totals = at.totals;
-    checkpoint = at.checkpoint;
-    numbers = at.numbers;
-    valid = λ none. let v = at.valid none in record {
-      log = v.log;
-      has = logs v.log v.has;
-      works = works;
-      gives = gives_moved v.log (end_of buffer) (end_of other) c end v.gives;
-      recovers = v.recovers;
-      made = v.made;
-      fits = v.fits;
-      from = v.from;
-    };
-  }

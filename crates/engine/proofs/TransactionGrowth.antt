@@ -5,8 +5,9 @@ use Rattle.std.proofs.lemmas.List.{append-nil, map-append, take_all}
 use Rattle.std.proofs.lemmas.Bool.{true≢false, ltb-true, lt-ltb, cond-false, cases_Bool}
 use Rattle.std.specs.List.{AllByRecursion}
 use mathlib.Core.Path.{fun_ext}
+use Rattle.je_disk.specs.DiskMeaning.{DiskMeaning}
 use Rattle.je_disk.specs.States.{State}
-use Rattle.je_disk.specs.Moments.{History, now}
+use Rattle.je_disk.specs.Moments.{now}
 use Rattle.je_order.proofs.Lists.{all_weaker}
 use Rattle.store_model.specs.declared.call.Call.{Call}
 use Rattle.store_model.specs.declared.change.Change.{Change}
@@ -340,10 +341,10 @@ module _ {D : Type 0} where
       (room_for_front buffer entries fits)
       (subst (λ (l : List Placed). Recovers first opening found (transactions ++ (change ∷ later) ∷ []) (placed log ++ l)) (append-nil own) recovery.whole.recovers)
 
-module _ {D : Type 0} (observable : Bool) (history : D → History) (sync_out read_out : D → Option ℕ) (read_of : D → ℕ) where
+module _ {D : Type 0} (meaning : DiskMeaning D) where
   -- the longer log gives the records that were logged
-  pub gives_on : (buffer longer_buffer : LogBuffer D) (log : Log) (c new : Contents) (change : Change) (later : List Change) (planned : PlannedChanges) → MayGrow observable (now (history (disk_of buffer))) buffer log c change later planned →
-      HasLogged c new planned → (a : HasAppended observable history sync_out read_out read_of buffer longer_buffer (txn_of (c.last_txn + 1)) planned.changes.items) →
+  pub gives_on : (buffer longer_buffer : LogBuffer D) (log : Log) (c new : Contents) (change : Change) (later : List Change) (planned : PlannedChanges) → MayGrow meaning.observable (now (meaning.history (disk_of buffer))) buffer log c change later planned →
+      HasLogged c new planned → (a : HasAppended meaning buffer longer_buffer (txn_of (c.last_txn + 1)) planned.changes.items) →
       GivesRecords (longer buffer a.entries log) (end_of longer_buffer) new
   gives_on buffer longer_buffer log c new change later planned may logged a =
       let most : ℕ = file_max_of buffer in
@@ -357,15 +358,15 @@ module _ {D : Type 0} (observable : Bool) (history : D → History) (sync_out re
       (fun_ext logged.rows) logged.last_txn (logged.last_db ∙ may.last_db)
 
   -- the longer log recovers the transaction
-  pub recovers_on : (buffer longer_buffer : LogBuffer D) (log : Log) (c : Contents) (change : Change) (later : List Change) (planned : PlannedChanges) → MayGrow observable (now (history (disk_of buffer))) buffer log c change later planned →
-      (a : HasAppended observable history sync_out read_out read_of buffer longer_buffer (txn_of (c.last_txn + 1)) planned.changes.items) →
+  pub recovers_on : (buffer longer_buffer : LogBuffer D) (log : Log) (c : Contents) (change : Change) (later : List Change) (planned : PlannedChanges) → MayGrow meaning.observable (now (meaning.history (disk_of buffer))) buffer log c change later planned →
+      (a : HasAppended meaning buffer longer_buffer (txn_of (c.last_txn + 1)) planned.changes.items) →
       (first : ℕ) (opening : Store) (found : ℕ) (transactions : List (List Change)) → RecoversLog first opening found transactions log →
       RecoversLog first opening found (transactions ++ (change ∷ later) ∷ []) (longer buffer a.entries log)
-  recovers_on buffer longer_buffer log c change later planned may a = all_recover observable (now (history (disk_of buffer))) buffer log c change later planned may a.entries a.logs a.fits
+  recovers_on buffer longer_buffer log c change later planned may a = all_recover meaning.observable (now (meaning.history (disk_of buffer))) buffer log c change later planned may a.entries a.logs a.fits
 
   -- the log with the entries that were tried recovers the transaction, or not
-  pub recovers_tried : (buffer longer_buffer : LogBuffer D) (log : Log) (c : Contents) (change : Change) (later : List Change) (planned : PlannedChanges) → MayGrow observable (now (history (disk_of buffer))) buffer log c change later planned →
-      (t : HasTried observable history sync_out read_out read_of buffer longer_buffer (txn_of (c.last_txn + 1)) planned.changes.items) →
+  pub recovers_tried : (buffer longer_buffer : LogBuffer D) (log : Log) (c : Contents) (change : Change) (later : List Change) (planned : PlannedChanges) → MayGrow meaning.observable (now (meaning.history (disk_of buffer))) buffer log c change later planned →
+      (t : HasTried meaning buffer longer_buffer (txn_of (c.last_txn + 1)) planned.changes.items) →
       (first : ℕ) (opening : Store) (found : ℕ) (transactions : List (List Change)) → RecoversLog first opening found transactions log →
       RecoversLog first opening found transactions (longer buffer t.front log) ⊎ RecoversLog first opening found (transactions ++ (change ∷ later) ∷ []) (longer buffer t.front log)
   recovers_tried buffer longer_buffer log c change later planned may t first opening found transactions is = by_rest t.is_front.0 t.is_front.1
@@ -373,19 +374,19 @@ module _ {D : Type 0} (observable : Bool) (history : D → History) (sync_out re
       by_rest : (rest : List Entry) → t.front ++ rest ≡ t.entries →
           RecoversLog first opening found transactions (longer buffer t.front log) ⊎ RecoversLog first opening found (transactions ++ (change ∷ later) ∷ []) (longer buffer t.front log)
       by_rest [] parts =
-          inr (all_recover observable (now (history (disk_of buffer))) buffer log c change later planned may t.front (subst (LogsTransaction (txn_of (c.last_txn + 1)) planned.changes.items) (sym parts ∙ append-nil t.front) t.logs) t.fits
+          inr (all_recover meaning.observable (now (meaning.history (disk_of buffer))) buffer log c change later planned may t.front (subst (LogsTransaction (txn_of (c.last_txn + 1)) planned.changes.items) (sym parts ∙ append-nil t.front) t.logs) t.fits
           first opening found transactions is)
       by_rest (e ∷ rest) parts =
           let own : List Placed = placed_by (file_max_of buffer) (end_of buffer) t.front in
           let at : ℕ = last_lsn may.gives.next own in
-          let recovery = front_recovers observable (now (history (disk_of buffer))) buffer log c change later planned may t.front (e ∷ rest) (subst (LogsTransaction (txn_of (c.last_txn + 1)) planned.changes.items) (sym parts) t.logs) t.fits
+          let recovery = front_recovers meaning.observable (now (meaning.history (disk_of buffer))) buffer log c change later planned may t.front (e ∷ rest) (subst (LogsTransaction (txn_of (c.last_txn + 1)) planned.changes.items) (sym parts) t.logs) t.fits
           first opening found transactions is in
           inl (longer_recovers first opening found transactions transactions log (end_of buffer) (last_of buffer) (file_max_of buffer) t.front is may.has.ends (room_for_front buffer t.front t.fits)
           (recovery.fronts own (placed_behind (at + 1) rest) (at + 1, e) refl).recovers)
 
   -- the longer log recovers the store that the changes leave
-  pub store_on : (buffer longer_buffer : LogBuffer D) (log : Log) (c : Contents) (change : Change) (later : List Change) (planned : PlannedChanges) → MayGrow observable (now (history (disk_of buffer))) buffer log c change later planned →
-      (a : HasAppended observable history sync_out read_out read_of buffer longer_buffer (txn_of (c.last_txn + 1)) planned.changes.items) →
+  pub store_on : (buffer longer_buffer : LogBuffer D) (log : Log) (c : Contents) (change : Change) (later : List Change) (planned : PlannedChanges) → MayGrow meaning.observable (now (meaning.history (disk_of buffer))) buffer log c change later planned →
+      (a : HasAppended meaning buffer longer_buffer (txn_of (c.last_txn + 1)) planned.changes.items) →
       (store : Store) → RecoversStore log store → RecoversStore (longer buffer a.entries log) (all_changed (change ∷ later) store)
   store_on buffer longer_buffer log c change later planned may a store is = record {
     first = is.first;
@@ -400,27 +401,27 @@ module _ {D : Type 0} (observable : Bool) (history : D → History) (sync_out re
 
   -- a valid environment that logged changes is valid
   pub valid_on : (buffer longer_buffer : LogBuffer D) (c new : Contents) (change : Change) (later : List Change) (planned : PlannedChanges) (store : Store) →
-      IsValid observable (now (history (disk_of buffer))) buffer c store → ArePlanned c.rows c.last_db change later planned.changes.items planned.gone →
+      IsValid meaning.observable (now (meaning.history (disk_of buffer))) buffer c store → ArePlanned c.rows c.last_db change later planned.changes.items planned.gone →
       planned.last_db ≡ c.last_db + made_by (change ∷ later) → HasLogged c new planned →
-      (a : HasAppended observable history sync_out read_out read_of buffer longer_buffer (txn_of (c.last_txn + 1)) planned.changes.items) →
-      CarriesTrees observable history sync_out read_out read_of buffer a.entries c new → IsValid observable (now (history (disk_of longer_buffer))) longer_buffer new (all_changed (change ∷ later) store)
+      (a : HasAppended meaning buffer longer_buffer (txn_of (c.last_txn + 1)) planned.changes.items) →
+      CarriesTrees meaning buffer a.entries c new → IsValid meaning.observable (now (meaning.history (disk_of longer_buffer))) longer_buffer new (all_changed (change ∷ later) store)
   unfolding gives_longer gives_on
   valid_on buffer longer_buffer c new change later planned store valid are last_db logged a carries =
-      let may : MayGrow observable (now (history (disk_of buffer))) buffer valid.log c change later planned = record { has = valid.has; gives = valid.gives; are = are; last_db = last_db } in
+      let may : MayGrow meaning.observable (now (meaning.history (disk_of buffer))) buffer valid.log c change later planned = record { has = valid.has; gives = valid.gives; are = are; last_db = last_db } in
       record {
         log = longer buffer a.entries valid.log;
         has = a.grew.log valid.log valid.has;
         works = a.grew.failed ∙ valid.works;
         gives = gives_on buffer longer_buffer valid.log c new change later planned may logged a;
         recovers = store_on buffer longer_buffer valid.log c change later planned may a store valid.recovers;
-        made = made_on observable (now (history (disk_of buffer))) buffer valid.log c new change later planned may logged ∙ ap (all_changed (change ∷ later)) valid.made;
+        made = made_on meaning.observable (now (meaning.history (disk_of buffer))) buffer valid.log c new change later planned may logged ∙ ap (all_changed (change ∷ later)) valid.made;
         fits = carries valid.log valid.gives.base valid.has (begun_at valid.log (end_of buffer) c valid.gives) valid.fits;
         from = subst (λ (k : Checkpoints). EndsFrom (longer buffer a.entries valid.log) valid.gives.base k.since) (sym logged.checkpoints)
-            (ends_from_stays observable history buffer valid.log a.entries valid.gives.base c.checkpoints.since valid.has (transaction_no_ends (txn_of (c.last_txn + 1)) planned.changes.items a.entries a.logs) valid.from);
+            (ends_from_stays meaning buffer valid.log a.entries valid.gives.base c.checkpoints.since valid.has (transaction_no_ends (txn_of (c.last_txn + 1)) planned.changes.items a.entries a.logs) valid.from);
       }
 
   -- so it is where a transaction number is allocated
-  pub valid_drawn : (state : State) (buffer : LogBuffer D) (c : Contents) (store : Store) → IsValid observable state buffer c store → IsValid observable state buffer (drawn_contents c) store
+  pub valid_drawn : (state : State) (buffer : LogBuffer D) (c : Contents) (store : Store) → IsValid meaning.observable state buffer c store → IsValid meaning.observable state buffer (drawn_contents c) store
   unfolding gives_drawn
   valid_drawn state buffer c store valid = record {
     log = valid.log;
@@ -435,11 +436,11 @@ module _ {D : Type 0} (observable : Bool) (history : D → History) (sync_out re
 
   -- and where nothing changes
   pub valid_same : (old_buffer new_buffer : LogBuffer D) (old new : Contents) (store : Store) → IsUnchanged old_buffer new_buffer → IsSame old new →
-      IsValid observable (now (history (disk_of old_buffer))) old_buffer old store → IsValid observable (now (history (disk_of new_buffer))) new_buffer new store
+      IsValid meaning.observable (now (meaning.history (disk_of old_buffer))) old_buffer old store → IsValid meaning.observable (now (meaning.history (disk_of new_buffer))) new_buffer new store
   unfolding gives_same
   valid_same old_buffer new_buffer old new store unchanged same valid = record {
     log = valid.log;
-    has = (grew_unchanged observable history sync_out read_out read_of old_buffer new_buffer unchanged).log valid.log valid.has;
+    has = (grew_unchanged meaning old_buffer new_buffer unchanged).log valid.log valid.has;
     works = unchanged.failed ∙ valid.works;
     gives = gives_same valid.log (end_of old_buffer) (end_of new_buffer) old new unchanged.kept.end same valid.gives;
     recovers = valid.recovers;

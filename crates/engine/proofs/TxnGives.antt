@@ -1,7 +1,7 @@
 -- What a log gives while transactions are under way, and while none is.
 use Rattle.std.proofs.Common.{◌≡◌, ℕ, ◌+◌, ◌≤◌, arith, ◌||◌, Bool, true, false, true≢false, List, [], Option, nat_lt, refl, sym, ap}
 use Rattle.std.proofs.lemmas.Bool.{ltb-true}
-use Rattle.je_disk.specs.Moments.{History}
+use Rattle.je_disk.specs.DiskMeaning.{DiskMeaning}
 use Rattle.je_order.specs.declared.txn_id.TxnId.{TxnId}
 use Rattle.store_model.specs.declared.change.Change.{Change}
 use Rattle.store_model.specs.Refusals.{made_by}
@@ -69,10 +69,10 @@ gives_alone log end c is_active own gives = record {
 
 -- ---- entries that fit the log
 
-module _ {D : Type 0} (observable : Bool) (history : D → History) (sync_out read_out : D → Option ℕ) (read_of : D → ℕ) (faults : D → ℕ) where
+module _ {D : Type 0} (meaning : DiskMeaning D) where
   -- entries that a log got
-  pub added : (old new : LogBuffer D) (AreLogged : List Entry → Type 0) (entries : List Entry) → AreLogged entries → GrewFitting observable history sync_out read_out read_of faults old new entries →
-      HasAdded observable history sync_out read_out read_of old new AreLogged
+  pub added : (old new : LogBuffer D) (AreLogged : List Entry → Type 0) (entries : List Entry) → AreLogged entries → GrewFitting meaning old new entries →
+      HasAdded meaning old new AreLogged
   added old new AreLogged entries logs grew = record {
     entries = entries;
     logs = logs;
@@ -82,7 +82,7 @@ module _ {D : Type 0} (observable : Bool) (history : D → History) (sync_out re
 
   -- and that were tried
   pub failed : (old new : LogBuffer D) (AreLogged : List Entry → Type 0) (entries front : List Entry) → AreLogged entries → IsFront front entries →
-      TriedFitting observable history sync_out read_out read_of faults old new front → HasFailed observable history sync_out read_out read_of old new AreLogged
+      TriedFitting meaning old new front → HasFailed meaning old new AreLogged
   failed old new AreLogged entries front logs is_front tried = record {
     entries = entries;
     front = front;
@@ -93,8 +93,8 @@ module _ {D : Type 0} (observable : Bool) (history : D → History) (sync_out re
   }
 
   -- a transaction that was appended, and one that was tried
-  pub appended_is_added : (old new : LogBuffer D) (t : TxnId) (changes : List TreeChange) → HasAppended observable history sync_out read_out read_of old new t changes →
-      HasAdded observable history sync_out read_out read_of old new (LogsTransaction t changes)
+  pub appended_is_added : (old new : LogBuffer D) (t : TxnId) (changes : List TreeChange) → HasAppended meaning old new t changes →
+      HasAdded meaning old new (LogsTransaction t changes)
   appended_is_added old new t changes a = record {
     entries = a.entries;
     logs = a.logs;
@@ -102,8 +102,8 @@ module _ {D : Type 0} (observable : Bool) (history : D → History) (sync_out re
     room = record { max = old.max; entries_are = a.fits.entries_are; room = a.fits.room };
   }
 
-  pub tried_is_failed : (old new : LogBuffer D) (t : TxnId) (changes : List TreeChange) → HasTried observable history sync_out read_out read_of old new t changes →
-      HasFailed observable history sync_out read_out read_of old new (LogsTransaction t changes)
+  pub tried_is_failed : (old new : LogBuffer D) (t : TxnId) (changes : List TreeChange) → HasTried meaning old new t changes →
+      HasFailed meaning old new (LogsTransaction t changes)
   tried_is_failed old new t changes h = record {
     entries = h.entries;
     front = h.front;

@@ -20,17 +20,9 @@ module _ {D : Type 0} where
   valid_at most observable state buffer c st here none =
       subst (λ (s : Standing). IsValid observable state buffer c s.store) (sym here.st_is) (here.here.valid (sym (ap (λ (s : Standing). s.fault) here.st_is) ∙ none))
 
-  -- the totals that are kept are those of the store
-  pub totals_are : (most : ℕ) (observable : Bool) (state : State) (buffer : LogBuffer D) (c : Contents) (st : Standing) → AreAt most observable state buffer c st → c.totals ≡ totals_of st.store
-  totals_are most observable state buffer c st here = here.here.totals ∙ sym (ap (λ (s : Standing). totals_of s.store) here.st_is)
-
   -- the commits are counted
   pub commits_at : (most : ℕ) (observable : Bool) (state : State) (buffer : LogBuffer D) (c : Contents) (st : Standing) → AreAt most observable state buffer c st → c.commits ≡ st.commits
   commits_at most observable state buffer c st here = here.here.commits ∙ sym (ap (λ (s : Standing). s.commits) here.st_is)
-
-  -- the log buffer of a valid engine works
-  pub works_at : (most : ℕ) (observable : Bool) (state : State) (engine : Engine D) (st : Standing) → IsAt most observable state engine st → st.fault ≡ None → has_failed engine.trees.log ≡ false
-  works_at most observable state engine st here none = (valid_at most observable state engine.trees.log _ st here.at none).works
 
   -- a buffer works on after a call that met no fault
   pub still_works : {T : Type 0} (r : Result T LogErr) (x : T) (buffer : LogBuffer D) → r ≡ Ok x → (has_failed buffer ≡ true ↔ IsErrOf r Fault) → has_failed buffer ≡ false

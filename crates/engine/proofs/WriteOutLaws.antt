@@ -1,6 +1,7 @@
 -- A guarded run goes on by a write of all that was appended.
-use Rattle.std.proofs.Common.{◌≡◌, ℕ, ◌≤◌, inr, Bool, true, List, [], ◌∷◌, ◌++◌, Option, None, length, refl, ap, sym, ◌∙◌, subst, arith}
+use Rattle.std.proofs.Common.{◌≡◌, ℕ, ◌≤◌, inr, Bool, true, List, [], ◌∷◌, ◌++◌, None, length, refl, ap, sym, ◌∙◌, subst, arith}
 use Rattle.std.proofs.lemmas.List.{append-nil}
+use Rattle.je_disk.specs.DiskMeaning.{DiskMeaning}
 use Rattle.je_disk.specs.States.{State}
 use Rattle.je_disk.specs.Moments.{History, now}
 use Rattle.store_model.specs.declared.answer.Answer.TheVariants.{Durable, DiskFault}
@@ -58,20 +59,20 @@ module _ {D : Type 0} where
         holds = inr (all_are_written log state.reads has.is_log (reads refl));
       }
 
-  module _ (observable : Bool) (history : D → History) (sync_out read_out : D → Option ℕ) (read_of : D → ℕ) where
+  module _ (meaning : DiskMeaning D) where
     -- all that was appended was written out: from then on the disk reads the commits so far
-    pub written_safely : (st : Standing) (log : Log) (start : History) (commits : ℕ) (buffer other : LogBuffer D) (journal : List Event) → observable ≡ true → (after_events st journal).fault ≡ None →
-        commits ≡ (after_events st journal).commits → IsGuardedLog st log start (history (disk_of buffer)) buffer journal → Grew observable history sync_out read_out read_of buffer other [] →
-        ((l : Log) → HasLog observable (now (history (disk_of buffer))) buffer l → ReadAs observable (now (history (disk_of other))).reads l) →
-        IsGuardedLog st log start (history (disk_of other)) other (journal ++ WriteOut (Durable commits) ∷ [])
+    pub written_safely : (st : Standing) (log : Log) (start : History) (commits : ℕ) (buffer other : LogBuffer D) (journal : List Event) → meaning.observable ≡ true → (after_events st journal).fault ≡ None →
+        commits ≡ (after_events st journal).commits → IsGuardedLog st log start (meaning.history (disk_of buffer)) buffer journal → Grew meaning buffer other [] →
+        ((l : Log) → HasLog meaning.observable (now (meaning.history (disk_of buffer))) buffer l → ReadAs meaning.observable (now (meaning.history (disk_of other))).reads l) →
+        IsGuardedLog st log start (meaning.history (disk_of other)) other (journal ++ WriteOut (Durable commits) ∷ [])
     written_safely st log start commits buffer other journal observed none count g grew whole =
-        let old : History = history (disk_of buffer) in
-        let new : History = history (disk_of other) in
+        let old : History = meaning.history (disk_of buffer) in
+        let new : History = meaning.history (disk_of other) in
         let event : Event = WriteOut (Durable commits) in
         let keeping : IsKeeping (now old) buffer log g.least g.begun = g.works none in
-        let has = as_observed observable (now old) buffer log observed keeping.has in
+        let has = as_observed meaning.observable (now old) buffer log observed keeping.has in
         let kept : IsKeeping (now new) other log g.least g.begun = record {
-          has = of_observed observable (now new) other log observed (grew.log log has);
+          has = of_observed meaning.observable (now new) other log observed (grew.log log has);
           holds = grew.holds observed log [] g.least g.begun has keeping.holds;
         } in
         let keeps : KeepsRead log [] g.least (now new) = keeping_read (now new) other log g.least g.begun kept in
@@ -87,22 +88,22 @@ module _ {D : Type 0} where
         (λ fault. sizes_other g.most (now start).reads buffer other log grew.max (g.sizes none))
 
     -- the disk failed meanwhile
-    pub not_written_safely : (st : Standing) (log : Log) (start : History) (buffer other : LogBuffer D) (journal : List Event) → observable ≡ true → (after_events st journal).fault ≡ None →
-        IsGuardedLog st log start (history (disk_of buffer)) buffer journal → Tried observable history sync_out read_out read_of buffer other [] →
-        IsGuardedLog st log start (history (disk_of other)) other (journal ++ WriteOut DiskFault ∷ [])
+    pub not_written_safely : (st : Standing) (log : Log) (start : History) (buffer other : LogBuffer D) (journal : List Event) → meaning.observable ≡ true → (after_events st journal).fault ≡ None →
+        IsGuardedLog st log start (meaning.history (disk_of buffer)) buffer journal → Tried meaning buffer other [] →
+        IsGuardedLog st log start (meaning.history (disk_of other)) other (journal ++ WriteOut DiskFault ∷ [])
     not_written_safely st log start buffer other journal observed none g tried =
-        let old : History = history (disk_of buffer) in
-        let new : History = history (disk_of other) in
+        let old : History = meaning.history (disk_of buffer) in
+        let new : History = meaning.history (disk_of other) in
         let keeping : IsKeeping (now old) buffer log g.least g.begun = g.works none in
-        let through : KeptThrough old new log [] g.least = tried.crash observed log [] g.least g.begun (as_observed observable (now old) buffer log observed keeping.has) keeping.holds in
+        let through : KeptThrough old new log [] g.least = tried.crash observed log [] g.least g.begun (as_observed meaning.observable (now old) buffer log observed keeping.has) keeping.holds in
         let failed = tried.failed in
         guarded_same st log start old new buffer other journal (WriteOut DiskFault) g.begun g.least g refl through (omega arith)
         (passes_now old new (KeepsRead log [] g.least) (read_through log [] g.least old new through) g.kept.keeps) (omega arith)
         (λ fault. absurd cc) (λ fault. absurd cc) (λ ok. absurd cc) (λ fault. absurd cc) (goes_freely st log start old new buffer journal g none) (λ fault. absurd cc)
 
     -- where the log got nothing it gives what it did
-    pub given_on : (buffer other : LogBuffer D) (log : Log) (rows : Rows) (last_txn last_db : ℕ) (is_active : ℕ → Bool) (own : ℕ → List OwnChange) → Grew observable history sync_out read_out read_of buffer other [] →
-        HasGiven observable history buffer log rows last_txn last_db is_active own → HasGiven observable history other log rows last_txn last_db is_active own
+    pub given_on : (buffer other : LogBuffer D) (log : Log) (rows : Rows) (last_txn last_db : ℕ) (is_active : ℕ → Bool) (own : ℕ → List OwnChange) → Grew meaning buffer other [] →
+        HasGiven meaning buffer log rows last_txn last_db is_active own → HasGiven meaning other log rows last_txn last_db is_active own
     given_on buffer other log rows last_txn last_db is_active own grew h = record {
       has = grew.log log h.has;
       gives = subst (λ (e : LogPos). GivesRecordsWith log e rows last_txn last_db is_active own) (sym grew.end) h.gives;

@@ -1,9 +1,9 @@
 -- What one step of an environment does, beside the model.
-use Rattle.std.specs.Prelude.{ℕ, ◌≡◌, ◌≤◌, ◌<◌, ◌+◌, ◌⊎◌, List, Option, None, Some, Bool, Result, Ok, Err, IfOk, length}
+use Rattle.std.specs.Prelude.{ℕ, ◌≡◌, ◌≤◌, ◌<◌, ◌+◌, ◌⊎◌, List, Option, None, Some, Result, Ok, Err, IfOk, length}
 use Rattle.std.specs.declared.alloc.AllocError.{AllocError}
 use Rattle.je_order.specs.Counts.{HasRisen}
 use Rattle.je_order.specs.declared.txn_id.TxnId.{TxnId}
-use Rattle.je_disk.specs.Moments.{History}
+use Rattle.je_disk.specs.DiskMeaning.{DiskMeaning}
 use Rattle.log_entry.specs.declared.entry.Entry.{Entry}
 use Rattle.log_buffer.specs.declared.buffer.LogBuffer.{LogBuffer}
 use Rattle.log_buffer.specs.Buffer.{IsUnchanged}
@@ -31,12 +31,12 @@ abbrev pub refusal_by : Option TreeErr → Answer
 refusal_by (Some Full) = LogFull
 refusal_by found = IdsEnded
 
-module _ {D : Type 0} (observable : Bool) (history : D → History) (sync_out read_out : D → Option ℕ) (read_of : D → ℕ) where
+module _ {D : Type 0} (meaning : DiskMeaning D) where
   -- a transaction with these changes went into the log: an entry for each, behind images of nodes, and its Commit
   pub record HasAppended (buffer longer : LogBuffer D) (txn : TxnId) (changes : List TreeChange) : Type 0 where
     pub entries : List Entry
     pub logs : LogsTransaction txn changes entries
-    pub grew : Grew observable history sync_out read_out read_of buffer longer entries
+    pub grew : Grew meaning buffer longer entries
     pub fits : FitsLog buffer entries
 
   -- or the disk failed while its first entries were appended
@@ -45,13 +45,13 @@ module _ {D : Type 0} (observable : Bool) (history : D → History) (sync_out re
     pub front : List Entry
     pub logs : LogsTransaction txn changes entries
     pub is_front : IsFront front entries
-    pub tried : Tried observable history sync_out read_out read_of buffer longer front
+    pub tried : Tried meaning buffer longer front
     pub fits : FitsLog buffer front
 
   -- trees that fitted the log fit the one with these entries more
   abbrev pub CarriesTrees : LogBuffer D → List Entry → Contents → Contents → Type 0
   CarriesTrees buffer entries old new =
-      Carries observable history buffer entries (λ es base. ForestFits es base old.last_number old.trees) (λ es base. ForestFits es base new.last_number new.trees)
+      Carries meaning buffer entries (λ es base. ForestFits es base old.last_number old.trees) (λ es base. ForestFits es base new.last_number new.trees)
 
   -- Changes were logged, which met no limit; or they met one, and nothing changed but that a transaction number was allocated; or the disk failed; or
   -- there was no memory, and nothing changed. `found` is the limit that the trees find for them.

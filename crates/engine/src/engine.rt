@@ -1,35 +1,24 @@
 // An open environment.
-ghost use Rattle.std.specs.Prelude.{◌≡◌, ◌≤◌, ◌<◌, ◌+◌, ◌∷◌, [], ◌++◌, ℕ, List, Option, None, Some, is_some, true, false, IfSome, IfOk, IsNone, OnErr, if◌then◌else◌, length, nat_lt, ◌||◌};
+ghost use Rattle.std.specs.Prelude.{◌≡◌, ◌≤◌, ◌<◌, ◌+◌, Option, None, Some, true, false, IfSome, IfOk, length, nat_lt, ◌||◌};
 ghost use Rattle.std.specs.List.{AllByRecursion};
-ghost use Rattle.je_order.specs.Counts.{HasRisen};
-ghost use Rattle.je_order.specs.declared.txn_id.TxnId.{TxnId as Txn};
-ghost use Rattle.je_disk.specs.Moments.{History, now};
-ghost use Rattle.store_model.specs.declared.answer.Answer.{Answer as Answered};
-ghost use Rattle.store_model.specs.declared.event.Event.{Event};
-ghost use Rattle.store_model.specs.declared.event.Event.TheVariants.{Call as Called, SyncEnd};
-ghost use Rattle.je_answers.specs.Standing.{Standing};
-ghost use Rattle.je_answers.specs.After.{after_event, after_events};
-ghost use Rattle.je_answers.specs.Events.{IsAnswered};
-ghost use Rattle.je_answers.specs.Journal.{changes_of};
-ghost use Rattle.je_answers.specs.Refusals.{early_refusal};
+ghost use Rattle.je_disk.specs.Moments.{now};
 ghost use Rattle.log_buffer.specs.Buffer.{has_failed};
 ghost use Rattle.log_entry.specs.Body.{IsEntry};
 ghost use Rattle.record_map.specs.Cells.{value_at};
 ghost use Rattle.record_tree.specs.Logged.{entry_for};
 ghost use Rattle.record_tree.specs.Occupied.{AreFewNew, IsFreeFor, write_in};
 ghost use Rattle.in_tree.specs.Observed.{cells_of, has_tree_of, limit_in};
-ghost use Rattle.txn_core.specs.Totals.{totals_of};
-ghost use Rattle.engine.specs.Limits.{IsWithin, last_number, numbers_for, reach_after};
-ghost use Rattle.engine.specs.Steps.{HasStepCause, IsNumbered, LogsChanges, refusal_by, txn_of};
-ghost use Rattle.engine.specs.Whole.{AreLeft, AreTrees, BeginsSafely, BeginsSync, CanGoOn, EndsNear, EndsSync, GoesOn, GoesOnSafely, HasLimit, IsAt, IsGuarded, LeavesCells, LeavesTrees, contents, disk_of, reach_of};
+ghost use Rattle.engine.specs.Limits.{last_number, numbers_for};
+ghost use Rattle.engine.specs.Steps.{HasStepCause, LogsChanges, refusal_by, txn_of};
+ghost use Rattle.engine.specs.Whole.{AreLeft, CanGoOn, EndsNear, LeavesCells, contents, disk_of};
 
 use crate::kept::Kept;
 use in_tree::LogTrees;
-use je_disk::{Disk, SyncJob};
+use je_disk::Disk;
 use je_order::TxnId;
 use record_tree::TreeErr;
 use std::alloc::{AllocError, Global};
-use store_model::{Answer, Fault, LAST_DATABASE, LAST_TXN, Totals};
+use store_model::{Answer, Fault, LAST_DATABASE, LAST_TXN};
 use txn_core::{PlannedChanges, commit_changes};
 
 /// The greatest number of a node.
@@ -40,8 +29,7 @@ pub const LAST_NODE: u64 = 0x7fff_ffff_ffff_ffff;
 pub const NUMBERS_FOR_CHANGE: u64 = 66;
 
 /// An open environment: its log over its disk with the trees of its databases, and what is kept in memory
-/// beside them. It is made by `open`, logs what calls change by `log_among`, makes commits durable by `sync_begin` and
-/// `sync_end`, and ends by `close`.
+/// beside them. It is made by `open`, and logs what calls change by `log_among`.
 pub struct Engine<D> {
     /// The trees, over the log, over its disk.
     pub trees: LogTrees<D>,
@@ -117,11 +105,11 @@ impl<D: Disk> Engine<D> {
         requires entries { AllByRecursion (λ c. IsEntry (entry_for (txn_of (self.old.kept.last_txn + 1)) c.db c.name c.value)) planned.changes.items }
         ensures trees { LeavesCells self.old.trees self.new.trees planned owed result }
         ensures near { EndsNear self.old.trees self.new.trees (length planned.changes.items) result }
-        ensures logs { LogsChanges D.observable D.history D.sync_out D.read_out D.read_of self.old.trees.log self.new.trees.log (contents self.old.trees self.old.kept) (contents self.new.trees self.new.kept) planned (limit_in self.old.trees planned.changes.items owed) result }
+        ensures logs { LogsChanges D.meaning self.old.trees.log self.new.trees.log (contents self.old.trees self.old.kept) (contents self.new.trees self.new.kept) planned (limit_in self.old.trees planned.changes.items owed) result }
         ensures indexes { self.new.kept.indexes ≡ self.old.kept.indexes }
         ensures names { self.new.kept.names ≡ self.old.kept.names }
         ensures bounds { CanGoOn self.new }
-        ensures cause { HasStepCause (D.faults (disk_of self.old)) (D.faults (disk_of self.new)) result }
+        ensures cause { HasStepCause (D.meaning.faults (disk_of self.old)) (D.meaning.faults (disk_of self.new)) result }
     {
         let txn = self.kept.last_txn + 1;
         if self.lacks_numbers(&planned) {
@@ -166,63 +154,5 @@ impl<D: Disk> Engine<D> {
             Err(TreeErr::IdsEnded) => Err(AllocError),
             Err(TreeErr::Memory) => Err(AllocError),
         }
-    }
-
-    /// Begins a sync of the commits so far: the log is written out, and the job is to be run. None where
-    /// the disk failed. It takes no memory.
-    pub fn sync_begin(&mut self) -> Option<D::Job>
-        ensures begins { (most : ℕ) (st : Standing) → IsAt most D.observable (now (D.history (disk_of self.old))) self.old st → st.fault ≡ None
-            → BeginsSync most D.observable (now (D.history (disk_of self.new))) self.new st (if is_some result then Answer.Done else Answer.DiskFault) }
-        ensures crash { D.observable ≡ true → (most : ℕ) (st : Standing) (start : History) (journal : List Event)
-            → (after_events st journal).fault ≡ None → IsGuarded most st start (D.history (disk_of self.old)) self.old journal
-            → BeginsSafely most st start (D.history (disk_of self.new)) self.new journal (is_some result) }
-        ensures within { IsWithin (reach_of self.new) (reach_of self.old) }
-        ensures out { IfSome result (λ job. D.sync_out (disk_of self.new) ≡ Some (D.Job.job_number job)) }
-        ensures indexes { self.new.kept.indexes ≡ self.old.kept.indexes }
-        ensures names { self.new.kept.names ≡ self.old.kept.names }
-        ensures bounds { CanGoOn self.old → CanGoOn self.new }
-        ensures never_falls { D.faults (disk_of self.old) ≤ D.faults (disk_of self.new) }
-        ensures cause { (most : ℕ) (st : Standing) → IsAt most D.observable (now (D.history (disk_of self.old))) self.old st → st.fault ≡ None → IsNone result → HasRisen (D.faults (disk_of self.old)) (D.faults (disk_of self.new)) }
-    {
-        match self.trees.log.sync_begin() {
-            Ok(job) => Some(job),
-            Err(_) => {
-                self.kept.fault = Some(Fault::Disk);
-                None
-            }
-        }
-    }
-
-    /// Ends the sync that is out: the commits before its beginning are durable, or the disk failed. It
-    /// takes no memory. `begun` is how many commits there were as it began.
-    pub fn sync_end(&mut self, done: <D::Job as SyncJob>::Done, begun: u64) -> Answer
-        requires { D.sync_out (disk_of self.old) ≡ Some (D.Job.Done.done_number done) }
-        ensures ends { (most : ℕ) (st : Standing) → IsAt most D.observable (now (D.history (disk_of self.old))) self.old st → st.fault ≡ None → st.begun ≡ Some begun
-            → EndsSync most D.observable (now (D.history (disk_of self.new))) self.new st result }
-        ensures crash { D.observable ≡ true → (most : ℕ) (st : Standing) (start : History) (journal : List Event)
-            → IsAt most D.observable (now (D.history (disk_of self.old))) self.old (after_events st journal) → (after_events st journal).fault ≡ None → (after_events st journal).begun ≡ Some begun
-            → IsGuarded most st start (D.history (disk_of self.old)) self.old journal
-            → IsGuarded most st start (D.history (disk_of self.new)) self.new (journal ++ SyncEnd result ∷ []) }
-        ensures within { IsWithin (reach_of self.new) (reach_of self.old) }
-        ensures indexes { self.new.kept.indexes ≡ self.old.kept.indexes }
-        ensures names { self.new.kept.names ≡ self.old.kept.names }
-        ensures bounds { CanGoOn self.old → CanGoOn self.new }
-        ensures never_falls { D.faults (disk_of self.old) ≤ D.faults (disk_of self.new) }
-        ensures cause { (most : ℕ) (st : Standing) → IsAt most D.observable (now (D.history (disk_of self.old))) self.old st → st.fault ≡ None → result ≡ Answer.DiskFault → HasRisen (D.faults (disk_of self.old)) (D.faults (disk_of self.new)) }
-    {
-        match self.trees.log.sync_end(done) {
-            Ok(()) => Answer::Durable { commit: begun },
-            Err(_) => {
-                self.kept.fault = Some(Fault::Disk);
-                Answer::DiskFault
-            }
-        }
-    }
-
-    /// How many databases and records the committed store has.
-    pub fn totals(&self) -> Totals
-        ensures { (most : ℕ) (st : Standing) → IsAt most D.observable (now (D.history (disk_of self.now))) self.now st → result ≡ totals_of st.store }
-    {
-        self.kept.totals
     }
 }

@@ -43,13 +43,13 @@ fn commit_filled<D: Disk>(
     ensures writes { OnOk result (LeavesWrites changes.now gone (cells_of trees.old) (cells_of trees.new)) }
     ensures left { OnOk result ((n : ℕ) → owed ≡ suc n → HasRoomFor trees.new.log (commit_sizes n)) }
     ensures trees { OnOk result (HasTreesAfter changes.now gone (has_tree_of trees.old) (has_tree_of trees.new)) }
-    ensures grew { OnOk result ((entries : List Entry) × LogsTransaction txn changes.now entries × GrewTrees D.observable D.history D.sync_out D.read_out D.read_of D.faults trees.old trees.new entries × (length entries + waits_of trees.new ≤ waits_of trees.old + (most_entries (length changes.now) + 1))) }
-    ensures tried { IsEndOf Reason.Fault result ((entries : List Entry) × (front : List Entry) × LogsTransaction txn changes.now entries × IsFront front entries × TriedFitting D.observable D.history D.sync_out D.read_out D.read_of D.faults trees.old.log trees.new.log front) }
+    ensures grew { OnOk result ((entries : List Entry) × LogsTransaction txn changes.now entries × GrewTrees D.meaning trees.old trees.new entries × (length entries + waits_of trees.new ≤ waits_of trees.old + (most_entries (length changes.now) + 1))) }
+    ensures tried { IsEndOf Reason.Fault result ((entries : List Entry) × (front : List Entry) × LogsTransaction txn changes.now entries × IsFront front entries × TriedFitting D.meaning trees.old.log trees.new.log front) }
     ensures limited { IfErr result (λ e. IsLimit e → limit_filling_in trees.old changes.now owed ≡ Some e) }
     ensures room { OnOk result (limit_filling_in trees.old changes.now owed ≡ None) }
     ensures fault_room { IsEndOf Reason.Fault result (limit_filling_in trees.old changes.now owed ≡ None) }
     ensures same { IfErr result (λ e. IsUndone e → AreSame (cells_of trees.old) (cells_of trees.new) × ((d : ℕ) → has_tree_of trees.new d ≡ has_tree_of trees.old d)
-        × GrewTrees D.observable D.history D.sync_out D.read_out D.read_of D.faults trees.old trees.new [] × (waits_of trees.new ≡ waits_of trees.old)) }
+        × GrewTrees D.meaning trees.old trees.new [] × (waits_of trees.new ≡ waits_of trees.old)) }
 {
     let Ok(names) = changed_names(alloc, changes) else {
         return Err(TreeErr::Memory);
@@ -95,11 +95,11 @@ impl<D: Disk> Engine<D> {
         requires entries { AllByRecursion (λ c. IsEntry (entry_for (txn_of (self.old.kept.last_txn + 1)) c.db c.name c.value)) planned.changes.items }
         ensures trees { LeavesCells self.old.trees self.new.trees planned owed result }
         ensures near { EndsNear self.old.trees self.new.trees (length planned.changes.items) result }
-        ensures logs { LogsChanges D.observable D.history D.sync_out D.read_out D.read_of self.old.trees.log self.new.trees.log (contents self.old.trees self.old.kept) (contents self.new.trees self.new.kept) planned (limit_filling_in self.old.trees planned.changes.items owed) result }
+        ensures logs { LogsChanges D.meaning self.old.trees.log self.new.trees.log (contents self.old.trees self.old.kept) (contents self.new.trees self.new.kept) planned (limit_filling_in self.old.trees planned.changes.items owed) result }
         ensures indexes { self.new.kept.indexes ≡ self.old.kept.indexes }
         ensures names { self.new.kept.names ≡ self.old.kept.names }
         ensures bounds { CanGoOn self.new }
-        ensures cause { HasStepCause (D.faults (disk_of self.old)) (D.faults (disk_of self.new)) result }
+        ensures cause { HasStepCause (D.meaning.faults (disk_of self.old)) (D.meaning.faults (disk_of self.new)) result }
     {
         let txn = self.kept.last_txn + 1;
         if self.lacks_numbers(&planned) {

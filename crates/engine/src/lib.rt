@@ -1,5 +1,5 @@
 //! The engine: an open environment over a disk, change by change. It opens the environment that a disk has, logs what
-//! calls change, makes commits durable by sync jobs that run outside it, and closes. It stands on `in_tree` for the
+//! calls change, and closes the log. It stands on `in_tree` for the
 //! records and the log, on `txn_core` for what changes are planned, on `recovery_je` for opening, on `index_map` and
 //! `db_names` for what is kept beside the catalog, and on `crash_recovery` for what a crash leaves. Upward it promises that an
 //! environment that is opened is where the model starts, that what is logged is what was planned, that what the disk's images mean at each
@@ -16,7 +16,7 @@ mod kept;
 mod open_err;
 mod opening;
 
-pub use closing::{Closed, Records, close_log};
+pub use closing::{Records, close_log};
 pub use config::Config;
 pub use engine::{Engine, LAST_NODE, NUMBERS_FOR_CHANGE};
 pub use kept::Kept;

@@ -75,13 +75,13 @@ fn read_disk<D: Disk>(
 ) -> Result<Recovered<LoadedTrees>, OpenErr>
     requires least { 4 ≤ fanout }
     requires most { fanout ≤ 128 }
-    ensures same { D.observable ≡ true → now (D.history disk.new) ≡ now (D.history disk.old) }
-    ensures moments { D.observable ≡ true → Passes (D.history disk.old) (D.history disk.new) (λ s. s ≡ now (D.history disk.old)) }
-    ensures read { IfOk result (WasRead D.observable (now (D.history disk.old)).reads) }
+    ensures same { D.meaning.observable ≡ true → now (D.meaning.history disk.new) ≡ now (D.meaning.history disk.old) }
+    ensures moments { D.meaning.observable ≡ true → Passes (D.meaning.history disk.old) (D.meaning.history disk.new) (λ s. s ≡ now (D.meaning.history disk.old)) }
+    ensures read { IfOk result (WasRead D.meaning.observable (now (D.meaning.history disk.old)).reads) }
     ensures waits { IfOk result (λ read. waits_within read.trees ≤ waiting_for read.redone) }
-    ensures none_out { OnOk result (D.sync_out disk.new ≡ None) }
-    ensures stops { IfErr result (λ error. StopsBy D.observable (now (D.history disk.old)).reads (D.faults disk.old) (D.faults disk.new) error) }
-    ensures never_falls { D.faults disk.old ≤ D.faults disk.new }
+    ensures none_out { OnOk result (D.meaning.sync_out disk.new ≡ None) }
+    ensures stops { IfErr result (λ error. StopsBy D.meaning.observable (now (D.meaning.history disk.old)).reads (D.meaning.faults disk.old) (D.meaning.faults disk.new) error) }
+    ensures never_falls { D.meaning.faults disk.old ≤ D.meaning.faults disk.new }
 {
     let trees = LoadedTrees::new(alloc, fanout, 0);
     let read = recover_disk(alloc, disk, trees)?;
@@ -106,10 +106,10 @@ fn node_bound(last: u64, entries: u64) -> Option<u64>
 
 // Cuts off what follows the valid prefix of the last file.
 fn cut_rest<D: Disk>(disk: &mut D, tail: Option<LastFile>) -> Result<(), DiskErr>
-    requires { D.sync_out disk.old ≡ None }
-    ensures done { D.observable ≡ true → OnOk result (now (D.history disk.new) ≡ cut_off tail (now (D.history disk.old))) }
-    ensures moments { D.observable ≡ true → Passes (D.history disk.old) (D.history disk.new) (IsEither (now (D.history disk.old)) (cut_off tail (now (D.history disk.old)))) }
-    ensures cause { HasFault (D.faults disk.old) (D.faults disk.new) result }
+    requires { D.meaning.sync_out disk.old ≡ None }
+    ensures done { D.meaning.observable ≡ true → OnOk result (now (D.meaning.history disk.new) ≡ cut_off tail (now (D.meaning.history disk.old))) }
+    ensures moments { D.meaning.observable ≡ true → Passes (D.meaning.history disk.old) (D.meaning.history disk.new) (IsEither (now (D.meaning.history disk.old)) (cut_off tail (now (D.meaning.history disk.old)))) }
+    ensures cause { HasFault (D.meaning.faults disk.old) (D.meaning.faults disk.new) result }
 {
     let Some(last) = tail else {
         return Ok(());
@@ -124,11 +124,11 @@ fn cut_rest<D: Disk>(disk: &mut D, tail: Option<LastFile>) -> Result<(), DiskErr
 
 // Cuts off what follows the valid prefix of the last file, and syncs.
 fn settle<D: Disk>(disk: &mut D, tail: Option<LastFile>) -> Result<(), DiskErr>
-    requires { D.sync_out disk.old ≡ None }
-    ensures settled { D.observable ≡ true → OnOk result (HasTornTailCut (now (D.history disk.old)).reads (now (D.history disk.new)).reads tail) }
-    ensures stable { D.observable ≡ true → OnOk result ((now (D.history disk.new)).crash_states ≡ synced_crash_states (now (D.history disk.new)).reads) }
-    ensures moments { D.observable ≡ true → Passes (D.history disk.old) (D.history disk.new) (IsSettling tail (now (D.history disk.old))) }
-    ensures cause { HasFault (D.faults disk.old) (D.faults disk.new) result }
+    requires { D.meaning.sync_out disk.old ≡ None }
+    ensures settled { D.meaning.observable ≡ true → OnOk result (HasTornTailCut (now (D.meaning.history disk.old)).reads (now (D.meaning.history disk.new)).reads tail) }
+    ensures stable { D.meaning.observable ≡ true → OnOk result ((now (D.meaning.history disk.new)).crash_states ≡ synced_crash_states (now (D.meaning.history disk.new)).reads) }
+    ensures moments { D.meaning.observable ≡ true → Passes (D.meaning.history disk.old) (D.meaning.history disk.new) (IsSettling tail (now (D.meaning.history disk.old))) }
+    ensures cause { HasFault (D.meaning.faults disk.old) (D.meaning.faults disk.new) result }
 {
     cut_rest(disk, tail)?;
     disk.sync_now()
@@ -144,9 +144,9 @@ fn begin_log<D: Disk>(
 ) -> Result<LogBuffer<D>, D>
     requires file { IfSome tail (λ last. last.file.0 ≤ LAST_FILE) }
     requires file_max { file_max ≤ 1073741824 }
-    ensures log { (log : Log) → StartsLog D.observable (now (D.history disk)).reads tail log → IfOk result (λ buffer. HasLog D.observable (now (D.history disk)) buffer log) }
-    ensures holds { D.observable ≡ true → (log : Log) → StartsLog D.observable (now (D.history disk)).reads tail log → (now (D.history disk)).crash_states ≡ synced_crash_states (now (D.history disk)).reads
-        → IfOk result (λ buffer. Holds log [] (length (entries_of log)) None (first_of buffer) (now (D.history disk))) }
+    ensures log { (log : Log) → StartsLog D.meaning.observable (now (D.meaning.history disk)).reads tail log → IfOk result (λ buffer. HasLog D.meaning.observable (now (D.meaning.history disk)) buffer log) }
+    ensures holds { D.meaning.observable ≡ true → (log : Log) → StartsLog D.meaning.observable (now (D.meaning.history disk)).reads tail log → (now (D.meaning.history disk)).crash_states ≡ synced_crash_states (now (D.meaning.history disk)).reads
+        → IfOk result (λ buffer. Holds log [] (length (entries_of log)) None (first_of buffer) (now (D.meaning.history disk))) }
     ensures disk { IfOk result (λ buffer. disk_below buffer ≡ disk) }
     ensures end { IfOk result (λ buffer. end_of buffer ≡ log_start_of tail) }
     ensures file_max { IfOk result (λ buffer. file_max_of buffer ≡ file_max) }
@@ -225,26 +225,26 @@ fn go_on<D: Disk>(
     read: Recovered<LoadedTrees>,
     file_max: u32,
 ) -> Result<Opened<D>, Stopped<D>>
-    requires none_out { D.sync_out disk ≡ None }
+    requires none_out { D.meaning.sync_out disk ≡ None }
     requires small { IfSome read.tail (λ last. last.file.0 ≤ LAST_FILE) }
     requires file_max { file_max ≤ 1073741824 }
     requires waits { waits_within read.trees ≤ waiting_for read.redone }
-    ensures opened { (reads : Reads) → WasRead D.observable reads read → (D.observable ≡ true → (now (D.history disk)).reads ≡ reads)
-        → IfOk result (λ opened. IsOpened file_max D.observable reads (now (D.history (disk_of opened.engine))) opened.engine opened.opening) }
-    ensures crash { D.observable ≡ true → (reads : Reads) → WasRead D.observable reads read → (now (D.history disk)).reads ≡ reads
-        → IfOk result (λ opened. IsOpenedSafely file_max reads opened.opening (D.history (disk_of opened.engine)) opened.engine) }
-    ensures entry { D.observable ≡ true → (reads : Reads) → WasRead D.observable reads read → (now (D.history disk)).reads ≡ reads
-        → IfOk result (λ opened. KeepsEntry (D.history disk) (D.history (disk_of opened.engine))) }
-    ensures indexes { (reads : Reads) → WasRead D.observable reads read → (D.observable ≡ true → (now (D.history disk)).reads ≡ reads)
+    ensures opened { (reads : Reads) → WasRead D.meaning.observable reads read → (D.meaning.observable ≡ true → (now (D.meaning.history disk)).reads ≡ reads)
+        → IfOk result (λ opened. IsOpened file_max D.meaning.observable reads (now (D.meaning.history (disk_of opened.engine))) opened.engine opened.opening) }
+    ensures crash { D.meaning.observable ≡ true → (reads : Reads) → WasRead D.meaning.observable reads read → (now (D.meaning.history disk)).reads ≡ reads
+        → IfOk result (λ opened. IsOpenedSafely file_max reads opened.opening (D.meaning.history (disk_of opened.engine)) opened.engine) }
+    ensures entry { D.meaning.observable ≡ true → (reads : Reads) → WasRead D.meaning.observable reads read → (now (D.meaning.history disk)).reads ≡ reads
+        → IfOk result (λ opened. KeepsEntry (D.meaning.history disk) (D.meaning.history (disk_of opened.engine))) }
+    ensures indexes { (reads : Reads) → WasRead D.meaning.observable reads read → (D.meaning.observable ≡ true → (now (D.meaning.history disk)).reads ≡ reads)
         → IfOk result (λ opened. KeepsIndexes opened.engine) }
     ensures names { IfOk result (λ opened. KeepsNames opened.engine) }
     ensures bounds { IfOk result (λ opened. CanGoOn opened.engine) }
-    ensures faults { IfOk result (λ opened. D.faults disk ≤ D.faults (disk_of opened.engine)) }
-    ensures stopped_entry { D.observable ≡ true → (reads : Reads) → WasRead D.observable reads read → (now (D.history disk)).reads ≡ reads
-        → IfErr result (λ stopped. KeepsEntry (D.history disk) (D.history stopped.disk)) }
-    ensures stopped { (reads : Reads) → WasRead D.observable reads read → IfErr result (λ stopped. StopsBy D.observable reads (D.faults disk) (D.faults stopped.disk) stopped.error) }
-    ensures stopped_faults { IfErr result (λ stopped. D.faults disk ≤ D.faults stopped.disk) }
-    ensures left_alone { IfErr result (λ stopped. (old : History) → Passes old (D.history disk) (λ s. s ≡ now old) → now (D.history disk) ≡ now old → IsLeftAlone stopped.error old (D.history stopped.disk)) }
+    ensures faults { IfOk result (λ opened. D.meaning.faults disk ≤ D.meaning.faults (disk_of opened.engine)) }
+    ensures stopped_entry { D.meaning.observable ≡ true → (reads : Reads) → WasRead D.meaning.observable reads read → (now (D.meaning.history disk)).reads ≡ reads
+        → IfErr result (λ stopped. KeepsEntry (D.meaning.history disk) (D.meaning.history stopped.disk)) }
+    ensures stopped { (reads : Reads) → WasRead D.meaning.observable reads read → IfErr result (λ stopped. StopsBy D.meaning.observable reads (D.meaning.faults disk) (D.meaning.faults stopped.disk) stopped.error) }
+    ensures stopped_faults { IfErr result (λ stopped. D.meaning.faults disk ≤ D.meaning.faults stopped.disk) }
+    ensures left_alone { IfErr result (λ stopped. (old : History) → Passes old (D.meaning.history disk) (λ s. s ≡ now old) → now (D.meaning.history disk) ≡ now old → IsLeftAlone stopped.error old (D.meaning.history stopped.disk)) }
 {
     let Some(last_node) = node_bound(read.last_node, read.redone) else {
         return Err(Stopped {
@@ -288,17 +288,17 @@ impl<D: Disk> Engine<D> {
         requires file_max { config.now.file_max ≤ 1073741824 }
         requires least { 4 ≤ config.now.fanout }
         requires most { config.now.fanout ≤ 128 }
-        ensures opened { IfOk result (λ opened. IsOpened config.now.file_max D.observable (now (D.history disk)).reads (now (D.history (disk_of opened.engine))) opened.engine opened.opening) }
-        ensures crash { D.observable ≡ true → IfOk result (λ opened. IsOpenedSafely config.now.file_max (now (D.history disk)).reads opened.opening (D.history (disk_of opened.engine)) opened.engine) }
-        ensures entry { D.observable ≡ true → IfOk result (λ opened. KeepsEntry (D.history disk) (D.history (disk_of opened.engine))) }
+        ensures opened { IfOk result (λ opened. IsOpened config.now.file_max D.meaning.observable (now (D.meaning.history disk)).reads (now (D.meaning.history (disk_of opened.engine))) opened.engine opened.opening) }
+        ensures crash { D.meaning.observable ≡ true → IfOk result (λ opened. IsOpenedSafely config.now.file_max (now (D.meaning.history disk)).reads opened.opening (D.meaning.history (disk_of opened.engine)) opened.engine) }
+        ensures entry { D.meaning.observable ≡ true → IfOk result (λ opened. KeepsEntry (D.meaning.history disk) (D.meaning.history (disk_of opened.engine))) }
         ensures indexes { IfOk result (λ opened. KeepsIndexes opened.engine) }
         ensures names { IfOk result (λ opened. KeepsNames opened.engine) }
         ensures bounds { IfOk result (λ opened. CanGoOn opened.engine) }
-        ensures faults { IfOk result (λ opened. D.faults disk ≤ D.faults (disk_of opened.engine)) }
-        ensures stopped_entry { D.observable ≡ true → IfErr result (λ stopped. KeepsEntry (D.history disk) (D.history stopped.disk)) }
-        ensures stopped { IfErr result (λ stopped. StopsBy D.observable (now (D.history disk)).reads (D.faults disk) (D.faults stopped.disk) stopped.error) }
-        ensures stopped_faults { IfErr result (λ stopped. D.faults disk ≤ D.faults stopped.disk) }
-        ensures left_alone { D.observable ≡ true → IfErr result (λ stopped. IsLeftAlone stopped.error (D.history disk) (D.history stopped.disk)) }
+        ensures faults { IfOk result (λ opened. D.meaning.faults disk ≤ D.meaning.faults (disk_of opened.engine)) }
+        ensures stopped_entry { D.meaning.observable ≡ true → IfErr result (λ stopped. KeepsEntry (D.meaning.history disk) (D.meaning.history stopped.disk)) }
+        ensures stopped { IfErr result (λ stopped. StopsBy D.meaning.observable (now (D.meaning.history disk)).reads (D.meaning.faults disk) (D.meaning.faults stopped.disk) stopped.error) }
+        ensures stopped_faults { IfErr result (λ stopped. D.meaning.faults disk ≤ D.meaning.faults stopped.disk) }
+        ensures left_alone { D.meaning.observable ≡ true → IfErr result (λ stopped. IsLeftAlone stopped.error (D.meaning.history disk) (D.meaning.history stopped.disk)) }
     {
         let mut disk = disk;
         match read_disk(alloc, &mut disk, config.fanout) {

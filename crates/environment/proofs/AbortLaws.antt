@@ -1,7 +1,7 @@
 -- The abort of a transaction.
-use Rattle.std.proofs.Common.{◌≡◌, ◌≤◌, ◌∙◌, ℕ, Bool, Bor, [], Option, None, Some, Ok, ap, refl, sym, subst, inl, arith}
+use Rattle.std.proofs.Common.{◌≡◌, ◌≤◌, ◌∙◌, ℕ, Bor, [], Option, None, Some, Ok, ap, refl, sym, subst, inl, arith}
 use Rattle.std.specs.Option.{option_copied}
-use Rattle.je_disk.specs.Moments.{History}
+use Rattle.je_disk.specs.DiskMeaning.{DiskMeaning}
 use Rattle.store_model.specs.declared.answer.Answer.{Answer}
 use Rattle.store_model.specs.declared.answer.Answer.TheVariants.{Done, DiskFault}
 use Rattle.store_model.specs.declared.call.Call.TheVariants.{Abort}
@@ -35,19 +35,19 @@ abort_has st session early none = absurd (by (sym (ap (txn_refusal Abort) none) 
 abort_late : (st : Standing) (session : ℕ) (a : Active) → active_of session st.actives ≡ Some a → late_refusal st session Abort ≡ None
 abort_late st session a some = ap (λ (o : Option Active). or_refusal (number_refusal st.last_txn o) None) some
 
-module _ {D : Type 0} (observable : Bool) (history : D → History) (sync_out read_out : D → Option ℕ) (read_of : D → ℕ) where
+module _ {D : Type 0} (meaning : DiskMeaning D) where
   pub aborted : (most : ℕ) (old new : Environment D) (st : Standing) (session line : ℕ) (a : Active) → active_of session st.actives ≡ Some a → HasAbandoned old new session a.txn → AreSound st → st.fault ≡ None →
-      StandsAt most observable history old st → HasCome observable history sync_out read_out read_of most old new st session line Abort Done []
+      StandsAt most meaning old st → HasCome meaning most old new st session line Abort Done []
   aborted most old new st session line a some h sound none at = subst Come (sym (abort_late st session a some)) (record {
     limit = None;
     has_limit = refl;
     answers = (refl, refl);
-    here = subst (λ (o : Option Active). StandsAt most observable history new (ended_if_any o st)) (sym some)
-        (abandoned most observable history old new st a its (ap (λ (s : ℕ). active_of s st.actives) own ∙ some) (λ calm. sound.numbers) at);
+    here = subst (λ (o : Option Active). StandsAt most meaning new (ended_if_any o st)) (sym some)
+        (abandoned most meaning old new st a its (ap (λ (s : ℕ). active_of s st.actives) own ∙ some) (λ calm. sound.numbers) at);
     numbered = tt;
     fault = ended_fault (active_of session st.actives) st ∙ none;
     logged = inl (its.log, refl, refl);
-    near = within_more old new [] (abandoned_near most observable history old new st a its at.sessions_at);
+    near = within_more old new [] (abandoned_near most meaning old new st a its at.sessions_at);
   })
     where
       own : a.session ≡ session
@@ -57,26 +57,26 @@ module _ {D : Type 0} (observable : Bool) (history : D → History) (sync_out re
       its = subst (λ (s : ℕ). HasAbandoned old new s a.txn) (sym own) h
 
       Come : Option Answer → Type 0
-      Come late = HasStepped observable history sync_out read_out read_of most old new (owing_after st session) (written_evaluated late st session Abort) (changes_evaluated late st session Abort)
+      Come late = HasStepped meaning most old new (owing_after st session) (written_evaluated late st session Abort) (changes_evaluated late st session Abort)
           (λ limit. IsEvaluated late limit st session line Abort Done []) (after_evaluated late st session line Abort Done []) Done
 
 pub never_done : Done ≡ DiskFault → ⊥
 never_done is = absurd cc
 
-module _ {D : Type 0} (observable : Bool) (history : D → History) (sync_out read_out : D → Option ℕ) (read_of faults : D → ℕ) where
+module _ {D : Type 0} (meaning : DiskMeaning D) where
   -- what the call comes to wherever the model stands
   pub abort_performs : (old new : Environment D) (session : ℕ) (found : Option (Bor Active)) (a : Bor Active) → found ≡ Some a → ((st : Standing) → AreSessionsAt old.sessions st → option_copied found ≡ active_of session st.actives) →
       HasAbandoned old new session a.now.txn → old.engine.kept.fault ≡ None → CanGoOn old →
-      PerformsAnswer observable history sync_out read_out read_of faults old new session Abort (Ok Done)
+      PerformsAnswer meaning old new session Abort (Ok Done)
   abort_performs old new session found a is finds h valid bounds = record {
     comes = λ most st line at sound early.
         let none = sym at.fault ∙ valid in
         let some = sym (finds st at.sessions_at) ∙ ap option_copied is in
-        aborted observable history sync_out read_out read_of most old new st session line a.now some h sound none at;
+        aborted meaning most old new st session line a.now some h sound none at;
     near = tt;
     bounds = subst (λ (k : Kept). k.commits ≤ k.last_txn) (sym h.kept) bounds;
     cause = record {
-      never_falls = subst (λ (d : D). faults (disk_of old) ≤ faults d) (sym h.log.disk) (omega arith);
+      never_falls = subst (λ (d : D). meaning.faults (disk_of old) ≤ meaning.faults d) (sym h.log.disk) (omega arith);
       fault = λ done. absurd (never_done done);
     };
   }

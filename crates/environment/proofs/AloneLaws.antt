@@ -14,7 +14,7 @@ use Rattle.log_replay.specs.Rows.{Rows}
 use Rattle.log_replay.specs.Logging.{number_named}
 use Rattle.in_tree.specs.declared.logged_trees.LogTrees.{LogTrees}
 use Rattle.in_tree.specs.Observed.{cells_of, has_tree_of, waits_of}
-use Rattle.active_txns.specs.Own.{has_changes, own_of}
+use Rattle.active_txns.specs.Own.{counts_at, has_some}
 use Rattle.record_tree.specs.Occupied.{AllCells}
 use Rattle.sessions.specs.declared.all_sessions.Sessions.{Sessions}
 use Rattle.sessions.specs.AtStanding.{AreSessionsAt, owing}
@@ -54,7 +54,7 @@ none_owing p n is = cc
 
 -- and sessions owe none
 none_owed : (s : Sessions) (p : Alone) → AreSessionsAt s (alone p) → owed_by s ≡ 0
-none_owed s p at = ap (λ (l : List Active). length (filter (λ (a : Active). has_changes (own_of s.txns.own.entries a.txn.0)) l)) at.actives
+none_owed s p at = ap (λ (l : List Active). length (filter (λ (a : Active). has_some (counts_at a.txn s.txns.own.entries)) l)) at.actives
 
 module _ {D : Type 0} where
   -- a log and trees in which nobody changed anything

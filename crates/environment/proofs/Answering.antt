@@ -3,6 +3,7 @@ use Rattle.std.proofs.Common.{◌≡◌, ◌*◌, ℕ, ◌≤◌, ◌<◌, ◌+�
 use Rattle.std.specs.declared.alloc.AllocError.{AllocError}
 use Rattle.std.proofs.lemmas.Bool.{ltb-true}
 use Rattle.std.proofs.lemmas.List.{append-nil}
+use Rattle.je_disk.specs.DiskMeaning.{DiskMeaning}
 use Rattle.je_disk.specs.Moments.{History, now}
 use Rattle.store_model.specs.declared.answer.Answer.{Answer}
 use Rattle.store_model.specs.declared.answer.Answer.TheVariants.{IdsEnded}
@@ -41,6 +42,7 @@ use Rattle.engine.proofs.GuardedEvents.{guarded_idle, guarded_grown, guarded_tri
 use Rattle.engine.proofs.ReachLaws.{planned_few}
 use Rattle.engine.specs.declared.engine.Engine.{Engine}
 use Rattle.serial_replay.proofs.Attempts.{reached_goes-on}
+use Rattle.sessions.proofs.Owns.{owing_is}
 use Rattle.environment.specs.declared.environment.Environment.{Environment}
 use Rattle.environment.specs.declared.outcome.Outcome.{Outcome}
 use Rattle.environment.specs.Answering.{AnswersCall}
@@ -58,12 +60,9 @@ use Rattle.txn_core.specs.Planning.{makes_index}
 
 -- ---- what is owed
 
-abbrev count_owed : (ℕ → List (ℕ × RecordChange)) → List Active → ℕ
-count_owed own actives = length (filter (λ a. has_changes (own a.txn.0)) actives)
-
 -- sessions owe as many Commits as the model's standing
 pub owed_is : (s : Sessions) (st : Standing) → AreSessionsAt s st → owed_by s ≡ owing st
-owed_is s st at = ap (λ (own : ℕ → List (ℕ × RecordChange)). count_owed own s.txns.actives.items) at.own ∙ ap (λ (l : List Active). count_owed st.own l) at.actives
+owed_is s st at = owing_is s.txns.own.entries st.own s.txns.actives.items st.actives at.own at.actives
 
 -- one more at most with a call's changes
 pub owed_with : (o : Option Active) (st : Standing) → owing_with o st ≤ owing st + 1
@@ -119,50 +118,50 @@ module _ {D : Type 0} where
 
   -- ---- a guarded run
 
-  module _ (observable : Bool) (history : D → History) (sync_out read_out : D → Option ℕ) (read_of : D → ℕ) where
-    pub guarded_step : (st : Standing) (start : History) (old new : LogBuffer D) (journal : List Event) (event : Event) (more : List (List Change)) (log : Log) → observable ≡ true → is_sync event ≡ false →
-        IsLogStep observable history sync_out read_out read_of (answers_some is_disk_fault event) old new more → attempt_of (after_events st journal) event ≡ more → written_out event ≡ 0 →
+  module _ (meaning : DiskMeaning D) where
+    pub guarded_step : (st : Standing) (start : History) (old new : LogBuffer D) (journal : List Event) (event : Event) (more : List (List Change)) (log : Log) → meaning.observable ≡ true → is_sync event ≡ false →
+        IsLogStep meaning (answers_some is_disk_fault event) old new more → attempt_of (after_events st journal) event ≡ more → written_out event ≡ 0 →
         (after_events st journal).fault ≡ None → (after_event (after_events st journal) event).fault ≡ cond (answers_some is_disk_fault event) (Some Disk) None →
-        IsGuardedLog st log start (history (disk_below old)) old journal → (grown : Log) × IsGuardedLog st grown start (history (disk_below new)) new (journal ++ event ∷ [])
+        IsGuardedLog st log start (meaning.history (disk_below old)) old journal → (grown : Log) × IsGuardedLog st grown start (meaning.history (disk_below new)) new (journal ++ event ∷ [])
     guarded_step st start old new journal event more log observed apart step is durable none fault g = by_fault (answers_some is_disk_fault event) refl step
       where
         Goal : Type 0
-        Goal = (grown : Log) × IsGuardedLog st grown start (history (disk_below new)) new (journal ++ event ∷ [])
+        Goal = (grown : Log) × IsGuardedLog st grown start (meaning.history (disk_below new)) new (journal ++ event ∷ [])
 
         not_none : Some Disk ≡ None → ⊥
         not_none e = absurd cc
 
-        by_fault : (b : Bool) → answers_some is_disk_fault event ≡ b → IsLogStep observable history sync_out read_out read_of b old new more → Goal
+        by_fault : (b : Bool) → answers_some is_disk_fault event ≡ b → IsLogStep meaning b old new more → Goal
         by_fault false calm (inl idle) = (
           log,
-          guarded_idle history st log start old new journal event apart idle.0 none (is ∙ idle.1) durable calm (fault ∙ ap (λ (b : Bool). cond b (Some Disk) None) calm ∙ sym none) g,
+          guarded_idle meaning.history st log start old new journal event apart idle.0 none (is ∙ idle.1) durable calm (fault ∙ ap (λ (b : Bool). cond b (Some Disk) None) calm ∙ sym none) g,
         )
         by_fault false calm (inr grown) = (
           _,
-          guarded_grown observable history sync_out read_out read_of st log start old new journal event more grown.entries observed g
+          guarded_grown meaning st log start old new journal event more grown.entries observed g
               (record { other = apart; more_is = is; durable = durable; before = none; after = fault ∙ ap (λ (b : Bool). cond b (Some Disk) None) calm; calm = calm })
               grown.grew
-              (grown.recovers observed log (subst (λ (b : Bool). HasLog b (now (history (disk_below old))) old log) (sym observed) (g.works none).has) g.kept.first st.store g.base g.kept.logged g.kept.recovers),
+              (grown.recovers observed log (subst (λ (b : Bool). HasLog b (now (meaning.history (disk_below old))) old log) (sym observed) (g.works none).has) g.kept.first st.store g.base g.kept.logged g.kept.recovers),
         )
         by_fault true failed step_ = (
           _,
-          guarded_tried observable history sync_out read_out read_of st log start old new journal event more step_.front observed g
+          guarded_tried meaning st log start old new journal event more step_.front observed g
               (record { other = apart; more_is = is; durable = durable; before = none; after = λ e. not_none (sym (fault ∙ ap (λ (b : Bool). cond b (Some Disk) None) failed) ∙ e) })
               step_.tried (by_either step_.recovers),
         )
           where
-            has : HasLog observable (now (history (disk_below old))) old log
-            has = subst (λ (b : Bool). HasLog b (now (history (disk_below old))) old log) (sym observed) (g.works none).has
+            has : HasLog meaning.observable (now (meaning.history (disk_below old))) old log
+            has = subst (λ (b : Bool). HasLog b (now (meaning.history (disk_below old))) old log) (sym observed) (g.works none).has
 
-            by_either : RecoversWith observable history sync_out read_out read_of old step_.front [] ⊎ RecoversWith observable history sync_out read_out read_of old step_.front more →
+            by_either : RecoversWith meaning old step_.front [] ⊎ RecoversWith meaning old step_.front more →
                 RecoversLog g.kept.first st.store g.base g.kept.logged (longer old step_.front log) ⊎ RecoversLog g.kept.first st.store g.base (g.kept.logged ++ more) (longer old step_.front log)
             by_either (inl less) = inl (subst (λ (l : List (List Change)). RecoversLog g.kept.first st.store g.base l (longer old step_.front log)) (append-nil g.kept.logged)
                 (less observed log has g.kept.first st.store g.base g.kept.logged g.kept.recovers))
             by_either (inr all) = inr (all observed log has g.kept.first st.store g.base g.kept.logged g.kept.recovers)
 
     -- what a call did to the log
-    pub log_step : (b : Bool) (old : Engine D) (new : LogBuffer D) (wrote more : List (List Change)) → IsCallStep observable history sync_out read_out read_of b old new wrote more →
-        IsLogStep observable history sync_out read_out read_of b old.trees.log new more
+    pub log_step : (b : Bool) (old : Engine D) (new : LogBuffer D) (wrote more : List (List Change)) → IsCallStep meaning b old new wrote more →
+        IsLogStep meaning b old.trees.log new more
     log_step false old new wrote more (inl idle) = inl (idle.0, idle.1)
     log_step false old new wrote more (inr logged) = inr logged.1.grown
     log_step true old new wrote more failed = failed
@@ -170,12 +169,12 @@ module _ {D : Type 0} where
     -- ---- a call of a session
 
     module _ (old new : Environment D) (session line : ℕ) (call : Call) (valid : old.engine.kept.fault ≡ None) where
-      fault_none : (most : ℕ) (st : Standing) → IsAt most observable (now (history (disk_of old))) old st → st.fault ≡ None
+      fault_none : (most : ℕ) (st : Standing) → IsAt most meaning.observable (now (meaning.history (disk_of old))) old st → st.fault ≡ None
       fault_none most st here = sym here.at.fault ∙ valid
 
-      at_done : (most : ℕ) (st : Standing) (answer : Answer) (victims : List Victim) → IsAt most observable (now (history (disk_of old))) old st →
-          HasCalled observable history sync_out read_out read_of most old new st session line call answer victims →
-          HasDone most observable (now (history (disk_of new))) old new st (Called session line call answer victims)
+      at_done : (most : ℕ) (st : Standing) (answer : Answer) (victims : List Victim) → IsAt most meaning.observable (now (meaning.history (disk_of old))) old st →
+          HasCalled meaning most old new st session line call answer victims →
+          HasDone most meaning.observable (now (meaning.history (disk_of new))) old new st (Called session line call answer victims)
       at_done most st answer victims here has =
           let owed = owed_is old.sessions st here.at.sessions_at in
           let with_ = owed_with (active_of session st.actives) st in
@@ -193,9 +192,9 @@ module _ {D : Type 0} where
           }
 
       pub answers_call : (result : Result Outcome AllocError) →
-          ((most : ℕ) (st : Standing) → IsAt most observable (now (history (disk_of old))) old st → CallsTo observable history sync_out read_out read_of most old new st session line call result) →
+          ((most : ℕ) (st : Standing) → IsAt most meaning.observable (now (meaning.history (disk_of old))) old st → CallsTo meaning most old new st session line call result) →
           ((P : Unit {0}) → OnErr result (IsWithin (reach_of new) (reach_of old))) →
-          AnswersCall observable history sync_out read_out read_of old new session line call result
+          AnswersCall meaning old new session line call result
       answers_call (Ok o) comes near = record {
         goes_on = λ most st here. at_done most st o.answer o.victims here (comes most st here);
         exact = λ most st here. let has = comes most st here in (has.limit, has.has_limit, has.answers);
@@ -214,7 +213,7 @@ module _ {D : Type 0} where
         grows = λ most st here. within_more old new (written_call st session call) (comes most st here).near;
         crash = λ observed most st start journal here is.
             let has = comes most (after_events st journal) here in
-            (is.0, guarded_along history st is.0 start old.engine.trees.log new.engine.trees.log journal has.log is.1 (fault_none most (after_events st journal) here));
+            (is.0, guarded_along meaning.history st is.0 start old.engine.trees.log new.engine.trees.log journal has.log is.1 (fault_none most (after_events st journal) here));
         appends = λ most st here. tt;
         stays = near tt;
       }

@@ -15,6 +15,7 @@ use Rattle.je_answers.specs.Locking.{Queues, all_got, first_blocked, released}
 use Rattle.je_answers.specs.Standing.{LockState, Standing}
 use Rattle.je_answers.specs.Views.{Target, needs_in}
 use Rattle.je_answers.proofs.Unlocked.{all_gone, none_own, none_stopped, same_number}
+use Rattle.active_txns.specs.Own.{AreCounted}
 use Rattle.sessions.specs.declared.all_sessions.Sessions.{Sessions}
 use Rattle.sessions.specs.AtStanding.{AreLocksAt, AreSessionsAt, owing}
 use Rattle.standing_laws.specs.Right.{AreSound}
@@ -65,7 +66,7 @@ closed_alone : (s : Sessions) (p : Alone) (session : ℕ) (needs : List Need) �
     AreSessionsAt s (ended (auto_active (alone p) session) (with_locks (auto_active (alone p) session) (all_got (auto_active (alone p) session).txn needs no_locks.at) (begun (alone p) session)))
 closed_alone s p session needs at = record {
   actives = at.actives ∙ sym (its_gone p session);
-  own = at.own ∙ sym (fun_ext (λ m. still_empty (m == (auto_active (alone p) session).txn.0)));
+  own = subst (AreCounted s.txns.own.entries) (sym (fun_ext (λ m. still_empty (m == (auto_active (alone p) session).txn.0)))) at.own;
   places = record { at = record { each = λ n. at.places.at.each n ∙ sym (still_empty (n == session)); apart = at.places.at.apart }; under = at.places.under };
   waiting = at.waiting;
   locks = subst (AreLocksAt p.fault s.locks.locks) (sym (unlocked (auto_active (alone p) session).txn needs)) at.locks;

@@ -1,6 +1,6 @@
 -- A call on records that is a transaction of its own: what it may ask.
-use Rattle.std.proofs.Common.{◌≡◌, ◌∙◌, ℕ, ◌<◌, ◌+◌, Bool, true, List, None, Some, ap, sym, subst, arith}
-use Rattle.je_disk.specs.Moments.{History}
+use Rattle.std.proofs.Common.{◌≡◌, ◌∙◌, ℕ, ◌<◌, ◌+◌, true, List, None, Some, ap, sym, subst, arith}
+use Rattle.je_disk.specs.DiskMeaning.{DiskMeaning}
 use Rattle.store_model.specs.declared.call.Call.{Call}
 use Rattle.store_model.specs.declared.call.Call.TheVariants.{Get, GetBoth, Put, Delete}
 use Rattle.store_model.specs.Refusals.{next_txn}
@@ -59,9 +59,9 @@ pub stopped_is : (old new : Sessions) (session line : ℕ) (call : Call) (db : L
     IfStopped t (Stops old new session line call db kind others needs) → Stops old new session line call db kind others needs answer victims
 stopped_is old new session line call db kind others needs t answer victims is h = subst (λ (x : Taken). IfStopped x (Stops old new session line call db kind others needs)) is h
 
-module _ {D : Type 0} (most : ℕ) (observable : Bool) (history : D → History) (e : Environment D) (st : Standing) (session : ℕ) (call : Call) where
-  pub auto_at : (g : Target) (db : List ℕ) (found : FoundDb) → StandsAt most observable history e st → AreSound st → e.engine.kept.fault ≡ None → MayCall st session true → IsFoundFor st session call db found None g → IsOnRecords db call →
-      active_of session st.actives ≡ None → IsAutoAt most observable history e st session call g
+module _ {D : Type 0} (most : ℕ) (meaning : DiskMeaning D) (e : Environment D) (st : Standing) (session : ℕ) (call : Call) where
+  pub auto_at : (g : Target) (db : List ℕ) (found : FoundDb) → StandsAt most meaning e st → AreSound st → e.engine.kept.fault ≡ None → MayCall st session true → IsFoundFor st session call db found None g → IsOnRecords db call →
+      active_of session st.actives ≡ None → IsAutoAt most meaning e st session call g
   auto_at g db found at sound valid may on records outside = record {
     at = at;
     sound = sound;
@@ -76,7 +76,7 @@ module _ {D : Type 0} (most : ℕ) (observable : Bool) (history : D → History)
     left = has_number st.last_txn (sym (ap (number_refusal st.last_txn) outside) ∙ late_number st session call on.late);
   }
 
-  module _ (g : Target) (may : IsAutoAt most observable history e st session call g) where
+  module _ (g : Target) (may : IsAutoAt most meaning e st session call g) where
     abbrev a : Active
     a = auto_active st session
 

@@ -1,7 +1,8 @@
 -- A call on records that is a transaction of its own: its plan, and its changes.
-use Rattle.std.proofs.Common.{◌≡◌, ◌≢◌, ◌+◌, ◌^◌, ◌∙◌, ◌==◌, ℕ, ◌<◌, Bool, true, false, true≢false, List, length, [], ◌∷◌, None, Result, Ok, Err, IfOk, ap, refl, sym, subst, arith}
+use Rattle.std.proofs.Common.{◌≡◌, ◌≢◌, ◌+◌, ◌^◌, ◌∙◌, ◌==◌, ℕ, ◌<◌, true, false, true≢false, List, length, [], ◌∷◌, None, Result, Ok, Err, IfOk, ap, refl, sym, subst, arith}
 use Rattle.std.specs.List.{AllByRecursion}
-use Rattle.je_disk.specs.Moments.{History, now}
+use Rattle.je_disk.specs.DiskMeaning.{DiskMeaning}
+use Rattle.je_disk.specs.Moments.{now}
 use Rattle.je_order.specs.declared.txn_id.TxnId.{TxnId}
 use Rattle.log_entry.specs.Fields.{IsName}
 use Rattle.log_replay.specs.Rows.{Row, Rows}
@@ -58,8 +59,8 @@ so_planned P Q (Err e) step h = tt
 pub some_by : {X : Type 0} (items own : List X) → (length items == 0) ≡ false → items ≡ own → own ≢ []
 some_by items own filled is none = true≢false (ap (λ (l : List _). length l == 0) (sym (is ∙ none)) ∙ filled)
 
-module _ {D : Type 0} (most : ℕ) (observable : Bool) (history : D → History) (e : Environment D) (st : Standing) (session : ℕ) (call : Call) (db : List ℕ) (found : FoundDb) (g : Target)
-    (may : IsAutoAt most observable history e st session call g) (on : IsOnDb st db found g) where
+module _ {D : Type 0} (most : ℕ) (meaning : DiskMeaning D) (e : Environment D) (st : Standing) (session : ℕ) (call : Call) (db : List ℕ) (found : FoundDb) (g : Target)
+    (may : IsAutoAt most meaning e st session call g) (on : IsOnDb st db found g) where
   abbrev a : Active
   a = auto_active st session
 
@@ -70,8 +71,8 @@ module _ {D : Type 0} (most : ℕ) (observable : Bool) (history : D → History)
   pub sound_there : AreSound there
   sound_there = sound_begun st.last_txn st.actives st.own st.places st.waiting st.locks a may.sound (let next = next_is st.last_txn may.left in omega (arith, next)) may.outside
 
-  pub valid_there : IsValidAt observable history e there
-  valid_there = valid_begun observable (now (history (disk_below e.engine.trees.log))) e.engine.trees.log (cells_of e.engine.trees) (has_tree_of e.engine.trees) (fitting e.engine.trees) e.engine.kept.since e.written.by_txn.entries st a may.sound may.left refl
+  pub valid_there : IsValidAt meaning e there
+  valid_there = valid_begun meaning.observable (now (meaning.history (disk_below e.engine.trees.log))) e.engine.trees.log (cells_of e.engine.trees) (has_tree_of e.engine.trees) (fitting e.engine.trees) e.engine.kept.since e.written.by_txn.entries st a may.sound may.left refl
       (may.at.valid may.valid)
 
   pub on_there : IsOnDb there db found g
@@ -97,7 +98,7 @@ module _ {D : Type 0} (most : ℕ) (observable : Bool) (history : D → History)
 
   -- its changes may be made
   module _ (rising : (d : ℕ) → IsRising (cells_of e.engine.trees d)) where
-    abbrev valid_ : IsValidAt observable history e st
+    abbrev valid_ : IsValidAt meaning e st
     valid_ = may.at.valid may.valid
 
     there_ : AreThere st g
@@ -141,7 +142,7 @@ module _ {D : Type 0} (most : ℕ) (observable : Bool) (history : D → History)
 
 -- ---- what is logged of its changes
 
-module _ {D : Type 0} (most : ℕ) (observable : Bool) (history : D → History) (e : Environment D) (st : Standing) (session : ℕ) (call : Call) (g : Target) (may : IsAutoAt most observable history e st session call g) where
+module _ {D : Type 0} (most : ℕ) (meaning : DiskMeaning D) (e : Environment D) (st : Standing) (session : ℕ) (call : Call) (g : Target) (may : IsAutoAt most meaning e st session call g) where
   abbrev rows : Rows
   rows = committed (cells_of e.engine.trees)
 
@@ -154,7 +155,7 @@ module _ {D : Type 0} (most : ℕ) (observable : Bool) (history : D → History)
   -- none are told
   pub answers_it : (answer : Answer) → answer ≡ (outcome_auto st session call g).answer → with_numbers cs ≡ [] → outcome_alone (alone_in st) session call ≡ answers answer
   answers_it answer is none =
-      outcome_is_auto observable history most e st session call g may ∙ by_list cs none
+      outcome_is_auto meaning most e st session call g may ∙ by_list cs none
     where
       by_list : (l : List Changed) → with_numbers l ≡ [] → record { answer = (outcome_auto st session call g).answer; changes = with_names l } ≡ answers answer
       by_list [] empty = ap answers (sym is)
@@ -176,4 +177,4 @@ module _ {D : Type 0} (most : ℕ) (observable : Bool) (history : D → History)
       by_list [] is can filled log = absurd (filled refl)
       by_list (c ∷ l) is can filled log =
           planned_log known (alone_in st) session call planned st c l makes can refl may.at.totals few
-          (ap (λ (o : _). o.changes) (outcome_is_auto observable history most e st session call g may) ∙ ap with_names is) log
+          (ap (λ (o : _). o.changes) (outcome_is_auto meaning most e st session call g may) ∙ ap with_names is) log

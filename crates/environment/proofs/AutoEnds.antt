@@ -1,7 +1,8 @@
 -- A call on records that is a transaction of its own, among others: it waits, or changes nothing.
 use Rattle.std.proofs.Common.{◌≡◌, ◌∙◌, ℕ, ◌≤◌, ◌+◌, Bool, true, true≢false, cond, List, [], ◌∷◌, ◌++◌, Option, None, Some, Result, Ok, Err, OnErr, IsErr, refl, ap, ap₂, sym, subst, inl, arith}
 use Rattle.std.specs.declared.alloc.AllocError.{AllocError}
-use Rattle.je_disk.specs.Moments.{History, now}
+use Rattle.je_disk.specs.DiskMeaning.{DiskMeaning}
+use Rattle.je_disk.specs.Moments.{now}
 use Rattle.je_order.specs.declared.txn_id.TxnId.{TxnId}
 use Rattle.store_model.specs.declared.answer.Answer.{Answer}
 use Rattle.store_model.specs.declared.answer.Fault.TheVariants.{Disk}
@@ -30,6 +31,7 @@ use Rattle.log_buffer.specs.Buffer.{disk_of as disk_below}
 use Rattle.in_tree.specs.Observed.{cells_of, has_tree_of}
 use Rattle.txn_core.specs.Planning.{outcome_alone, outcome_on}
 use Rattle.txn_core.specs.Totals.{totals_of}
+use Rattle.active_txns.specs.Own.{AreCounted}
 use Rattle.sessions.specs.declared.all_sessions.Sessions.{Sessions}
 use Rattle.sessions.specs.AtStanding.{AreSessionsAt, owing}
 use Rattle.open_cursors.specs.Places.{AreUnder}
@@ -98,8 +100,8 @@ pub calm_stopped : (o : Option TxnId) (st at : Standing) (session line : ℕ) (c
 calm_stopped None st at session line call g n answer victims is = absurd is
 calm_stopped (Some owner) st at session line call g n answer victims is = subst IsCalm (sym is.3) (calm_told _ _ owner)
 
-module _ {D : Type 0} (observable : Bool) (history : D → History) (sync_out read_out : D → Option ℕ) (read_of : D → ℕ) (most : ℕ) (e : Environment D) (st : Standing) (session : ℕ) (call : Call) (g : Target)
-    (may : IsAutoAt most observable history e st session call g) where
+module _ {D : Type 0} (meaning : DiskMeaning D) (most : ℕ) (e : Environment D) (st : Standing) (session : ℕ) (call : Call) (g : Target)
+    (may : IsAutoAt most meaning e st session call g) where
   abbrev a : Active
   a = auto_active st session
 
@@ -124,7 +126,7 @@ module _ {D : Type 0} (observable : Bool) (history : D → History) (sync_out re
   -- ---- it waits
 
   pub stopped_comes : (s : Sessions) (last line : ℕ) (answer : Answer) (victims : List Victim) → last ≡ next_txn st.last_txn → HasStopped s there a line call g answer victims →
-      HasCome observable history sync_out read_out read_of most e (with_begun e last s) st session line call answer victims
+      HasCome meaning most e (with_begun e last s) st session line call answer victims
   stopped_comes s last line answer victims last_is stop =
       let after : Standing = after_stop true there a line call g stop.need victims in
       let leaves : LeavesSame there after = victims_leave there a line call g stop.need victims bare_begun in
@@ -133,7 +135,7 @@ module _ {D : Type 0} (observable : Bool) (history : D → History) (sync_out re
       let owed_old = owed_is e.sessions st may.at.sessions_at in
       let fewer : owing after ≤ owing there = leaves.owing in
       let same = owing_begun st a none_yet in
-      come_taken observable history sync_out read_out read_of most e (with_begun e last s) st session line call g answer victims may.db (Some stop.need) may.records may.late may.outside may.target stop.first (record {
+      come_taken meaning most e (with_begun e last s) st session line call g answer victims may.db (Some stop.need) may.records may.late may.outside may.target stop.first (record {
         limit = None;
         has_limit = refl;
         answers = stop.answers;
@@ -149,13 +151,13 @@ module _ {D : Type 0} (observable : Bool) (history : D → History) (sync_out re
           checkpoint = may.at.checkpoint ∙ sym leaves.checkpoint;
           databases = λ none. known_leaves there after e.engine.kept leaves (may.at.databases may.valid);
           valid = λ none.
-              let state = now (history (disk_below e.engine.trees.log)) in
-              valid_leaves observable state e.engine.trees.log (cells_of e.engine.trees) (has_tree_of e.engine.trees) (fitting e.engine.trees) e.engine.kept.since e.written.by_txn.entries there after leaves
-              (valid_begun observable state e.engine.trees.log (cells_of e.engine.trees) (has_tree_of e.engine.trees) (fitting e.engine.trees) e.engine.kept.since e.written.by_txn.entries st a may.sound may.left refl (may.at.valid may.valid));
+              let state = now (meaning.history (disk_below e.engine.trees.log)) in
+              valid_leaves meaning.observable state e.engine.trees.log (cells_of e.engine.trees) (has_tree_of e.engine.trees) (fitting e.engine.trees) e.engine.kept.since e.written.by_txn.entries there after leaves
+              (valid_begun meaning.observable state e.engine.trees.log (cells_of e.engine.trees) (has_tree_of e.engine.trees) (fitting e.engine.trees) e.engine.kept.since e.written.by_txn.entries st a may.sound may.left refl (may.at.valid may.valid));
         };
         numbered = unnumbered answer after.commits calm;
         fault = leaves.fault ∙ may.valid ∙ ap (λ (b : Bool). cond b (Some Disk) None) (sym (faultless answer calm));
-        logged = subst (λ (b : Bool). IsCallStep observable history sync_out read_out read_of b e.engine e.engine.trees.log [] []) (sym (faultless answer calm)) (inl (same_buffer e.engine.trees.log, refl, refl));
+        logged = subst (λ (b : Bool). IsCallStep meaning b e.engine e.engine.trees.log [] []) (sym (faultless answer calm)) (inl (same_buffer e.engine.trees.log, refl, refl));
         near = within_more e (with_begun e last s) [] (near_fewer e s last (omega (arith, owed_new, owed_old, fewer, same)));
       })
 
@@ -167,7 +169,7 @@ module _ {D : Type 0} (observable : Bool) (history : D → History) (sync_out re
       AreSessionsAt s after
   sessions_closed s x after at fault under actives own places waiting locks = record {
     actives = at.actives ∙ sym actives;
-    own = at.own ∙ own_gone a.txn.0 st.own none_yet ∙ sym own;
+    own = subst (AreCounted s.txns.own.entries) (own_gone a.txn.0 st.own none_yet ∙ sym own) at.own;
     places = record { at = record { each = λ n. at.places.at.each n ∙ sym (places n); apart = at.places.at.apart }; under = under at.places.under };
     waiting = at.waiting ∙ sym waiting;
     locks = subst (λ (l : _). Rattle.sessions.specs.AtStanding.AreLocksAt after.fault s.locks.locks l) (sym locks)
@@ -181,13 +183,13 @@ module _ {D : Type 0} (observable : Bool) (history : D → History) (sync_out re
   -- what its answer is, and where its transaction has ended
   pub answered_comes : (s : Sessions) (last line : ℕ) (answer : Answer) → last ≡ next_txn st.last_txn → Rattle.je_answers.specs.Locking.first_blocked a.txn (needs_in there a call g) st.locks.at ≡ None → IsCalm answer →
       outcome_alone (alone_in st) session call ≡ answers answer → AreSessionsAt s (ended a (with_locks a (all_got a.txn (needs_in there a call g) st.locks.at) there)) →
-      HasCome observable history sync_out read_out read_of most e (with_begun e last s) st session line call answer []
+      HasCome meaning most e (with_begun e last s) st session line call answer []
   answered_comes s last line answer last_is free calm plan at =
       let ev : Evaluated = evaluated_on call g in
       let both : outcome_on call (Some g) ≡ answers answer = sym plan_is ∙ plan in
       let answer_is : answer ≡ ev.answer = sym (ap (λ (o : Outcome). o.answer) both) in
       let none : ev.changes ≡ [] = none_on g ev.changes (ap (λ (o : Outcome). o.changes) both) in
-      come_ready observable history sync_out read_out read_of most e (with_begun e last s) st session line call g answer may.db ev may.records may.late may.outside may.target free evaluates
+      come_ready meaning most e (with_begun e last s) st session line call g answer may.db ev may.records may.late may.outside may.target free evaluates
       (by_changes ev ev.changes refl none answer_is)
     where
       back_own : (more : List (ℕ × RecordChange)) → Rattle.je_answers.specs.Standing.with_at a.txn.0 [] (Rattle.je_answers.specs.Standing.with_at a.txn.0 (st.own a.txn.0 ++ more) st.own) ≡ st.own
@@ -196,7 +198,7 @@ module _ {D : Type 0} (observable : Bool) (history : D → History) (sync_out re
       back_actives : (ended a there).actives ≡ st.actives
       back_actives = back session st.actives a refl may.outside
 
-      empty : (ev : Evaluated) → answer ≡ ev.answer → Evaluates observable history sync_out read_out read_of most e (with_begun e last s) st session call g answer (record { answer = ev.answer; answered = ev.answered; changes = []; place = ev.place })
+      empty : (ev : Evaluated) → answer ≡ ev.answer → Evaluates meaning most e (with_begun e last s) st session call g answer (record { answer = ev.answer; answered = ev.answered; changes = []; place = ev.place })
       empty ev is =
           let none : Evaluated = record { answer = ev.answer; answered = ev.answered; changes = []; place = ev.place } in
           let after : Standing = Ended none in
@@ -210,20 +212,20 @@ module _ {D : Type 0} (observable : Bool) (history : D → History) (sync_out re
             limit = None;
             has_limit = refl;
             answers = (is, refl);
-            here = drawn_after most observable history e s last st after (omega (arith, last_is, next)) leaves stands may.at.apart may.at;
+            here = drawn_after most meaning e s last st after (omega (arith, last_is, next)) leaves stands may.at.apart may.at;
             numbered = unnumbered answer after.commits calm;
             fault = may.valid ∙ ap (λ (b : Bool). cond b (Some Disk) None) (sym (faultless answer calm));
-            logged = subst (λ (b : Bool). IsCallStep observable history sync_out read_out read_of b e.engine e.engine.trees.log [] []) (sym (faultless answer calm)) (inl (same_buffer e.engine.trees.log, refl, refl));
+            logged = subst (λ (b : Bool). IsCallStep meaning b e.engine e.engine.trees.log [] []) (sym (faultless answer calm)) (inl (same_buffer e.engine.trees.log, refl, refl));
             near = within_more e (with_begun e last s) [] (near_fewer e s last (omega (arith, owed_new, owed_old, fewer)));
           }
 
-      by_changes : (ev : Evaluated) (cs : List RecordChange) → ev.changes ≡ cs → cs ≡ [] → answer ≡ ev.answer → Evaluates observable history sync_out read_out read_of most e (with_begun e last s) st session call g answer ev
+      by_changes : (ev : Evaluated) (cs : List RecordChange) → ev.changes ≡ cs → cs ≡ [] → answer ≡ ev.answer → Evaluates meaning most e (with_begun e last s) st session call g answer ev
       by_changes ev cs is none told =
-          subst (λ (l : List RecordChange). Evaluates observable history sync_out read_out read_of most e (with_begun e last s) st session call g answer (record { answer = ev.answer; answered = ev.answered; changes = l; place = ev.place })) (sym (is ∙ none)) (empty ev told)
+          subst (λ (l : List RecordChange). Evaluates meaning most e (with_begun e last s) st session call g answer (record { answer = ev.answer; answered = ev.answered; changes = l; place = ev.place })) (sym (is ∙ none)) (empty ev told)
 
   -- ---- there is no memory
 
-  pub not_come : (s : Sessions) → AreSessionsAt s st → HasNotCome observable history sync_out read_out read_of most e (Rattle.environment.specs.Auto.with_sessions s e) st
+  pub not_come : (s : Sessions) → AreSessionsAt s st → HasNotCome meaning most e (Rattle.environment.specs.Auto.with_sessions s e) st
   not_come s at =
       let owed_new = owed_is s st at in
       let owed_old = owed_is e.sessions st may.at.sessions_at in
@@ -246,21 +248,21 @@ module _ {D : Type 0} (observable : Bool) (history : D → History) (sync_out re
       }
 
 -- what it comes to where no limit is asked
-pub outcome_is_auto : {D : Type 0} (observable : Bool) (history : D → History) (most : ℕ) (e : Environment D) (st : Standing) (session : ℕ) (call : Call) (g : Target) → IsAutoAt most observable history e st session call g →
+pub outcome_is_auto : {D : Type 0} (meaning : DiskMeaning D) (most : ℕ) (e : Environment D) (st : Standing) (session : ℕ) (call : Call) (g : Target) → IsAutoAt most meaning e st session call g →
     outcome_alone (alone_in st) session call ≡ record { answer = (outcome_auto st session call g).answer; changes = with_names (changes_auto st session call g) }
-outcome_is_auto {D} observable history most e st session call g may =
-    let none = none_yet observable history (λ (d : D). None) (λ (d : D). None) (λ (d : D). 0) most e st session call g may in
+outcome_is_auto {D} meaning most e st session call g may =
+    let none = none_yet meaning most e st session call g may in
     let same : outcome_auto st session call g ≡ evaluated_on call g = outcome_is st session call g none in
     let seen : with_names (changes_auto st session call g) ≡ changes_of_call g (outcome_auto st session call g).changes =
     ap (λ (own : List (ℕ × RecordChange)). with_names (all_changes g.over (g.db, g.database) g.indexes (λ d. all_pairs_changed d.1.kind (of_db d.0 own) d.1.pairs) (outcome_auto st session call g).changes)) none in
-    plan_is observable history (λ (d : D). None) (λ (d : D). None) (λ (d : D). 0) most e st session call g may
+    plan_is meaning most e st session call g may
     ∙ sym (ap₂ (λ (a : Answer) (l : List Change). let o : Outcome = record { answer = a; changes = l } in o) (ap (λ (v : Evaluated). v.answer) same) (seen ∙ ap (λ (v : Evaluated). changes_of_call g v.changes) same))
 
 -- what is far of no memory is said of the result
-pub near_by : {D : Type 0} (observable : Bool) (history : D → History) (sync_out read_out : D → Option ℕ) (read_of : D → ℕ) (most : ℕ) (old new : Environment D) (st : Standing) (session line : ℕ) (call : Call) (result : Result Told AllocError) →
-    ComesTo observable history sync_out read_out read_of most old new st session line call result → OnErr result (IsWithin (reach_of new) (reach_of old))
-near_by observable history sync_out read_out read_of most old new st session line call (Ok o) comes = tt
-near_by observable history sync_out read_out read_of most old new st session line call (Err error) comes = comes.near
+pub near_by : {D : Type 0} (meaning : DiskMeaning D) (most : ℕ) (old new : Environment D) (st : Standing) (session line : ℕ) (call : Call) (result : Result Told AllocError) →
+    ComesTo meaning most old new st session line call result → OnErr result (IsWithin (reach_of new) (reach_of old))
+near_by meaning most old new st session line call (Ok o) comes = tt
+near_by meaning most old new st session line call (Err error) comes = comes.near
 
 -- a calm answer is no fault of the disk
 pub calm_so : (before after : ℕ) (o : Told) → IsCalm o.answer → after ≡ before → HasCause before after (Ok o)
@@ -270,7 +272,7 @@ calm_so before after o calm same = record {
 }
 
 -- an error says that there was no memory
-pub errs_come : {D : Type 0} (observable : Bool) (history : D → History) (sync_out read_out : D → Option ℕ) (read_of : D → ℕ) (most : ℕ) (old new : Environment D) (st : Standing) (session line : ℕ) (call : Call) (result : Result Told AllocError) →
-    IsErr result → HasNotCome observable history sync_out read_out read_of most old new st → ComesTo observable history sync_out read_out read_of most old new st session line call result
-errs_come observable history sync_out read_out read_of most old new st session line call (Ok o) is h = absurd cc
-errs_come observable history sync_out read_out read_of most old new st session line call (Err error) is h = h
+pub errs_come : {D : Type 0} (meaning : DiskMeaning D) (most : ℕ) (old new : Environment D) (st : Standing) (session line : ℕ) (call : Call) (result : Result Told AllocError) →
+    IsErr result → HasNotCome meaning most old new st → ComesTo meaning most old new st session line call result
+errs_come meaning most old new st session line call (Ok o) is h = absurd cc
+errs_come meaning most old new st session line call (Err error) is h = h

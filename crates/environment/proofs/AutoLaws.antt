@@ -4,8 +4,9 @@ use Rattle.txn_log.proofs.AtStandingLaws.{same_under}
 use Rattle.std.proofs.Common.{◌≡◌, ◌∙◌, ℕ, suc, ◌≤◌, ◌<◌, zero, ◌+◌, ◌==◌, Bool, true, false, cond, not, List, [], ◌∷◌, ◌++◌, Option, None, Some, refl, ap, sym, subst, inl, ⊎_elim, arith}
 use Rattle.std.specs.List.{AllByRecursion}
 use Rattle.std.proofs.lemmas.Bool.{cases_Bool, cond-true, cond-false, eq-eqb, eqb-true}
+use Rattle.je_disk.specs.DiskMeaning.{DiskMeaning}
 use Rattle.je_disk.specs.States.{State}
-use Rattle.je_disk.specs.Moments.{History, now}
+use Rattle.je_disk.specs.Moments.{now}
 use Rattle.je_order.specs.declared.txn_id.TxnId.{TxnId}
 use Rattle.store_model.specs.declared.answer.Answer.{Answer}
 use Rattle.store_model.specs.declared.call.Call.{Call}
@@ -153,9 +154,9 @@ no_wait session as_ (w ∷ ws) none each = (by_test (w.session == session) refl,
 
 module _ {D : Type 0} where
   -- an environment whose last number was drawn, with other sessions, where the transaction is gone again
-  pub drawn_after : (most : ℕ) (observable : Bool) (history : D → History) (e : Environment D) (s : Sessions) (last : ℕ) (st after : Standing) → st.last_txn ≤ last → LeavesSame (record st { last_txn = last }) after →
-      AreSessionsAt s after → HaveOwnWaits after.waiting → StandsAt most observable history e st → StandsAt most observable history (with_begun e last s) after
-  drawn_after most observable history e s last st after more same sessions_now apart at = record {
+  pub drawn_after : (most : ℕ) (meaning : DiskMeaning D) (e : Environment D) (s : Sessions) (last : ℕ) (st after : Standing) → st.last_txn ≤ last → LeavesSame (record st { last_txn = last }) after →
+      AreSessionsAt s after → HaveOwnWaits after.waiting → StandsAt most meaning e st → StandsAt most meaning (with_begun e last s) after
+  drawn_after most meaning e s last st after more same sessions_now apart at = record {
     file_max = at.file_max;
     fault = at.fault ∙ sym same.fault;
     last_txn = sym same.last_txn;
@@ -167,9 +168,9 @@ module _ {D : Type 0} where
     checkpoint = at.checkpoint ∙ sym same.checkpoint;
     databases = λ none. known_leaves (record st { last_txn = last }) after e.engine.kept same (at.databases (sym same.fault ∙ none));
     valid = λ none.
-        let state = now (history (disk_below e.engine.trees.log)) in
-        valid_leaves observable state e.engine.trees.log (cells_of e.engine.trees) (has_tree_of e.engine.trees) (fitting e.engine.trees) e.engine.kept.since e.written.by_txn.entries (record st { last_txn = last }) after same
-        (valid_drawn observable state e.engine.trees.log (cells_of e.engine.trees) (has_tree_of e.engine.trees) (fitting e.engine.trees) e.engine.kept.since e.written.by_txn.entries st last more (at.valid (sym same.fault ∙ none)));
+        let state = now (meaning.history (disk_below e.engine.trees.log)) in
+        valid_leaves meaning.observable state e.engine.trees.log (cells_of e.engine.trees) (has_tree_of e.engine.trees) (fitting e.engine.trees) e.engine.kept.since e.written.by_txn.entries (record st { last_txn = last }) after same
+        (valid_drawn meaning.observable state e.engine.trees.log (cells_of e.engine.trees) (has_tree_of e.engine.trees) (fitting e.engine.trees) e.engine.kept.since e.written.by_txn.entries st last more (at.valid (sym same.fault ∙ none)));
   }
 
   -- sessions that owe no more Commits reach no farther
@@ -182,16 +183,16 @@ module _ {D : Type 0} where
 
   -- ---- what a call on records comes to
 
-  module _ (observable : Bool) (history : D → History) (sync_out read_out : D → Option ℕ) (read_of : D → ℕ) where
+  module _ (meaning : DiskMeaning D) where
     -- in whose transaction it is
     abbrev pub Runs : ℕ → Environment D → Environment D → Standing → ℕ → ℕ → Call → Answer → List Victim → Option Active → Type 0
     Runs most old new st session line call answer victims o =
-        HasStepped observable history sync_out read_out read_of most old new (owing_with o st) (written_run o st session call) (changes_run o st session call)
+        HasStepped meaning most old new (owing_with o st) (written_run o st session call) (changes_run o st session call)
         (λ limit. IsRun o limit st session line call answer victims) (after_run o st session line call answer victims) answer
 
     abbrev Comes : ℕ → Environment D → Environment D → Standing → ℕ → ℕ → Call → Answer → List Victim → Option Answer → Type 0
     Comes most old new st session line call answer victims late =
-        HasStepped observable history sync_out read_out read_of most old new (owing_after st session) (written_evaluated late st session call) (changes_evaluated late st session call)
+        HasStepped meaning most old new (owing_after st session) (written_evaluated late st session call) (changes_evaluated late st session call)
         (λ limit. IsEvaluated late limit st session line call answer victims) (after_evaluated late st session line call answer victims) answer
 
     come_unrefused : (most : ℕ) (old new : Environment D) (st : Standing) (session line : ℕ) (call : Call) (answer : Answer) (victims : List Victim) (db : List ℕ) → IsOnRecords db call →
@@ -203,7 +204,7 @@ module _ {D : Type 0} where
     come_unrefused most old new st session line call answer victims db is runs = absurd is
 
     pub come_run : (most : ℕ) (old new : Environment D) (st : Standing) (session line : ℕ) (call : Call) (answer : Answer) (victims : List Victim) (db : List ℕ) (o : Option Active) → IsOnRecords db call →
-        late_refusal st session call ≡ None → active_of session st.actives ≡ o → Runs most old new st session line call answer victims o → HasCome observable history sync_out read_out read_of most old new st session line call answer victims
+        late_refusal st session call ≡ None → active_of session st.actives ≡ o → Runs most old new st session line call answer victims o → HasCome meaning most old new st session line call answer victims
     come_run most old new st session line call answer victims db o is late active runs =
         subst (Comes most old new st session line call answer victims) (sym late)
         (come_unrefused most old new st session line call answer victims db is (subst (Runs most old new st session line call answer victims) (sym active) runs))
@@ -211,18 +212,18 @@ module _ {D : Type 0} where
     -- outside a transaction, on its database, with the first lock that it does not get
     abbrev On : ℕ → Environment D → Environment D → Standing → ℕ → ℕ → Call → Answer → List Victim → Option Target → Type 0
     On most old new st session line call answer victims t =
-        HasStepped observable history sync_out read_out read_of most old new (owing st + 1) (written_on t (begun st session) (auto_active st session) call) (changes_in t (begun st session) (auto_active st session) call)
+        HasStepped meaning most old new (owing st + 1) (written_on t (begun st session) (auto_active st session) call) (changes_in t (begun st session) (auto_active st session) call)
         (λ limit. IsOn t limit (begun st session) (auto_active st session) line call answer victims) (after_on t st (begun st session) (auto_active st session) line call answer victims) answer
 
     abbrev pub Takes : ℕ → Environment D → Environment D → Standing → ℕ → ℕ → Call → Target → Answer → List Victim → Option Need → Type 0
     Takes most old new st session line call g answer victims n =
-        HasStepped observable history sync_out read_out read_of most old new (owing st + 1) (written_taken n (begun st session) (auto_active st session) call g) (changes_taken n (begun st session) (auto_active st session) call g)
+        HasStepped meaning most old new (owing st + 1) (written_taken n (begun st session) (auto_active st session) call g) (changes_taken n (begun st session) (auto_active st session) call g)
         (λ limit. IsTaken n limit (begun st session) (auto_active st session) line call g answer victims) (after_taking n st (begun st session) (auto_active st session) line call g answer victims) answer
 
     pub come_taken : (most : ℕ) (old new : Environment D) (st : Standing) (session line : ℕ) (call : Call) (g : Target) (answer : Answer) (victims : List Victim) (db : List ℕ) (n : Option Need) → IsOnRecords db call →
         late_refusal st session call ≡ None → active_of session st.actives ≡ None → target_of st session call ≡ Some g →
         first_blocked (auto_active st session).txn (needs_in (begun st session) (auto_active st session) call g) st.locks.at ≡ n → Takes most old new st session line call g answer victims n →
-        HasCome observable history sync_out read_out read_of most old new st session line call answer victims
+        HasCome meaning most old new st session line call answer victims
     come_taken most old new st session line call g answer victims db n is late active target blocked takes =
         come_run most old new st session line call answer victims db None is late active
         (subst (On most old new st session line call answer victims) (sym target) (subst (Takes most old new st session line call g answer victims) (sym blocked) takes))
@@ -230,13 +231,13 @@ module _ {D : Type 0} where
     -- once it has its locks, by what it evaluates to
     abbrev pub Evaluates : ℕ → Environment D → Environment D → Standing → ℕ → Call → Target → Answer → Evaluated → Type 0
     Evaluates most old new st session call g answer ev =
-        HasStepped observable history sync_out read_out read_of most old new (owing st + 1) (with_names (changes_with (begun st session) (auto_active st session) g ev.changes))
+        HasStepped meaning most old new (owing st + 1) (with_names (changes_with (begun st session) (auto_active st session) g ev.changes))
         (with_names (changes_with (begun st session) (auto_active st session) g ev.changes))
         (λ limit. IsDone ev.changes limit (begun st session) (auto_active st session) ev answer × (◌≡◌ {A = List Victim} [] [])) (after_changes ev.changes st (begun st session) (auto_active st session) call g ev answer) answer
 
     pub come_ready : (most : ℕ) (old new : Environment D) (st : Standing) (session line : ℕ) (call : Call) (g : Target) (answer : Answer) (db : List ℕ) (ev : Evaluated) → IsOnRecords db call →
         late_refusal st session call ≡ None → active_of session st.actives ≡ None → target_of st session call ≡ Some g →
         first_blocked (auto_active st session).txn (needs_in (begun st session) (auto_active st session) call g) st.locks.at ≡ None → outcome_of (begun st session) (auto_active st session) call g ≡ ev →
-        Evaluates most old new st session call g answer ev → HasCome observable history sync_out read_out read_of most old new st session line call answer []
+        Evaluates most old new st session call g answer ev → HasCome meaning most old new st session line call answer []
     come_ready most old new st session line call g answer db ev is late active target blocked outcome evaluates =
         come_taken most old new st session line call g answer [] db None is late active target blocked (subst (Evaluates most old new st session call g answer) (sym outcome) evaluates)

@@ -4,7 +4,8 @@ use Rattle.std.proofs.Common.{◌≡◌, ◌≢◌, ◌∙◌, ◌⊎◌, inl, i
 use Rattle.std.specs.List.{AllByRecursion}
 use Rattle.std.specs.declared.alloc.AllocError.{AllocError}
 use Rattle.std.proofs.lemmas.Bool.{ltb-true}
-use Rattle.je_disk.specs.Moments.{History, now}
+use Rattle.je_disk.specs.DiskMeaning.{DiskMeaning}
+use Rattle.je_disk.specs.Moments.{now}
 use Rattle.je_order.specs.declared.name.Name.{Name}
 use Rattle.je_order.specs.declared.txn_id.TxnId.{TxnId}
 use Rattle.je_order.proofs.Lists.{all_weaker}
@@ -40,6 +41,7 @@ use Rattle.record_tree.specs.Occupied.{IsFreeFor, write_in}
 use Rattle.record_tree.specs.declared.tree_change.TreeChange.{TreeChange}
 use Rattle.in_tree.specs.Limits.{HasRoomFor, commit_sizes}
 use Rattle.in_tree.specs.Observed.{cells_of, has_tree_of, limit_in, waits_of}
+use Rattle.active_txns.specs.Own.{AreCounted}
 use Rattle.sessions.specs.declared.all_sessions.Sessions.{Sessions}
 use Rattle.sessions.specs.AtStanding.{AreSessionsAt, owing}
 use Rattle.standing_laws.specs.Laws.{IsOnlyOf}
@@ -132,10 +134,10 @@ module _ {D : Type 0} where
   abbrev pub with_both : Environment D → Engine D → Sessions → Environment D
   with_both e n s = record { engine = n; sessions = s; written = e.written }
 
-module _ {D : Type 0} (observable : Bool) (history : D → History) (sync_out read_out : D → Option ℕ) (read_of : D → ℕ) where
+module _ {D : Type 0} (meaning : DiskMeaning D) where
   -- other sessions stand at a standing that is as far
-  restand : (most : ℕ) (e : Environment D) (s : Sessions) (st after : Standing) → StandsAt most observable history e st → LeavesSame st after → AreSessionsAt s after → HaveOwnWaits after.waiting →
-      StandsAt most observable history (record { engine = e.engine; sessions = s; written = e.written }) after
+  restand : (most : ℕ) (e : Environment D) (s : Sessions) (st after : Standing) → StandsAt most meaning e st → LeavesSame st after → AreSessionsAt s after → HaveOwnWaits after.waiting →
+      StandsAt most meaning (record { engine = e.engine; sessions = s; written = e.written }) after
   restand most e s st after at same sessions apart = record {
     file_max = at.file_max;
     fault = at.fault ∙ sym same.fault;
@@ -147,11 +149,11 @@ module _ {D : Type 0} (observable : Bool) (history : D → History) (sync_out re
     apart = apart;
     checkpoint = at.checkpoint ∙ sym same.checkpoint;
     databases = λ none. known_leaves st after e.engine.kept same (at.databases (sym same.fault ∙ none));
-    valid = λ none. valid_leaves observable (now (history (disk_below e.engine.trees.log))) e.engine.trees.log (cells_of e.engine.trees) (has_tree_of e.engine.trees) (fitting e.engine.trees) e.engine.kept.since e.written.by_txn.entries st after same
+    valid = λ none. valid_leaves meaning.observable (now (meaning.history (disk_below e.engine.trees.log))) e.engine.trees.log (cells_of e.engine.trees) (has_tree_of e.engine.trees) (fitting e.engine.trees) e.engine.kept.since e.written.by_txn.entries st after same
         (at.valid (sym same.fault ∙ none));
   }
 
-  module _ (most : ℕ) (e : Environment D) (st : Standing) (session line : ℕ) (call : Call) (g : Target) (planned : PlannedChanges) (may : IsAutoAt most observable history e st session call g)
+  module _ (most : ℕ) (e : Environment D) (st : Standing) (session line : ℕ) (call : Call) (g : Target) (planned : PlannedChanges) (may : IsAutoAt most meaning e st session call g)
       (its_log : IsLoggedAuto e.engine st session call g planned) (free : first_blocked (auto_active st session).txn (needs_in (begun st session) (auto_active st session) call g) st.locks.at ≡ None) where
     abbrev log : IsPlannedLog (known (contents_of e.engine)) (alone_in st) session call planned
     log = its_log.log
@@ -178,7 +180,7 @@ module _ {D : Type 0} (observable : Bool) (history : D → History) (sync_out re
     cs_ = changes_auto st session call g
 
     changes_eq : with_names cs_ ≡ all_
-    changes_eq = sym (ap (λ (o : Outcome). o.changes) (outcome_is_auto observable history most e st session call g may)) ∙ log.changes
+    changes_eq = sym (ap (λ (o : Outcome). o.changes) (outcome_is_auto meaning most e st session call g may)) ∙ log.changes
 
     pub no_index : is_index log.change ≡ false
     no_index = sym (ap makes_index changes_eq) ∙ named_no_index cs_
@@ -190,10 +192,10 @@ module _ {D : Type 0} (observable : Bool) (history : D → History) (sync_out re
         filled is = absurd cc
 
     none_own_yet : st.own a_.txn.0 ≡ []
-    none_own_yet = none_yet observable history sync_out read_out read_of most e st session call g may
+    none_own_yet = none_yet meaning most e st session call g may
 
     next_ : next_txn st.last_txn ≡ st.last_txn + 1
-    next_ = next observable history sync_out read_out read_of most e st session call g may
+    next_ = next meaning most e st session call g may
 
     none_gone : planned.gone ≡ None
     none_gone = log.gone_is ∙ no_gone rows_ cs_ log.change log.more changes_eq
@@ -225,7 +227,7 @@ module _ {D : Type 0} (observable : Bool) (history : D → History) (sync_out re
     Found = limit_by (limit_in e.engine.trees planned.changes.items (owing st + 1)) e.engine.kept.last_node (length planned.changes.items)
 
     abbrev Logs_ : Engine D → Result Answer AllocError → Type 0
-    Logs_ n result = LogsChanges observable history sync_out read_out read_of e.engine.trees.log n.trees.log (contents_of e.engine) (contents_of n) planned (limit_in e.engine.trees planned.changes.items (owing st + 1)) result
+    Logs_ n result = LogsChanges meaning e.engine.trees.log n.trees.log (contents_of e.engine) (contents_of n) planned (limit_in e.engine.trees planned.changes.items (owing st + 1)) result
 
     abbrev Near_ : Engine D → Result Answer AllocError → Type 0
     Near_ n result = EndsNear e.engine.trees n.trees (length planned.changes.items) result
@@ -236,7 +238,7 @@ module _ {D : Type 0} (observable : Bool) (history : D → History) (sync_out re
     near_at : (n : Engine D) (s : Sessions) (answer : Answer) → Logs_ n (Ok answer) → Near_ n (Ok answer) → owed_by s ≤ owed_by e.sessions → IsWithin (reach_of (with_both e n s)) (reach_after (reach_of e) all_)
     near_at n s answer logs near less =
         let first = near_fewer (with_engine e n) s n.kept.last_txn less in
-        let second = within_below observable history sync_out read_out read_of e n (alone_in st) session call planned (limit_in e.engine.trees planned.changes.items (owing st + 1)) answer may.valid (auto_is call may.db may.records) log logs near
+        let second = within_below meaning e n (alone_in st) session call planned (limit_in e.engine.trees planned.changes.items (owing st + 1)) answer may.valid (auto_is call may.db may.records) log logs near
         (may.at.valid may.valid).works in
         let f1 = first.file in let n1 = first.node in let f2 = second.file in let n2 = second.node in
         record { file = omega (arith, f1, f2); node = omega (arith, n1, n2) }
@@ -245,17 +247,17 @@ module _ {D : Type 0} (observable : Bool) (history : D → History) (sync_out re
     abbrev After_ : Answer → Standing
     After_ answer = after_fate (fate_of answer) st there_ a_ call g ev_
 
-    comes_by : (n : Engine D) (s : Sessions) (answer : Answer) (old after : Standing) → After_ answer ≡ after → Logs_ n (Ok answer) → Near_ n (Ok answer) → StandsAt most observable history (with_engine e n) old → LeavesSame old after →
+    comes_by : (n : Engine D) (s : Sessions) (answer : Answer) (old after : Standing) → After_ answer ≡ after → Logs_ n (Ok answer) → Near_ n (Ok answer) → StandsAt most meaning (with_engine e n) old → LeavesSame old after →
         AreSessionsAt s after → HaveOwnWaits after.waiting → owing after ≤ owing st → IsLogged (log_limit Found) (due there_ a_ ev_) answer → Rattle.engine.specs.Steps.IsNumbered answer after.commits →
-        after.fault ≡ cond (is_disk_fault answer) (Some Disk) None → IsCallStep observable history sync_out read_out read_of (is_disk_fault answer) e.engine n.trees.log (tried all_ (fate_of answer)) (tried all_ (fate_of answer)) →
-        HasCome observable history sync_out read_out read_of most e (with_both e n s) st session line call answer []
+        after.fault ≡ cond (is_disk_fault answer) (Some Disk) None → IsCallStep meaning (is_disk_fault answer) e.engine n.trees.log (tried all_ (fate_of answer)) (tried all_ (fate_of answer)) →
+        HasCome meaning most e (with_both e n s) st session line call answer []
     comes_by n s answer old after is logs near stands leaves sessions apart less answers numbered fault step =
-        come_ready observable history sync_out read_out read_of most e (with_both e n s) st session line call g answer may.db ev_ may.records may.late may.outside may.target free refl
+        come_ready meaning most e (with_both e n s) st session line call g answer may.db ev_ may.records may.late may.outside may.target free refl
         (subst (λ (l : List Change).
-        HasStepped observable history sync_out read_out read_of most e (with_both e n s) (owing st + 1) l l (λ limit. IsDone ev_.changes limit there_ a_ ev_ answer × (◌≡◌ {A = List Victim} [] []))
+        HasStepped meaning most e (with_both e n s) (owing st + 1) l l (λ limit. IsDone ev_.changes limit there_ a_ ev_ answer × (◌≡◌ {A = List Victim} [] []))
         (after_changes ev_.changes st there_ a_ call g ev_ answer) answer) (sym changes_eq)
         (subst (λ (x : Standing).
-        HasStepped observable history sync_out read_out read_of most e (with_both e n s) (owing st + 1) all_ all_ (λ limit. IsDone ev_.changes limit there_ a_ ev_ answer × (◌≡◌ {A = List Victim} [] [])) x answer)
+        HasStepped meaning most e (with_both e n s) (owing st + 1) all_ all_ (λ limit. IsDone ev_.changes limit there_ a_ ev_ answer × (◌≡◌ {A = List Victim} [] [])) x answer)
         (sym is ∙ after_some ev_.changes st there_ a_ call g ev_ answer some_) (record {
           limit = Found;
           has_limit = subst (λ (b : Bool). HasLimit e (owing st + 1) all_ (limit_by (limit_found b e.engine.trees planned.changes.items (owing st + 1)) e.engine.kept.last_node (length planned.changes.items))) no_index
@@ -276,44 +278,44 @@ module _ {D : Type 0} (observable : Bool) (history : D → History) (sync_out re
     back_actives = back session st.actives a_ refl may.outside
 
     -- it is refused
-    refused : (n : Engine D) (s : Sessions) (answer : Answer) → Logs_ n (Ok answer) → Near_ n (Ok answer) → StandsAt most observable history (with_engine e n) (record st { last_txn = next_txn st.last_txn }) → Closed s →
+    refused : (n : Engine D) (s : Sessions) (answer : Answer) → Logs_ n (Ok answer) → Near_ n (Ok answer) → StandsAt most meaning (with_engine e n) (record st { last_txn = next_txn st.last_txn }) → Closed s →
         fate_of answer ≡ Rattle.je_answers.specs.After.IsRefused → is_disk_fault answer ≡ false → ((k : ℕ) → Rattle.engine.specs.Steps.IsNumbered answer k) → IsLogged (log_limit Found) (due there_ a_ ev_) answer →
-        IsCallStep observable history sync_out read_out read_of false e.engine n.trees.log [] [] → HasCome observable history sync_out read_out read_of most e (with_both e n s) st session line call answer []
+        IsCallStep meaning false e.engine n.trees.log [] [] → HasCome meaning most e (with_both e n s) st session line call answer []
     refused n s answer logs near stands closed fate calm numbered answers step =
         let after : Standing = ended a_ (answered a_ call g there_) in
         let drawn : Standing = record st { last_txn = next_txn st.last_txn } in
         let own_is : after.own ≡ st.own = own_gone a_.txn.0 st.own none_own_yet in
         let leaves : LeavesSame drawn after = same_leaves drawn after refl refl refl refl refl refl refl own_is back_actives in
         let less : owing after ≤ owing drawn = leaves.owing in
-        let sessions : AreSessionsAt s after = sessions_closed observable history sync_out read_out read_of most e st session call g may s [] after closed refl (λ u. u) refl own_is (λ n. refl) refl refl in
+        let sessions : AreSessionsAt s after = sessions_closed meaning most e st session call g may s [] after closed refl (λ u. u) refl own_is (λ n. refl) refl refl in
         comes_by n s answer drawn after (ap (λ (f : Rattle.je_answers.specs.After.Fate). after_fate f st there_ a_ call g ev_) fate) logs near stands leaves sessions may.at.apart less answers (numbered _)
         (may.valid ∙ ap (λ (b : Bool). cond b (Some Disk) None) (sym calm))
-        (subst (λ (b : Bool). IsCallStep observable history sync_out read_out read_of b e.engine n.trees.log (tried all_ (fate_of answer)) (tried all_ (fate_of answer))) (sym calm)
-        (subst (λ (f : Rattle.je_answers.specs.After.Fate). IsCallStep observable history sync_out read_out read_of false e.engine n.trees.log (tried all_ f) (tried all_ f)) (sym fate) step))
+        (subst (λ (b : Bool). IsCallStep meaning b e.engine n.trees.log (tried all_ (fate_of answer)) (tried all_ (fate_of answer))) (sym calm)
+        (subst (λ (f : Rattle.je_answers.specs.After.Fate). IsCallStep meaning false e.engine n.trees.log (tried all_ f) (tried all_ f)) (sym fate) step))
 
     -- it is logged
     low_of : planned.last_db ≤ LAST_DATABASE → ArePlanned rows_ st.last_db log.change log.more planned.changes.items None
     low_of low = subst (λ (o : Option ℕ). ArePlanned rows_ st.last_db log.change log.more planned.changes.items o) none_gone
         (subst (λ (x : ℕ). ArePlanned rows_ x log.change log.more planned.changes.items planned.gone) may.at.last_db
-        (are_of observable history sync_out read_out read_of most e st session call planned may.at may.valid log low))
+        (are_of meaning most e st session call planned may.at may.valid log low))
 
     valid_logged : (n : Engine D) → planned.last_db ≤ LAST_DATABASE → HasLogged (contents_of e.engine) (contents_of n) planned → LeavesOthers e.engine.trees n.trees planned (owing st + 1) →
-        (h : HasAppended observable history sync_out read_out read_of e.engine.trees.log n.trees.log (txn_of (e.engine.kept.last_txn + 1)) planned.changes.items) →
-        CarriesTrees observable history sync_out read_out read_of e.engine.trees.log h.entries (contents_of e.engine) (contents_of n) →
-        IsValidWith observable (now (history (disk_below n.trees.log))) n.trees.log (cells_of n.trees) (has_tree_of n.trees) (fitting n.trees) n.kept.since e.written.by_txn.entries (commits all_ (record st { last_txn = next_txn st.last_txn }))
+        (h : HasAppended meaning e.engine.trees.log n.trees.log (txn_of (e.engine.kept.last_txn + 1)) planned.changes.items) →
+        CarriesTrees meaning e.engine.trees.log h.entries (contents_of e.engine) (contents_of n) →
+        IsValidWith meaning.observable (now (meaning.history (disk_below n.trees.log))) n.trees.log (cells_of n.trees) (has_tree_of n.trees) (fitting n.trees) n.kept.since e.written.by_txn.entries (commits all_ (record st { last_txn = next_txn st.last_txn }))
     valid_logged n low has leaves h carries =
         let t : TxnId = txn_of (e.engine.kept.last_txn + 1) in
         let v = may.at.valid may.valid in
         let number : t.0 ≡ st.last_txn + 1 = ap (λ (k : ℕ). k + 1) may.at.last_txn in
         let its : t.0 ≡ a_.txn.0 = ap (λ (x : TxnId). x.0) txn_is in
-        let a : HasAdded observable history sync_out read_out read_of e.engine.trees.log n.trees.log (LogsTransaction t planned.changes.items) =
+        let a : HasAdded meaning e.engine.trees.log n.trees.log (LogsTransaction t planned.changes.items) =
         record { entries = h.entries; logs = h.logs; grew = h.grew; room = record { max = e.engine.trees.log.max; entries_are = h.fits.entries_are; room = h.fits.room } } in
         lone_valid rows_ st t log.change log.more planned.changes.items (low_of low) above_all (subst (λ (k : ℕ). AreOnly k st.own planned.changes.items) (sym its) only) (ap st.own its ∙ none_own_yet) number
-        observable history sync_out read_out read_of e.engine.trees.log n.trees.log (cells_of e.engine.trees) (cells_of n.trees) (has_tree_of e.engine.trees) (has_tree_of n.trees) (fitting e.engine.trees) (fitting n.trees) e.engine.kept.since n.kept.since e.written.by_txn.entries refl next_ v a carries (ap (λ (k : Checkpoints). k.since) has.checkpoints)
+        meaning e.engine.trees.log n.trees.log (cells_of e.engine.trees) (cells_of n.trees) (has_tree_of e.engine.trees) (has_tree_of n.trees) (fitting e.engine.trees) (fitting n.trees) e.engine.kept.since n.kept.since e.written.by_txn.entries refl next_ v a carries (ap (λ (k : Checkpoints). k.since) has.checkpoints)
         (fun_ext has.rows ∙ ap (λ (o : Option ℕ). rows_after planned.changes.items o rows_) none_gone)
         (subst (λ (o : Option ℕ). LeavesWrites planned.changes.items o (cells_of e.engine.trees) (cells_of n.trees)) none_gone leaves.writes)
         (trees_logged (contents_of e.engine) (contents_of n) (alone_in st) session call planned (has_tree_of e.engine.trees) (has_tree_of n.trees)
-        (sound_at most observable (now (history (disk_below e.engine.trees.log))) e.engine.trees.log (contents_of e.engine) (alone_in st) (alone_at most observable history e st may.at) may.valid) log (omega (arith, low)) has v.made leaves.trees)
+        (sound_at most meaning.observable (now (meaning.history (disk_below e.engine.trees.log))) e.engine.trees.log (contents_of e.engine) (alone_in st) (alone_at most meaning e st may.at) may.valid) log (omega (arith, low)) has v.made leaves.trees)
         (λ k owed. subst (λ (m : ℕ). HasRoomFor n.trees.log (commit_sizes m)) owed (leaves.room (owing st) (omega arith)))
 
     abbrev Done_ : Standing
@@ -330,7 +332,7 @@ module _ {D : Type 0} (observable : Bool) (history : D → History) (sync_out re
         known_moved Done_ e.engine.kept n.kept maps (still_known rows_ (committed (cells_of n.trees)) st.last_db later_db st Done_ e.engine.kept (may.at.valid may.valid).makes makes catalog (may.at.databases may.valid))
 
     pub comes_logged : (n : Engine D) (s : Sessions) (commit : ℕ) → Logs_ n (Ok (Logged commit)) → Near_ n (Ok (Logged commit)) → LeavesOthers e.engine.trees n.trees planned (owing st + 1) → AreSameMaps e.engine.kept n.kept → Closed s →
-        HasCome observable history sync_out read_out read_of most e (with_both e n s) st session line call (Logged commit) []
+        HasCome meaning most e (with_both e n s) st session line call (Logged commit) []
     comes_logged n s commit logs near leaves maps closed =
         let number : commit ≡ st.commits + 1 = logs.0 ∙ ap (λ (x : ℕ). x + 1) may.at.commits in
         let with_own_ : Standing = with_outcome a_ call g ev_ (answered a_ call g there_) in
@@ -339,28 +341,28 @@ module _ {D : Type 0} (observable : Bool) (history : D → History) (sync_out re
         let same : LeavesSame Done_ after = same_leaves Done_ after refl refl refl refl refl refl refl own_is back_actives in
         let less : owing after ≤ owing Done_ = same.owing in
         comes_by n s (Logged commit) Done_ after (ap (λ (l : List Change). ended a_ (committed_if_any l with_own_)) changes_eq) logs near
-        (stands_on observable history sync_out read_out read_of most e n st (committed_alone all_ (drawn_alone (alone_in st))) may.at
+        (stands_on meaning most e n st (committed_alone all_ (drawn_alone (alone_in st))) may.at
         (sessions_changed e.sessions all_ st.last_db st (subst (AllByRecursion IsOfRecord) changes_eq (all_with cs_)) may.at.sessions_at)
-        (logged_at observable history sync_out read_out read_of most e.engine.trees.log n.trees.log (contents_of e.engine) (contents_of n) (alone_in st) session call planned (alone_at most observable history e st may.at) may.valid below log logs.2 logs.1
+        (logged_at meaning most e.engine.trees.log n.trees.log (contents_of e.engine) (contents_of n) (alone_in st) session call planned (alone_at most meaning e st may.at) may.valid below log logs.2 logs.1
         logs.4 logs.5)
         (λ valid. known_logged n logs.2 logs.1 maps Done_.last_db (valid_logged n logs.2 logs.1 leaves logs.4 logs.5).makes)
         (λ valid. valid_logged n logs.2 logs.1 leaves logs.4 logs.5))
-        same (sessions_closed observable history sync_out read_out read_of most e st session call g may s [] after closed refl
+        same (sessions_closed meaning most e st session call g may s [] after closed refl
         (under_changed s.cursors all_ st.store st.last_db st.numbers (subst (AllByRecursion IsOfRecord) changes_eq (all_with cs_))) refl own_is (gone_again a_.session (moved call ev_.place (st.places a_.session)) st.places) refl refl) may.at.apart less
         (subst (λ (l : Option Answer). IsLogged (log_limit l) (Logged (st.commits + 1)) (Logged commit)) (sym logs.3) (inl (ap Logged number))) number may.valid
-        (logged_step observable history sync_out read_out read_of most e st session call planned may.at may.valid log logs.2 n logs.4)
+        (logged_step meaning most e st session call planned may.at may.valid log logs.2 n logs.4)
 
     drawn_on : (n : Engine D) → Rattle.engine.specs.Contents.IsSame (Rattle.engine.specs.Contents.drawn_contents (contents_of e.engine)) (contents_of n) → Rattle.log_buffer.specs.Buffer.IsUnchanged e.engine.trees.log n.trees.log →
-        Rattle.engine.specs.Whole.AreSameCells e.engine.trees n.trees → AreSameMaps e.engine.kept n.kept → StandsAt most observable history (with_engine e n) (record st { last_txn = next_txn st.last_txn })
-    drawn_on n same log_same cells maps = drawn_same observable history sync_out read_out read_of most e n st may.at below same log_same cells (λ calm. known_still n maps)
+        Rattle.engine.specs.Whole.AreSameCells e.engine.trees n.trees → AreSameMaps e.engine.kept n.kept → StandsAt most meaning (with_engine e n) (record st { last_txn = next_txn st.last_txn })
+    drawn_on n same log_same cells maps = drawn_same meaning most e n st may.at below same log_same cells (λ calm. known_still n maps)
 
     pub comes_full : (n : Engine D) (s : Sessions) → Logs_ n (Ok LogFull) → Near_ n (Ok LogFull) → Rattle.engine.specs.Whole.AreSameCells e.engine.trees n.trees → AreSameMaps e.engine.kept n.kept → Closed s →
-        HasCome observable history sync_out read_out read_of most e (with_both e n s) st session line call LogFull []
+        HasCome meaning most e (with_both e n s) st session line call LogFull []
     comes_full n s logs near cells maps closed =
         refused n s LogFull logs near (drawn_on n logs.1 logs.2 cells maps) closed refl refl (λ k. tt) (subst (λ (l : Option Answer). IsLogged (log_limit l) (Logged (st.commits + 1)) LogFull) (sym logs.0) refl) (inl (logs.2, refl, refl))
 
     pub comes_ended : (n : Engine D) (s : Sessions) → Logs_ n (Ok IdsEnded) → Near_ n (Ok IdsEnded) → Rattle.engine.specs.Whole.AreSameCells e.engine.trees n.trees → AreSameMaps e.engine.kept n.kept → Closed s → e.engine.kept.last_db ≤ LAST_DATABASE →
-        HasCome observable history sync_out read_out read_of most e (with_both e n s) st session line call IdsEnded []
+        HasCome meaning most e (with_both e n s) st session line call IdsEnded []
     comes_ended n s logs near cells maps closed few = refused n s IdsEnded logs near (drawn_on n logs.1 logs.2 cells maps) closed refl refl (λ k. tt) (by_limit logs.0) (inl (logs.2, refl, refl))
       where
         by_limit : (Found ≡ Some IdsEnded) ⊎ ((Found ≡ None) × (LAST_DATABASE < planned.last_db)) → IsLogged (log_limit Found) (Logged (st.commits + 1)) IdsEnded
@@ -373,26 +375,26 @@ module _ {D : Type 0} (observable : Bool) (history : D → History) (sync_out re
             absurd (omega (arith, made, none, last, over, few))
 
     pub comes_failed : (n : Engine D) (s : Sessions) → Logs_ n (Ok DiskFault) → Near_ n (Ok DiskFault) → AreSessionsAt s (faulted st) →
-        HasCome observable history sync_out read_out read_of most e (with_both e n s) st session line call DiskFault []
+        HasCome meaning most e (with_both e n s) st session line call DiskFault []
     comes_failed n s logs near back_at =
         let after : Standing = faulted st in
         let same : LeavesSame after after = same_leaves after after refl refl refl refl refl refl refl refl refl in
         comes_by n s DiskFault after after refl logs near
-        (stands_on observable history sync_out read_out read_of most e n st (faulted_alone (alone_in st)) may.at (sessions_faulted e.sessions st st.begun may.at.sessions_at)
-        (faulted_at most observable (now (history (disk_below e.engine.trees.log))) (now (history (disk_below n.trees.log))) e.engine.trees.log n.trees.log (contents_of e.engine) (contents_of n) (alone_in st) st.begun
-        (alone_at most observable history e st may.at) logs.0 logs.3.tried.max)
+        (stands_on meaning most e n st (faulted_alone (alone_in st)) may.at (sessions_faulted e.sessions st st.begun may.at.sessions_at)
+        (faulted_at most meaning.observable (now (meaning.history (disk_below e.engine.trees.log))) (now (meaning.history (disk_below n.trees.log))) e.engine.trees.log n.trees.log (contents_of e.engine) (contents_of n) (alone_in st) st.begun
+        (alone_at most meaning e st may.at) logs.0 logs.3.tried.max)
         (λ valid. absurd cc)
         (λ valid. absurd cc))
         same back_at may.at.apart (omega arith)
         (subst (λ (l : Option Answer). IsLogged (log_limit l) (Logged (st.commits + 1)) DiskFault) (sym logs.2) (inr refl)) tt refl
-        (tried_step observable history sync_out read_out read_of most e st session call planned may.at may.valid log logs.1 n logs.3)
+        (tried_step meaning most e st session call planned may.at may.valid log logs.1 n logs.3)
 
     pub comes_not : (n : Engine D) (s : Sessions) (error : AllocError) → Logs_ n (Err error) → Near_ n (Err error) → Rattle.engine.specs.Whole.AreSameCells e.engine.trees n.trees → AreSameMaps e.engine.kept n.kept → AreSessionsAt s st →
-        HasNotCome observable history sync_out read_out read_of most e (with_both e n s) st
+        HasNotCome meaning most e (with_both e n s) st
     comes_not n s error logs near cells maps back_at =
         let same : LeavesSame st st = same_leaves st st refl refl refl refl refl refl refl refl refl in
         record {
-          here = restand most (with_engine e n) s st st (undrawn_same observable history sync_out read_out read_of most e n st may.at logs.0 logs.1 cells (λ calm. known_still n maps)) same back_at may.at.apart;
+          here = restand most (with_engine e n) s st st (undrawn_same meaning most e n st may.at logs.0 logs.1 cells (λ calm. known_still n maps)) same back_at may.at.apart;
           log = logs.1;
           near =
               let less : owed_by s ≤ owed_by e.sessions = fewer_owed s st back_at (omega arith) in
@@ -406,11 +408,11 @@ module _ {D : Type 0} (observable : Bool) (history : D → History) (sync_out re
 
     -- after a fault locks do not matter
     closed_faulted : (s : Sessions) → Closed s → AreSessionsAt s (faulted st)
-    closed_faulted s at = record { actives = at.actives ∙ back_actives; own = at.own ∙ own_gone a_.txn.0 st.own none_own_yet; places = placed_again s.cursors st session may.sound may.outside at.places; waiting = at.waiting; locks = tt }
+    closed_faulted s at = record { actives = at.actives ∙ back_actives; own = subst (AreCounted s.txns.own.entries) (own_gone a_.txn.0 st.own none_own_yet) at.own; places = placed_again s.cursors st session may.sound may.outside at.places; waiting = at.waiting; locks = tt }
 
     -- an answer, behind which its transaction has ended
     pub comes_closed : (n : Engine D) (s : Sessions) (answer : Answer) → Logs_ n (Ok answer) → Near_ n (Ok answer) → LeavesCells e.engine.trees n.trees planned (owing st + 1) (Ok answer) → AreSameMaps e.engine.kept n.kept → Closed s →
-        e.engine.kept.last_db ≤ LAST_DATABASE → HasCome observable history sync_out read_out read_of most e (with_both e n s) st session line call answer []
+        e.engine.kept.last_db ≤ LAST_DATABASE → HasCome meaning most e (with_both e n s) st session line call answer []
     comes_closed n s (Logged commit) logs near leaves maps closed few = comes_logged n s commit logs near leaves maps closed
     comes_closed n s LogFull logs near leaves maps closed few = comes_full n s logs near leaves maps closed
     comes_closed n s IdsEnded logs near leaves maps closed few = comes_ended n s logs near leaves maps closed few
@@ -419,7 +421,7 @@ module _ {D : Type 0} (observable : Bool) (history : D → History) (sync_out re
 
   -- what is told
   pub told_come : (most : ℕ) (e new : Environment D) (st : Standing) (session line : ℕ) (call : Call) (answer : Answer) (told : Answer) (victims : List Victim) → told ≡ answer → victims ≡ [] →
-      HasCome observable history sync_out read_out read_of most e new st session line call answer [] → HasCome observable history sync_out read_out read_of most e new st session line call told victims
+      HasCome meaning most e new st session line call answer [] → HasCome meaning most e new st session line call told victims
   told_come most e new st session line call answer told victims is none comes =
-      subst (λ (v : List Victim). HasCome observable history sync_out read_out read_of most e new st session line call told v) (sym none)
-      (subst (λ (x : Answer). HasCome observable history sync_out read_out read_of most e new st session line call x []) (sym is) comes)
+      subst (λ (v : List Victim). HasCome meaning most e new st session line call told v) (sym none)
+      (subst (λ (x : Answer). HasCome meaning most e new st session line call x []) (sym is) comes)

@@ -15,7 +15,8 @@ use Rattle.std.proofs.lemmas.Bool.{eqb-true, eq-eqb, and_parts}
 use Rattle.std.proofs.lemmas.List.{reverse-append}
 use Rattle.std.proofs.lemmas.List.Folds.{find-append}
 use Rattle.std.proofs.lemmas.Option.{none-some}
-use Rattle.je_disk.specs.Moments.{History, now}
+use Rattle.je_disk.specs.DiskMeaning.{DiskMeaning}
+use Rattle.je_disk.specs.Moments.{now}
 use Rattle.je_order.specs.Order.{name_cmp}
 use Rattle.je_order.specs.declared.name.Name.{Name}
 use Rattle.je_order.specs.declared.txn_id.TxnId.{TxnId}
@@ -184,20 +185,20 @@ module _ (rows : Rows) (st : Standing) (t : TxnId) (change : Change) (more : Lis
         (all_weaker (λ (c : TreeChange). IsOnlyOf c.db c.name t.0 st.own) (λ c. HasNoneOf c.db c.name (st.own u)) (λ c free. free u other) planned only)) u));
   }
 
-  module _ {D : Type 0} (observable : Bool) (history : D → History) (sync_out read_out : D → Option ℕ) (read_of : D → ℕ) where
+  module _ {D : Type 0} (meaning : DiskMeaning D) where
     pub lone_valid : (old new : LogBuffer D) (cells later : AllCells) (has_tree later_tree : ℕ → Bool) (forest later_forest : Forest) (since later_since : ℕ) (written : List (TxnId × OwnNames)) → rows ≡ committed cells → next_txn st.last_txn ≡ st.last_txn + 1 →
-        IsValidWith observable (now (history (disk_of old))) old cells has_tree forest since written st → (a : HasAdded observable history sync_out read_out read_of old new (LogsTransaction t planned)) →
-        ((log : Log) (base : ℕ) → HasLog observable (now (history (disk_of old))) old log → base ≤ pos_lsn (end_of old) → forest (placed log) base → later_forest (placed (longer old a.entries log)) base) → later_since ≡ since →
+        IsValidWith meaning.observable (now (meaning.history (disk_of old))) old cells has_tree forest since written st → (a : HasAdded meaning old new (LogsTransaction t planned)) →
+        ((log : Log) (base : ℕ) → HasLog meaning.observable (now (meaning.history (disk_of old))) old log → base ≤ pos_lsn (end_of old) → forest (placed log) base → later_forest (placed (longer old a.entries log)) base) → later_since ≡ since →
         committed later ≡ Later → LeavesWrites planned None cells later → ((db : ℕ) → later_tree db ≡ has_number (numbers_of (committed later)) db) → ((n : ℕ) → owing st ≡ suc n → HasRoomFor new (commit_sizes (suc n))) →
-        IsValidWith observable (now (history (disk_of new))) new later later_tree later_forest later_since written (commits (change ∷ more) (record st { last_txn = next_txn st.last_txn }))
+        IsValidWith meaning.observable (now (meaning.history (disk_of new))) new later later_tree later_forest later_since written (commits (change ∷ more) (record st { last_txn = next_txn st.last_txn }))
     unfolding transaction_leaves_log transaction_is_given transaction_gives transaction_on still_gives
     lone_valid old new cells later has_tree later_tree forest later_forest since later_since written rows_are step v a carries since_is later_are writes made room =
         let after : Standing = commits (change ∷ more) (record st { last_txn = next_txn st.last_txn }) in
-        let at : IsLogAt observable history old v.log rows (active_number st.actives) st = subst (λ (r : Rows). IsLogAt observable history old v.log r (active_number st.actives) st) (sym rows_are)
+        let at : IsLogAt meaning old v.log rows (active_number st.actives) st = subst (λ (r : Rows). IsLogAt meaning old v.log r (active_number st.actives) st) (sym rows_are)
         (record { given = record { has = v.has; gives = v.gives }; makes = v.makes; may = v.may }) in
         let catalog : Later 0 ≡ rows 0 = stays planned rows above in
-        let on : IsLogAt observable history new (longer old a.entries v.log) Later (active_number st.actives) after =
-        transaction_leaves_log observable history sync_out read_out read_of old new v.log rows Later (active_number st.actives) (active_number st.actives) st after (λ d. is_gone d None) t [] planned (change ∷ more) at may_commit
+        let on : IsLogAt meaning new (longer old a.entries v.log) Later (active_number st.actives) after =
+        transaction_leaves_log meaning old new v.log rows Later (active_number st.actives) (active_number st.actives) st after (λ d. is_gone d None) t [] planned (change ∷ more) at may_commit
         leaves.store
         (λ name. ap (λ (f : List ℕ → ℕ). f name) (leaves.numbers ∙ numbers_alike (change ∷ more) st.last_db (number_named rows) st.numbers (fun_ext at.makes.named)))
         (λ u. all_weaker (MayBeCommitted rows) (MayBeCommitted Later) (λ c m. may_stay rows Later c catalog m) (st.own u) (at.may u))
@@ -205,10 +206,10 @@ module _ (rows : Rows) (st : Standing) (t : TxnId) (change : Change) (more : Lis
         (λ u is. inl (is, ap (λ (f : ℕ → List OwnChange). f u) (sym (own_gone t.0 st.own none)))) in
         let lives = subst (Lives later_forest (longer old a.entries v.log) later_since (pos_lsn (end_of new)) written)
         (sym (same_under (λ (r : Rows). GivesRecordsWith (longer old a.entries v.log) (end_of new) r after.last_txn after.last_db (active_number st.actives) st.own) (λ r g. g.base) (sym later_are) on.given.gives
-        ∙ same_under (λ (r : Rows). IsLogAt observable history old v.log r (active_number st.actives) st) (λ r (l : IsLogAt observable history old v.log r (active_number st.actives) st). l.given.gives.base) (sym rows_are)
+        ∙ same_under (λ (r : Rows). IsLogAt meaning old v.log r (active_number st.actives) st) (λ r (l : IsLogAt meaning old v.log r (active_number st.actives) st). l.given.gives.base) (sym rows_are)
         (record { given = record { has = v.has; gives = v.gives }; makes = v.makes; may = v.may })))
         (subst (λ (n : ℕ). Lives later_forest (longer old a.entries v.log) n (pos_lsn (end_of new)) written v.gives.base) (sym since_is)
-        (lives_on observable history sync_out read_out read_of old new v.log a.entries later_forest since v.gives.base written v.has a.grew (transaction_no_ends t planned a.entries a.logs)
+        (lives_on meaning old new v.log a.entries later_forest since v.gives.base written v.has a.grew (transaction_no_ends t planned a.entries a.logs)
         (carries v.log v.gives.base v.has (begun_with v.log (end_of old) (committed cells) st.last_txn st.last_db (active_number st.actives) st.own v.gives) v.fits) v.from
         (λ u named. transaction_no_commit u t planned a.entries (λ same. is_begun v.log (end_of old) (committed cells) st.last_txn st.last_db (active_number st.actives) st.own v.gives written (pos_lsn (end_of old)) u v.firsts named (omega (arith, next, same))) a.logs) v.firsts)) in
         record {
@@ -221,7 +222,7 @@ module _ (rows : Rows) (st : Standing) (t : TxnId) (change : Change) (more : Lis
             opening = v.recovers.opening;
             base = v.recovers.base;
             transactions = v.recovers.transactions ++ (change ∷ more) ∷ [];
-            recovers = commit_is_recovered observable history sync_out read_out read_of old new v.log rows Later st.last_txn st.last_db (st.last_db + made_by (change ∷ more)) (active_number st.actives) st.own (λ d. is_gone d None)
+            recovers = commit_is_recovered meaning old new v.log rows Later st.last_txn st.last_db (st.last_db + made_by (change ∷ more)) (active_number st.actives) st.own (λ d. is_gone d None)
                 t [] planned (change ∷ more) v.recovers.first v.recovers.opening v.recovers.base v.recovers.transactions at.given may_commit leaves.store a v.recovers.recovers;
             made = store_more v.recovers.opening v.recovers.transactions (change ∷ more) ∙ ap (all_changed (change ∷ more)) v.recovers.made;
           };

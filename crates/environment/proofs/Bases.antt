@@ -4,8 +4,9 @@ use Rattle.std.specs.Prelude.{◌≢◌}
 use Rattle.std.specs.List.{AllByRecursion}
 use Rattle.std.proofs.lemmas.Bool.{cond-true, le-leb}
 use Rattle.std.proofs.lemmas.List.Elements.{filter-append}
+use Rattle.je_disk.specs.DiskMeaning.{DiskMeaning}
 use Rattle.je_disk.specs.States.{State}
-use Rattle.je_disk.specs.Moments.{History, now}
+use Rattle.je_disk.specs.Moments.{now}
 use Rattle.je_order.specs.declared.txn_id.TxnId.{TxnId}
 use Rattle.je_order.proofs.Lists.{all_weaker}
 use Rattle.store_model.specs.declared.record_change.RecordChange.{RecordChange}
@@ -86,9 +87,9 @@ waiting_more : (base : ℕ) (es more : List Placed) → (redone base (es ++ more
 waiting_more base es more =
     ap (λ (l : List Placed). waiting l (λ t. [])) (filter-append (λ (p : Placed). nat_le base p.0) es more) ∙ waiting-append (entries_from base es) (entries_from base more) (λ t. [])
 
-module _ {D : Type 0} (observable : Bool) (history : D → History) where
+module _ {D : Type 0} (meaning : DiskMeaning D) where
   -- entries that are logged stand at the log's end or behind it
-  pub behind_end : (old : LogBuffer D) (log : Log) (entries : List Entry) → HasLog observable (now (history (disk_of old))) old log → IsLog (longer old entries log) →
+  pub behind_end : (old : LogBuffer D) (log : Log) (entries : List Entry) → HasLog meaning.observable (now (meaning.history (disk_of old))) old log → IsLog (longer old entries log) →
       AllByRecursion (λ p. pos_lsn (end_of old) ≤ p.0) (placed_by (file_max_of old) (end_of old) entries)
   behind_end old log entries has long =
       let some : 0 < pos_lsn (end_of old) - 1 = (logs_lie_below log (end_of old) (last_of old) has.is_log has.ends).some in
@@ -96,19 +97,19 @@ module _ {D : Type 0} (observable : Bool) (history : D → History) where
       all_weaker (λ (p : Placed). pos_lsn (end_of old) - 1 < p.0) (λ p. pos_lsn (end_of old) ≤ p.0) (λ p h. omega (arith, h, some)) (placed_by (file_max_of old) (end_of old) entries) rise.rise.0
 
   -- the first LSN of a transaction stays that one
-  pub firsts_grow : (old : LogBuffer D) (log : Log) (entries : List Entry) (base end : ℕ) (written : List (TxnId × OwnNames)) → HasLog observable (now (history (disk_of old))) old log →
+  pub firsts_grow : (old : LogBuffer D) (log : Log) (entries : List Entry) (base end : ℕ) (written : List (TxnId × OwnNames)) → HasLog meaning.observable (now (meaning.history (disk_of old))) old log →
       IsLog (longer old entries log) → pos_lsn (end_of old) ≤ end → ((t : ℕ) → names_at (txn_id t) written ≢ [] → AllByRecursion (IsNoCommitOf t) entries) → AreFirstsOf written (waiting_in log base) (pos_lsn (end_of old)) → AreFirstsOf written (waiting_in (longer old entries log) base) end
   firsts_grow old log entries base end written has long later none firsts = record {
     is = λ t named.
         let first : ℕ = first_at (txn_id t) written in
         subst (λ (pending : ℕ → List LoggedChange). IsFirstIn (pending t) first)
-        (sym (ap (λ (es : List Placed). (redone base es).pending) (longer_placed observable history old log entries has) ∙ waiting_more base (placed log) more))
+        (sym (ap (λ (es : List Placed). (redone base es).pending) (longer_placed meaning old log entries has) ∙ waiting_more base (placed log) more))
         (waits_first t first (entries_from base more) (waiting_in log base) (all_kept (IsNoCommitOf t) base more (all_placed (IsNoCommitOf t) (file_max_of old) (end_of old) entries (none t named))) (firsts.is t named));
     before = λ t.
         let first : ℕ = first_at (txn_id t) written in
         let low : first ≤ pos_lsn (end_of old) = firsts.reached t in
         subst (λ (pending : ℕ → List LoggedChange). AllByRecursion (λ c. first ≤ c.written.at) (pending t))
-        (sym (ap (λ (es : List Placed). (redone base es).pending) (longer_placed observable history old log entries has) ∙ waiting_more base (placed log) more))
+        (sym (ap (λ (es : List Placed). (redone base es).pending) (longer_placed meaning old log entries has) ∙ waiting_more base (placed log) more))
         (waits_from first t (entries_from base more) (waiting_in log base)
         (some_from first base more (all_weaker (λ (p : Placed). pos_lsn (end_of old) ≤ p.0) (λ p. first ≤ p.0) (λ p h. omega (arith, h, low)) more (behind_end old log entries has long)))
         (firsts.before t));
@@ -117,60 +118,59 @@ module _ {D : Type 0} (observable : Bool) (history : D → History) where
     more : List Placed
     more = placed_by (file_max_of old) (end_of old) entries
 
-  module _ (sync_out read_out : D → Option ℕ) (read_of : D → ℕ) where
-    -- the log ends no lower
-    pub ends_later : (old new : LogBuffer D) (log : Log) (entries : List Entry) → HasLog observable (now (history (disk_of old))) old log →
-        Grew observable history sync_out read_out read_of old new entries → pos_lsn (end_of old) ≤ pos_lsn (end_of new)
-    ends_later old new log entries has grew =
-        let some : 0 < pos_lsn (end_of old) - 1 = (logs_lie_below log (end_of old) (last_of old) has.is_log has.ends).some in
-        let rise = appended_rise log (end_of old) (last_of old) (file_max_of old) entries (pos_lsn (end_of old) - 1) has.is_log has.ends (grew.log log has).is_log (omega (arith, some)) in
-        let up = last_rises (pos_lsn (end_of old) - 1) (placed_by (file_max_of old) (end_of old) entries) rise.rise in
-        subst (λ (e : LogPos). pos_lsn (end_of old) ≤ pos_lsn e) (sym grew.end) (let under = rise.below in omega (arith, some, up, under))
+  -- the log ends no lower
+  pub ends_later : (old new : LogBuffer D) (log : Log) (entries : List Entry) → HasLog meaning.observable (now (meaning.history (disk_of old))) old log →
+      Grew meaning old new entries → pos_lsn (end_of old) ≤ pos_lsn (end_of new)
+  ends_later old new log entries has grew =
+      let some : 0 < pos_lsn (end_of old) - 1 = (logs_lie_below log (end_of old) (last_of old) has.is_log has.ends).some in
+      let rise = appended_rise log (end_of old) (last_of old) (file_max_of old) entries (pos_lsn (end_of old) - 1) has.is_log has.ends (grew.log log has).is_log (omega (arith, some)) in
+      let up = last_rises (pos_lsn (end_of old) - 1) (placed_by (file_max_of old) (end_of old) entries) rise.rise in
+      subst (λ (e : LogPos). pos_lsn (end_of old) ≤ pos_lsn e) (sym grew.end) (let under = rise.below in omega (arith, some, up, under))
 
-    -- a log lives on that gets entries without the end of a checkpoint
-    pub lives_on : (old new : LogBuffer D) (log : Log) (entries : List Entry) (later : Forest) (since base : ℕ) (written : List (TxnId × OwnNames)) →
-        HasLog observable (now (history (disk_of old))) old log → Grew observable history sync_out read_out read_of old new entries → AreNoEnds entries →
-        later (placed (longer old entries log)) base → EndsFrom log base since → ((t : ℕ) → names_at (txn_id t) written ≢ [] → AllByRecursion (IsNoCommitOf t) entries) → AreFirstsOf written (waiting_in log base) (pos_lsn (end_of old)) →
-        Lives later (longer old entries log) since (pos_lsn (end_of new)) written base
-    lives_on old new log entries later since base written has grew none fits from no_commit firsts = record {
-      fits = fits;
-      from = ends_from_stays observable history old log entries base since has none from;
-      firsts = firsts_grow old log entries base (pos_lsn (end_of new)) written has (grew.log log has).is_log (ends_later old new log entries has grew) no_commit firsts;
-    }
+  -- a log lives on that gets entries without the end of a checkpoint
+  pub lives_on : (old new : LogBuffer D) (log : Log) (entries : List Entry) (later : Forest) (since base : ℕ) (written : List (TxnId × OwnNames)) →
+      HasLog meaning.observable (now (meaning.history (disk_of old))) old log → Grew meaning old new entries → AreNoEnds entries →
+      later (placed (longer old entries log)) base → EndsFrom log base since → ((t : ℕ) → names_at (txn_id t) written ≢ [] → AllByRecursion (IsNoCommitOf t) entries) → AreFirstsOf written (waiting_in log base) (pos_lsn (end_of old)) →
+      Lives later (longer old entries log) since (pos_lsn (end_of new)) written base
+  lives_on old new log entries later since base written has grew none fits from no_commit firsts = record {
+    fits = fits;
+    from = ends_from_stays meaning old log entries base since has none from;
+    firsts = firsts_grow old log entries base (pos_lsn (end_of new)) written has (grew.log log has).is_log (ends_later old new log entries has grew) no_commit firsts;
+  }
 
-    -- the first change that a transaction logs, of which nothing waited before
-    pub first_stands : (old new : LogBuffer D) (log : Log) (base first : ℕ) (txn : TxnId) (changes : List TreeChange) (entries : List Entry) → HasLog observable (now (history (disk_of old))) old log →
-        Grew observable history sync_out read_out read_of old new entries → base ≤ pos_lsn (end_of old) → changes ≢ [] → LogsChanges txn changes entries → waiting_in log base txn.0 ≡ [] → first ≡ unwrap_or (first_in old entries) 0 →
-        IsFirst (waiting_in (longer old entries log) base txn.0) first (pos_lsn (end_of new))
-    first_stands old new log base first txn changes entries has grew begun some logs none first_is = by_changes changes some logs
-      where
-        more : List Placed
-        more = placed_by (file_max_of old) (end_of old) entries
+  -- the first change that a transaction logs, of which nothing waited before
+  pub first_stands : (old new : LogBuffer D) (log : Log) (base first : ℕ) (txn : TxnId) (changes : List TreeChange) (entries : List Entry) → HasLog meaning.observable (now (meaning.history (disk_of old))) old log →
+      Grew meaning old new entries → base ≤ pos_lsn (end_of old) → changes ≢ [] → LogsChanges txn changes entries → waiting_in log base txn.0 ≡ [] → first ≡ unwrap_or (first_in old entries) 0 →
+      IsFirst (waiting_in (longer old entries log) base txn.0) first (pos_lsn (end_of new))
+  first_stands old new log base first txn changes entries has grew begun some logs none first_is = by_changes changes some logs
+    where
+      more : List Placed
+      more = placed_by (file_max_of old) (end_of old) entries
 
-        next_is : 0 < pos_lsn (end_of old) - 1
-        next_is = (logs_lie_below log (end_of old) (last_of old) has.is_log has.ends).some
+      next_is : 0 < pos_lsn (end_of old) - 1
+      next_is = (logs_lie_below log (end_of old) (last_of old) has.is_log has.ends).some
 
-        up : AreAppendedBehind (file_max_of old) (end_of old) entries (pos_lsn (end_of old) - 1)
-        up = appended_rise log (end_of old) (last_of old) (file_max_of old) entries (pos_lsn (end_of old) - 1) has.is_log has.ends (grew.log log has).is_log (let low = next_is in omega (arith, low))
+      up : AreAppendedBehind (file_max_of old) (end_of old) entries (pos_lsn (end_of old) - 1)
+      up = appended_rise log (end_of old) (last_of old) (file_max_of old) entries (pos_lsn (end_of old) - 1) has.is_log has.ends (grew.log log has).is_log (let low = next_is in omega (arith, low))
 
-        below : last_lsn (pos_lsn (end_of old) - 1) more ≤ pos_lsn (end_of new)
-        below = subst (λ (e : LogPos). last_lsn (pos_lsn (end_of old) - 1) more ≤ pos_lsn e) (sym grew.end) (let under = up.below in omega (arith, under))
+      below : last_lsn (pos_lsn (end_of old) - 1) more ≤ pos_lsn (end_of new)
+      below = subst (λ (e : LogPos). last_lsn (pos_lsn (end_of old) - 1) more ≤ pos_lsn e) (sym grew.end) (let under = up.below in omega (arith, under))
 
-        waits_are : waiting_in (longer old entries log) base ≡ waiting more (waiting_in log base)
-        waits_are =
-            ap (λ (es : List Placed). (redone base es).pending) (longer_placed observable history old log entries has) ∙ waiting_more base (placed log) more
-            ∙ ap (λ (l : List Placed). waiting l (waiting_in log base))
-            (from_all base more (all_weaker (λ (p : Placed). pos_lsn (end_of old) ≤ p.0) (λ p. base ≤ p.0) (λ p h. omega (arith, h, begun)) more (behind_end old log entries has (grew.log log has).is_log)))
+      waits_are : waiting_in (longer old entries log) base ≡ waiting more (waiting_in log base)
+      waits_are =
+          ap (λ (es : List Placed). (redone base es).pending) (longer_placed meaning old log entries has) ∙ waiting_more base (placed log) more
+          ∙ ap (λ (l : List Placed). waiting l (waiting_in log base))
+          (from_all base more (all_weaker (λ (p : Placed). pos_lsn (end_of old) ≤ p.0) (λ p. base ≤ p.0) (λ p h. omega (arith, h, begun)) more (behind_end old log entries has (grew.log log has).is_log)))
 
-        by_changes : (cs : List TreeChange) → cs ≢ [] → LogsChanges txn cs entries → IsFirst (waiting_in (longer old entries log) base txn.0) first (pos_lsn (end_of new))
-        by_changes [] named logged = absurd (named refl)
-        by_changes (c ∷ cs) named logged =
-            let at_is =
-            ap (λ (l : List Entry). first_change (placed_by (file_max_of old) (end_of old) l)) logged.3
-            ∙ change_first (file_max_of old) (end_of old) logged.0 logged.1 (entry_for txn c.db c.name c.value) logged.2 (is_change txn c.db c.name c.value) in
-            subst (λ (f : ℕ → List LoggedChange). IsFirst (f txn.0) first (pos_lsn (end_of new))) (sym waits_are)
-            (first_waits (pos_lsn (end_of old) - 1) first (pos_lsn (end_of new)) txn c cs logged.0 logged.1 more (waiting_in log base) none up.rise below logged.2 logged.4 (up.entries_are ∙ logged.3)
-            (at_is ∙ sym (ap (λ (n : ℕ). Some n) (first_is ∙ ap (λ (o : Option ℕ). unwrap_or o 0) at_is))))
+      by_changes : (cs : List TreeChange) → cs ≢ [] → LogsChanges txn cs entries → IsFirst (waiting_in (longer old entries log) base txn.0) first (pos_lsn (end_of new))
+      by_changes [] named logged = absurd (named refl)
+      by_changes (c ∷ cs) named logged =
+          let at_is =
+          ap (λ (l : List Entry). first_change (placed_by (file_max_of old) (end_of old) l)) logged.3
+          ∙ change_first (file_max_of old) (end_of old) logged.0 logged.1 (entry_for txn c.db c.name c.value) logged.2 (is_change txn c.db c.name c.value) in
+          subst (λ (f : ℕ → List LoggedChange). IsFirst (f txn.0) first (pos_lsn (end_of new))) (sym waits_are)
+          (first_waits (pos_lsn (end_of old) - 1) first (pos_lsn (end_of new)) txn c cs logged.0 logged.1 more (waiting_in log base) none up.rise below logged.2 logged.4 (up.entries_are ∙ logged.3)
+          (at_is ∙ sym (ap (λ (n : ℕ). Some n) (first_is ∙ ap (λ (o : Option ℕ). unwrap_or o 0) at_is))))
 
 -- ---- other trees
 

@@ -5,7 +5,8 @@ use Rattle.std.proofs.lemmas.Bool.{eqb-true, ltb-true}
 use Rattle.std.proofs.lemmas.Bool.Decides.{eqb_tells}
 use Rattle.std.proofs.lemmas.List.{length-append}
 use Rattle.std.proofs.lemmas.List.Folds.{list_any-append}
-use Rattle.je_disk.specs.Moments.{History, now}
+use Rattle.je_disk.specs.DiskMeaning.{DiskMeaning}
+use Rattle.je_disk.specs.Moments.{now}
 use Rattle.je_disk.specs.States.{State}
 use Rattle.je_order.specs.declared.txn_id.TxnId.{TxnId}
 use Rattle.je_order.specs.Transactions.{is_same_txn}
@@ -139,9 +140,9 @@ module _ {D : Type 0} where
   abbrev pub with_begun : Environment D → ℕ → Sessions → Environment D
   with_begun e last s = record { engine = record { trees = e.engine.trees; kept = record e.engine.kept { last_txn = last } }; sessions = s; written = e.written }
 
-  pub begun_at : (most : ℕ) (observable : Bool) (history : D → History) (e : Environment D) (s : Sessions) (last : ℕ) (st : Standing) (a : Active) → AreSound st → nat_lt st.last_txn LAST_TXN ≡ true →
-      a.txn.0 ≡ next_txn st.last_txn → last ≡ next_txn st.last_txn → StandsAt most observable history e st → AreSessionsAt s (begun_with a st) → StandsAt most observable history (with_begun e last s) (begun_with a st)
-  begun_at most observable history e s last st a sound left is next at sessions_now = record {
+  pub begun_at : (most : ℕ) (meaning : DiskMeaning D) (e : Environment D) (s : Sessions) (last : ℕ) (st : Standing) (a : Active) → AreSound st → nat_lt st.last_txn LAST_TXN ≡ true →
+      a.txn.0 ≡ next_txn st.last_txn → last ≡ next_txn st.last_txn → StandsAt most meaning e st → AreSessionsAt s (begun_with a st) → StandsAt most meaning (with_begun e last s) (begun_with a st)
+  begun_at most meaning e s last st a sound left is next at sessions_now = record {
     file_max = at.file_max;
     fault = at.fault;
     last_txn = next;
@@ -152,13 +153,13 @@ module _ {D : Type 0} where
     apart = at.apart;
     checkpoint = at.checkpoint;
     databases = at.databases;
-    valid = λ none. valid_begun observable (now (history (disk_below e.engine.trees.log))) e.engine.trees.log (cells_of e.engine.trees) (has_tree_of e.engine.trees) (fitting e.engine.trees) e.engine.kept.since e.written.by_txn.entries st a sound left is (at.valid none);
+    valid = λ none. valid_begun meaning.observable (now (meaning.history (disk_below e.engine.trees.log))) e.engine.trees.log (cells_of e.engine.trees) (has_tree_of e.engine.trees) (fitting e.engine.trees) e.engine.kept.since e.written.by_txn.entries st a sound left is (at.valid none);
   }
 
   -- an environment with other sessions that stand at the same
-  pub sessions_same : (most : ℕ) (observable : Bool) (history : D → History) (e : Environment D) (s : Sessions) (st : Standing) → AreSessionsAt s st → StandsAt most observable history e st →
-      StandsAt most observable history (record { engine = e.engine; sessions = s; written = e.written }) st
-  sessions_same most observable history e s st same at = record {
+  pub sessions_same : (most : ℕ) (meaning : DiskMeaning D) (e : Environment D) (s : Sessions) (st : Standing) → AreSessionsAt s st → StandsAt most meaning e st →
+      StandsAt most meaning (record { engine = e.engine; sessions = s; written = e.written }) st
+  sessions_same most meaning e s st same at = record {
     file_max = at.file_max;
     fault = at.fault;
     last_txn = at.last_txn;
@@ -197,24 +198,24 @@ never_txn t is = absurd cc
 never_ended : IdsEnded ≡ DiskFault → ⊥
 never_ended is = absurd cc
 
-module _ {D : Type 0} (observable : Bool) (history : D → History) (sync_out read_out : D → Option ℕ) (read_of : D → ℕ) (level : Isolation) (durability : Durability) (wait : Bool) where
+module _ {D : Type 0} (meaning : DiskMeaning D) (level : Isolation) (durability : Durability) (wait : Bool) where
   abbrev Come : ℕ → Environment D → Environment D → Standing → ℕ → ℕ → Answer → Option Answer → Type 0
   Come most old new st session line answer late =
-      HasStepped observable history sync_out read_out read_of most old new (owing_after st session) (written_evaluated late st session (Begin level durability wait))
+      HasStepped meaning most old new (owing_after st session) (written_evaluated late st session (Begin level durability wait))
       (changes_evaluated late st session (Begin level durability wait)) (λ limit. IsEvaluated late limit st session line (Begin level durability wait) answer [])
       (after_evaluated late st session line (Begin level durability wait) answer []) answer
 
   -- no number is left
   refused_number : (most : ℕ) (e : Environment D) (st : Standing) (session line : ℕ) → early_refusal st session (Begin level durability wait) ≡ None → nat_lt st.last_txn LAST_TXN ≡ false → st.fault ≡ None →
-      StandsAt most observable history e st → HasCome observable history sync_out read_out read_of most e e st session line (Begin level durability wait) IdsEnded []
+      StandsAt most meaning e st → HasCome meaning most e e st session line (Begin level durability wait) IdsEnded []
   refused_number most e st session line early ended none at =
       let active = begin_none st session level durability wait early in
       subst (Come most e e st session line IdsEnded) (sym (begin_late st session level durability wait false active ended)) (record {
         limit = None;
         has_limit = refl;
         answers = (refl, refl);
-        here = subst (λ (o : Option Active). StandsAt most observable history e (drawn_by o st)) (sym active)
-            (subst (λ (n : ℕ). StandsAt most observable history e (record st { last_txn = n })) (sym (ap (λ (b : Bool). cond b (st.last_txn + 1) st.last_txn) ended)) at);
+        here = subst (λ (o : Option Active). StandsAt most meaning e (drawn_by o st)) (sym active)
+            (subst (λ (n : ℕ). StandsAt most meaning e (record st { last_txn = n })) (sym (ap (λ (b : Bool). cond b (st.last_txn + 1) st.last_txn) ended)) at);
         numbered = tt;
         fault = drawn_fault (active_of session st.actives) ∙ none;
         logged = inl (same_buffer e.engine.trees.log, refl, refl);
@@ -227,16 +228,16 @@ module _ {D : Type 0} (observable : Bool) (history : D → History) (sync_out re
 
   -- it has begun
   began : (most : ℕ) (e : Environment D) (s : Sessions) (st : Standing) (session line last : ℕ) (t : TxnId) → early_refusal st session (Begin level durability wait) ≡ None → nat_lt st.last_txn LAST_TXN ≡ true → st.fault ≡ None →
-      AreSound st → t.0 ≡ next_txn st.last_txn → last ≡ next_txn st.last_txn → StandsAt most observable history e st →
+      AreSound st → t.0 ≡ next_txn st.last_txn → last ≡ next_txn st.last_txn → StandsAt most meaning e st →
       AreSessionsAt s (begun_with (record { txn = t; session = session; level = level; durability = durability; waits = wait; is_auto = false; deadlock = None }) st) →
-      HasCome observable history sync_out read_out read_of most e (with_begun e last s) st session line (Begin level durability wait) (Txn t) []
+      HasCome meaning most e (with_begun e last s) st session line (Begin level durability wait) (Txn t) []
   began most e s st session line last t early left none sound is next at sessions_now =
       let active = begin_none st session level durability wait early in
       subst (Come most e (with_begun e last s) st session line (Txn t)) (sym (begin_late st session level durability wait true active left)) (record {
         limit = None;
         has_limit = refl;
         answers = (ap Txn same, refl);
-        here = subst (λ (x : TxnId). StandsAt most observable history (with_begun e last s) (begun_with (a x) st)) same (begun_at most observable history e s last st (a t) sound left is next at sessions_now);
+        here = subst (λ (x : TxnId). StandsAt most meaning (with_begun e last s) (begun_with (a x) st)) same (begun_at most meaning e s last st (a t) sound left is next at sessions_now);
         numbered = tt;
         fault = none;
         logged = inl (same_buffer e.engine.trees.log, refl, refl);
@@ -250,40 +251,39 @@ module _ {D : Type 0} (observable : Bool) (history : D → History) (sync_out re
       same : t ≡ record { 0 = next_txn st.last_txn }
       same = ap (λ (n : ℕ). record { 0 = n }) is
 
-  module _ (faults : D → ℕ) where
-    pub refused_performs : (e : Environment D) (session : ℕ) → nat_lt e.engine.kept.last_txn LAST_TXN ≡ false → e.engine.kept.fault ≡ None → CanGoOn e →
-        PerformsAnswer observable history sync_out read_out read_of faults e e session (Begin level durability wait) (Ok IdsEnded)
-    refused_performs e session ended valid bounds = record {
-      comes = λ most st line at sound early. refused_number most e st session line early (ap (λ (n : ℕ). nat_lt n LAST_TXN) (sym at.last_txn) ∙ ended) (sym at.fault ∙ valid) at;
-      near = tt;
-      bounds = bounds;
-      cause = record { never_falls = omega arith; fault = λ is. absurd (never_ended is) };
-    }
+  pub refused_performs : (e : Environment D) (session : ℕ) → nat_lt e.engine.kept.last_txn LAST_TXN ≡ false → e.engine.kept.fault ≡ None → CanGoOn e →
+      PerformsAnswer meaning e e session (Begin level durability wait) (Ok IdsEnded)
+  refused_performs e session ended valid bounds = record {
+    comes = λ most st line at sound early. refused_number most e st session line early (ap (λ (n : ℕ). nat_lt n LAST_TXN) (sym at.last_txn) ∙ ended) (sym at.fault ∙ valid) at;
+    near = tt;
+    bounds = bounds;
+    cause = record { never_falls = omega arith; fault = λ is. absurd (never_ended is) };
+  }
 
-    pub began_performs : (e : Environment D) (s : Sessions) (session last : ℕ) (t : TxnId) → nat_lt e.engine.kept.last_txn LAST_TXN ≡ true → t.0 ≡ e.engine.kept.last_txn + 1 → last ≡ e.engine.kept.last_txn + 1 →
-        e.engine.kept.fault ≡ None → CanGoOn e →
-        ((st : Standing) → AreSessionsAt e.sessions st → AreSessionsAt s (record st { actives = st.actives ++ record { txn = t; session = session; level = level; durability = durability; waits = wait; is_auto = false; deadlock = None } ∷ [] })) →
-        PerformsAnswer observable history sync_out read_out read_of faults e (with_begun e last s) session (Begin level durability wait) (Ok (Txn t))
-    began_performs e s session last t left is next valid bounds stands = record {
-      comes = λ most st line at sound early.
-          let less = ap (λ (n : ℕ). nat_lt n LAST_TXN) (sym at.last_txn) ∙ left in
-          let number = ap (λ (n : ℕ). n + 1) at.last_txn ∙ sym (next_is st.last_txn less) in
-          began most e s st session line last t early less (sym at.fault ∙ valid) sound (is ∙ number) (next ∙ number) at (stands st at.sessions_at);
-      near = tt;
-      bounds = let within : e.engine.kept.commits ≤ e.engine.kept.last_txn = bounds in omega (arith, within, next);
-      cause = record { never_falls = omega arith; fault = λ done. absurd (never_txn t done) };
-    }
+  pub began_performs : (e : Environment D) (s : Sessions) (session last : ℕ) (t : TxnId) → nat_lt e.engine.kept.last_txn LAST_TXN ≡ true → t.0 ≡ e.engine.kept.last_txn + 1 → last ≡ e.engine.kept.last_txn + 1 →
+      e.engine.kept.fault ≡ None → CanGoOn e →
+      ((st : Standing) → AreSessionsAt e.sessions st → AreSessionsAt s (record st { actives = st.actives ++ record { txn = t; session = session; level = level; durability = durability; waits = wait; is_auto = false; deadlock = None } ∷ [] })) →
+      PerformsAnswer meaning e (with_begun e last s) session (Begin level durability wait) (Ok (Txn t))
+  began_performs e s session last t left is next valid bounds stands = record {
+    comes = λ most st line at sound early.
+        let less = ap (λ (n : ℕ). nat_lt n LAST_TXN) (sym at.last_txn) ∙ left in
+        let number = ap (λ (n : ℕ). n + 1) at.last_txn ∙ sym (next_is st.last_txn less) in
+        began most e s st session line last t early less (sym at.fault ∙ valid) sound (is ∙ number) (next ∙ number) at (stands st at.sessions_at);
+    near = tt;
+    bounds = let within : e.engine.kept.commits ≤ e.engine.kept.last_txn = bounds in omega (arith, within, next);
+    cause = record { never_falls = omega arith; fault = λ done. absurd (never_txn t done) };
+  }
 
-    pub not_begun_performs : (e : Environment D) (s : Sessions) (session : ℕ) (error : AllocError) → CanGoOn e →
-        ((st : Standing) → AreSessionsAt e.sessions st → AreSessionsAt s st) → IsWithin (reach_of (record { engine = e.engine; sessions = s; written = e.written })) (reach_of e) →
-        PerformsAnswer observable history sync_out read_out read_of faults e (record { engine = e.engine; sessions = s; written = e.written }) session (Begin level durability wait) (Err error)
-    not_begun_performs e s session error bounds stands near = record {
-      comes = λ most st line at sound early. record {
-        here = sessions_same most observable history e s st (stands st at.sessions_at) at;
-        log = same_buffer e.engine.trees.log;
-        near = near;
-      };
+  pub not_begun_performs : (e : Environment D) (s : Sessions) (session : ℕ) (error : AllocError) → CanGoOn e →
+      ((st : Standing) → AreSessionsAt e.sessions st → AreSessionsAt s st) → IsWithin (reach_of (record { engine = e.engine; sessions = s; written = e.written })) (reach_of e) →
+      PerformsAnswer meaning e (record { engine = e.engine; sessions = s; written = e.written }) session (Begin level durability wait) (Err error)
+  not_begun_performs e s session error bounds stands near = record {
+    comes = λ most st line at sound early. record {
+      here = sessions_same most meaning e s st (stands st at.sessions_at) at;
+      log = same_buffer e.engine.trees.log;
       near = near;
-      bounds = bounds;
-      cause = record { never_falls = omega arith; fault = tt };
-    }
+    };
+    near = near;
+    bounds = bounds;
+    cause = record { never_falls = omega arith; fault = tt };
+  }

@@ -8,7 +8,8 @@ use mathlib.Core.Path.{fun_ext}
 use Rattle.log_buffer.specs.Flip.{pos_lsn}
 use Rattle.std.specs.declared.alloc.AllocError.{AllocError}
 use Rattle.std.proofs.lemmas.Bool.{lt-ltb}
-use Rattle.je_disk.specs.Moments.{History, now}
+use Rattle.je_disk.specs.DiskMeaning.{DiskMeaning}
+use Rattle.je_disk.specs.Moments.{now}
 use Rattle.je_order.specs.declared.txn_id.TxnId.{TxnId}
 use Rattle.store_model.specs.declared.store.Database.{Database}
 use Rattle.store_model.specs.declared.store.TheConstants.{LAST_TXN, MOST_DATABASES}
@@ -298,10 +299,10 @@ module _ {D : Type 0} where
       (subst (λ (n : ℕ). GivesRecordsWith log (end_of e.engine.trees.log) rows n e.engine.kept.last_db (active_number st.actives) st.own) (sym last_txn)
       (subst (λ (n : ℕ). GivesRecordsWith log (end_of e.engine.trees.log) rows st.last_txn n (active_number st.actives) st.own) (sym last_db) gives))
 
-  pub alone_at : (most : ℕ) (observable : Bool) (history : D → History) (e : Environment D) (st : Standing) → StandsAt most observable history e st →
-      AreAlone most observable (now (history (disk_below e.engine.trees.log))) e.engine.trees.log (contents_of e.engine) (alone_of st)
+  pub alone_at : (most : ℕ) (meaning : DiskMeaning D) (e : Environment D) (st : Standing) → StandsAt most meaning e st →
+      AreAlone most meaning.observable (now (meaning.history (disk_below e.engine.trees.log))) e.engine.trees.log (contents_of e.engine) (alone_of st)
   unfolding gives_without gives_alone
-  alone_at most observable history e st at = record {
+  alone_at most meaning e st at = record {
     file_max = at.file_max;
     fault = at.fault;
     last_txn = at.last_txn;
@@ -316,7 +317,7 @@ module _ {D : Type 0} where
         (sym (same_under (λ (n : ℕ). GivesRecordsWith v.log (end_of e.engine.trees.log) (committed (cells_of e.engine.trees)) n e.engine.kept.last_db (active_number st.actives) st.own) (λ n g. g.base) (sym at.last_txn)
         (subst (λ (n : ℕ). GivesRecordsWith v.log (end_of e.engine.trees.log) (committed (cells_of e.engine.trees)) st.last_txn n (active_number st.actives) st.own) (sym at.last_db) v.gives)
         ∙ same_under (λ (n : ℕ). GivesRecordsWith v.log (end_of e.engine.trees.log) (committed (cells_of e.engine.trees)) st.last_txn n (active_number st.actives) st.own) (λ n g. g.base) (sym at.last_db) v.gives))
-        (lives_at observable (now (history (disk_below e.engine.trees.log))) e.engine.trees.log (cells_of e.engine.trees) (has_tree_of e.engine.trees) (fitting e.engine.trees) e.engine.kept.since e.written.by_txn.entries st v) in
+        (lives_at meaning.observable (now (meaning.history (disk_below e.engine.trees.log))) e.engine.trees.log (cells_of e.engine.trees) (has_tree_of e.engine.trees) (fitting e.engine.trees) e.engine.kept.since e.written.by_txn.entries st v) in
         record {
           log = v.log;
           has = v.has;
@@ -329,25 +330,25 @@ module _ {D : Type 0} where
         };
   }
 
-  module _ (observable : Bool) (history : D → History) (sync_out read_out : D → Option ℕ) (read_of : D → ℕ) where
+  module _ (meaning : DiskMeaning D) where
     -- the parts of a step
     pub come : (most : ℕ) (old new : Environment D) (st : Standing) (session line : ℕ) (call : Call) (answer : Answer) (changes : List Change) (limit : Option Answer) (after : Alone) → active_of session st.actives ≡ None →
         written_evaluated (late_refusal st session call) st session call ≡ changes → changes_evaluated (late_refusal st session call) st session call ≡ changes →
         HasLimit old (owing st + 1) changes limit → IsEvaluated (late_refusal st session call) limit st session line call answer [] →
         after_evaluated (late_refusal st session call) st session line call answer [] ≡ with_alone after st →
-        StandsAt most observable history new (with_alone after st) → IsNumbered answer after.commits → after.fault ≡ cond (is_disk_fault answer) (Some Disk) None →
-        IsCallStep observable history sync_out read_out read_of (is_disk_fault answer) old.engine new.engine.trees.log (tried changes (fate_of answer)) (tried changes (fate_of answer)) →
-        IsWithin (reach_of new) (reach_after (reach_of old) changes) → HasCome observable history sync_out read_out read_of most old new st session line call answer []
+        StandsAt most meaning new (with_alone after st) → IsNumbered answer after.commits → after.fault ≡ cond (is_disk_fault answer) (Some Disk) None →
+        IsCallStep meaning (is_disk_fault answer) old.engine new.engine.trees.log (tried changes (fate_of answer)) (tried changes (fate_of answer)) →
+        IsWithin (reach_of new) (reach_after (reach_of old) changes) → HasCome meaning most old new st session line call answer []
     come most old new st session line call answer changes limit after none written committed_ has answers_ leaves here numbered fault logged near = record {
       limit = limit;
       has_limit = subst (λ (o : Option Active). HasLimit old (owing_with o st) (written_evaluated (late_refusal st session call) st session call) limit) (sym none)
           (subst (λ (cs : List Change). HasLimit old (owing st + 1) cs limit) (sym written) has);
       answers = answers_;
-      here = subst (StandsAt most observable history new) (sym leaves) here;
+      here = subst (StandsAt most meaning new) (sym leaves) here;
       numbered = subst (λ (s : Standing). IsNumbered answer s.commits) (sym leaves) numbered;
       fault = ap (λ (s : Standing). s.fault) leaves ∙ fault;
-      logged = subst (λ (cs : List Change). Appends observable history sync_out read_out read_of old new cs (tried (changes_evaluated (late_refusal st session call) st session call) (fate_of answer)) answer) (sym written)
-          (subst (λ (cs : List Change). Appends observable history sync_out read_out read_of old new changes (tried cs (fate_of answer)) answer) (sym committed_) logged);
+      logged = subst (λ (cs : List Change). Appends meaning old new cs (tried (changes_evaluated (late_refusal st session call) st session call) (fate_of answer)) answer) (sym written)
+          (subst (λ (cs : List Change). Appends meaning old new changes (tried cs (fate_of answer)) answer) (sym committed_) logged);
       near = subst (λ (cs : List Change). IsWithin (reach_of new) (reach_after (reach_of old) cs)) (sym written) near;
     }
 
@@ -355,9 +356,9 @@ module _ {D : Type 0} where
     pub come_alone : (most : ℕ) (old new : Environment D) (st : Standing) (session line : ℕ) (call : Call) (answer : Answer) (changes : List Change) (limit : Option Answer) (after : Alone) → ChangesCatalog call →
         early_refusal st session call ≡ None → st.fault ≡ None → (outcome_alone (alone_of st) session call).changes ≡ changes → (late_refusal (alone (alone_of st)) session call ≡ None → IsFreeToChange st call) →
         HasLimit old (owing st + 1) changes limit → EndsAlone limit (alone_of st) session call answer after →
-        StandsAt most observable history new (with_alone after st) → IsNumbered answer after.commits → after.fault ≡ cond (is_disk_fault answer) (Some Disk) None →
-        IsCallStep observable history sync_out read_out read_of (is_disk_fault answer) old.engine new.engine.trees.log (tried changes (fate_of answer)) (tried changes (fate_of answer)) →
-        IsWithin (reach_of new) (reach_after (reach_of old) changes) → HasCome observable history sync_out read_out read_of most old new st session line call answer []
+        StandsAt most meaning new (with_alone after st) → IsNumbered answer after.commits → after.fault ≡ cond (is_disk_fault answer) (Some Disk) None →
+        IsCallStep meaning (is_disk_fault answer) old.engine new.engine.trees.log (tried changes (fate_of answer)) (tried changes (fate_of answer)) →
+        IsWithin (reach_of new) (reach_after (reach_of old) changes) → HasCome meaning most old new st session line call answer []
     come_alone most old new st session line call answer changes limit after is early none outcome free has ends here numbered fault logged near =
         let p : Alone = alone_of st in
         let out = outside st session call is early in
@@ -370,79 +371,78 @@ module _ {D : Type 0} where
         here numbered fault logged near
 
     -- a number is drawn, and nothing else
-    pub drawn_here : (most : ℕ) (e : Environment D) (st : Standing) → e.engine.kept.last_txn < LAST_TXN → StandsAt most observable history e st →
-        StandsAt most observable history (with_begun e (e.engine.kept.last_txn + 1) e.sessions) (with_alone (drawn_alone (alone_of st)) st)
+    pub drawn_here : (most : ℕ) (e : Environment D) (st : Standing) → e.engine.kept.last_txn < LAST_TXN → StandsAt most meaning e st →
+        StandsAt most meaning (with_begun e (e.engine.kept.last_txn + 1) e.sessions) (with_alone (drawn_alone (alone_of st)) st)
     drawn_here most e st below at =
         let left : nat_lt st.last_txn LAST_TXN ≡ true = ap (λ (n : ℕ). nat_lt n LAST_TXN) (sym at.last_txn) ∙ lt-ltb e.engine.kept.last_txn LAST_TXN below in
         let next : e.engine.kept.last_txn + 1 ≡ next_txn st.last_txn = ap (λ (n : ℕ). n + 1) at.last_txn ∙ sym (next_is st.last_txn left) in
         let last = at.last_txn in
-        subst (λ (n : ℕ). StandsAt most observable history (with_begun e (e.engine.kept.last_txn + 1) e.sessions) (record st { last_txn = n })) next
-        (drawn_at most observable history e (e.engine.kept.last_txn + 1) st (omega (arith, last)) at)
+        subst (λ (n : ℕ). StandsAt most meaning (with_begun e (e.engine.kept.last_txn + 1) e.sessions) (record st { last_txn = n })) next
+        (drawn_at most meaning e (e.engine.kept.last_txn + 1) st (omega (arith, last)) at)
 
-    module _ (faults : D → ℕ) where
-      never_ended : IdsEnded ≡ DiskFault → ⊥
-      never_ended is = absurd cc
+    never_ended : IdsEnded ≡ DiskFault → ⊥
+    never_ended is = absurd cc
 
-      never_used : (t : TxnId) → DatabaseInUse t ≡ DiskFault → ⊥
-      never_used t is = absurd cc
+    never_used : (t : TxnId) → DatabaseInUse t ≡ DiskFault → ⊥
+    never_used t is = absurd cc
 
-      never_calm : (answer : Answer) → IsCalm answer → answer ≡ DiskFault → ⊥
-      never_calm answer calm is = true≢false (sym (ap is_loud is) ∙ calm)
+    never_calm : (answer : Answer) → IsCalm answer → answer ≡ DiskFault → ⊥
+    never_calm answer calm is = true≢false (sym (ap is_loud is) ∙ calm)
 
-      -- no number is left
-      pub ended_performs : (e : Environment D) (session : ℕ) (call : Call) → ChangesCatalog call → LAST_TXN ≤ e.engine.kept.last_txn → e.engine.kept.fault ≡ None → CanGoOn e →
-          PerformsAnswer observable history sync_out read_out read_of faults e e session call (Ok IdsEnded)
-      ended_performs e session call is over valid bounds = record {
-        comes = λ most st line at sound early.
-            let none : st.fault ≡ None = sym at.fault ∙ valid in
-            let last = at.last_txn in
-            let past : LAST_TXN ≤ st.last_txn = omega (arith, last, over) in
-            let late = ended_late (alone_of st) session call (none_left st.last_txn past) in
-            come_alone most e e st session line call IdsEnded [] None (alone_of st) is early none
-            (ap (λ (l : Option Answer). (outcome_unless l (performed_outcome (alone_of st) session call)).changes) late) (λ unrefused_. absurd (not_some IdsEnded (sym late ∙ unrefused_))) refl
-            (no_number_ends None (alone_of st) session call none past) at tt none (inl (same_buffer e.engine.trees.log, refl, refl)) (within_more e e [] (same_reach e));
-        near = tt;
-        bounds = bounds;
-        cause = record { never_falls = omega arith; fault = λ done. absurd (never_ended done) };
-      }
-        where
-          not_some : (a : Answer) → Some a ≡ None → ⊥
-          not_some a e = absurd cc
+    -- no number is left
+    pub ended_performs : (e : Environment D) (session : ℕ) (call : Call) → ChangesCatalog call → LAST_TXN ≤ e.engine.kept.last_txn → e.engine.kept.fault ≡ None → CanGoOn e →
+        PerformsAnswer meaning e e session call (Ok IdsEnded)
+    ended_performs e session call is over valid bounds = record {
+      comes = λ most st line at sound early.
+          let none : st.fault ≡ None = sym at.fault ∙ valid in
+          let last = at.last_txn in
+          let past : LAST_TXN ≤ st.last_txn = omega (arith, last, over) in
+          let late = ended_late (alone_of st) session call (none_left st.last_txn past) in
+          come_alone most e e st session line call IdsEnded [] None (alone_of st) is early none
+          (ap (λ (l : Option Answer). (outcome_unless l (performed_outcome (alone_of st) session call)).changes) late) (λ unrefused_. absurd (not_some IdsEnded (sym late ∙ unrefused_))) refl
+          (no_number_ends None (alone_of st) session call none past) at tt none (inl (same_buffer e.engine.trees.log, refl, refl)) (within_more e e [] (same_reach e));
+      near = tt;
+      bounds = bounds;
+      cause = record { never_falls = omega arith; fault = λ done. absurd (never_ended done) };
+    }
+      where
+        not_some : (a : Answer) → Some a ≡ None → ⊥
+        not_some a e = absurd cc
 
-      -- an answer without changes
-      pub answered_performs : (e : Environment D) (session : ℕ) (call : Call) (answer : Answer) → ChangesCatalog call → e.engine.kept.last_txn < LAST_TXN → e.engine.kept.fault ≡ None → CanGoOn e →
-          ((p : Alone) (s : ℕ) → HasModel (known (contents_of e.engine)) p → IsPlanned (known (contents_of e.engine)) p s call (Answered answer)) →
-          ((most : ℕ) (st : Standing) → StandsAt most observable history e st → AreSound st → answer ≡ ReadOnlyIndex → IsFreeToChange st call) →
-          ((most : ℕ) × (st : Standing) × StandsAt most observable history e st × AreSound st × (early_refusal st session call ≡ None)) →
-          PerformsAnswer observable history sync_out read_out read_of faults e (with_begun e (e.engine.kept.last_txn + 1) e.sessions) session call (Ok answer)
-      answered_performs e session call answer is below valid bounds plan free there = record {
-        comes = λ most st line at sound early.
-            let none : st.fault ≡ None = sym at.fault ∙ valid in
-            let p : Alone = alone_of st in
-            let planned = plan p session (has most st at) in
-            let calm : IsCalm answer = calm_is most st at in
-            come_alone most e (with_begun e (e.engine.kept.last_txn + 1) e.sessions) st session line call answer [] None (drawn_alone p) is early none (ap (λ (o : Outcome). o.changes) planned)
-            (λ late. free most st at sound (unrefused p session call answer is late (sym (ap (λ (l : Option Answer). outcome_unless l (performed_outcome p session call)) late) ∙ planned))) refl
-            (answered_ends None (known (contents_of e.engine)) p session call answer none (auto_is call is) planned)
-            (drawn_here most e st below at) (unnumbered answer st.commits calm) (none ∙ ap (λ (b : Bool). cond b (Some Disk) None) (sym (faultless answer calm)))
-            (subst (λ (b : Bool). IsCallStep observable history sync_out read_out read_of b e.engine e.engine.trees.log [] []) (sym (faultless answer calm)) (inl (same_buffer e.engine.trees.log, refl, refl)))
-            (within_more e (with_begun e (e.engine.kept.last_txn + 1) e.sessions) [] (record { file = omega arith; node = omega arith }));
-        near = tt;
-        bounds = let within : e.engine.kept.commits ≤ e.engine.kept.last_txn = bounds in omega (arith, within);
-        cause = record { never_falls = omega arith; fault = λ done. absurd (never_calm answer (calm_is there.0 there.1 there.2) done) };
-      }
-        where
-          has : (most : ℕ) (st : Standing) → StandsAt most observable history e st → HasModel (known (contents_of e.engine)) (alone_of st)
-          has most st at = model most observable (now (history (disk_below e.engine.trees.log))) e.engine.trees.log (contents_of e.engine) (alone_of st) (alone_at most observable history e st at) (sym at.fault ∙ valid) below
+    -- an answer without changes
+    pub answered_performs : (e : Environment D) (session : ℕ) (call : Call) (answer : Answer) → ChangesCatalog call → e.engine.kept.last_txn < LAST_TXN → e.engine.kept.fault ≡ None → CanGoOn e →
+        ((p : Alone) (s : ℕ) → HasModel (known (contents_of e.engine)) p → IsPlanned (known (contents_of e.engine)) p s call (Answered answer)) →
+        ((most : ℕ) (st : Standing) → StandsAt most meaning e st → AreSound st → answer ≡ ReadOnlyIndex → IsFreeToChange st call) →
+        ((most : ℕ) × (st : Standing) × StandsAt most meaning e st × AreSound st × (early_refusal st session call ≡ None)) →
+        PerformsAnswer meaning e (with_begun e (e.engine.kept.last_txn + 1) e.sessions) session call (Ok answer)
+    answered_performs e session call answer is below valid bounds plan free there = record {
+      comes = λ most st line at sound early.
+          let none : st.fault ≡ None = sym at.fault ∙ valid in
+          let p : Alone = alone_of st in
+          let planned = plan p session (has most st at) in
+          let calm : IsCalm answer = calm_is most st at in
+          come_alone most e (with_begun e (e.engine.kept.last_txn + 1) e.sessions) st session line call answer [] None (drawn_alone p) is early none (ap (λ (o : Outcome). o.changes) planned)
+          (λ late. free most st at sound (unrefused p session call answer is late (sym (ap (λ (l : Option Answer). outcome_unless l (performed_outcome p session call)) late) ∙ planned))) refl
+          (answered_ends None (known (contents_of e.engine)) p session call answer none (auto_is call is) planned)
+          (drawn_here most e st below at) (unnumbered answer st.commits calm) (none ∙ ap (λ (b : Bool). cond b (Some Disk) None) (sym (faultless answer calm)))
+          (subst (λ (b : Bool). IsCallStep meaning b e.engine e.engine.trees.log [] []) (sym (faultless answer calm)) (inl (same_buffer e.engine.trees.log, refl, refl)))
+          (within_more e (with_begun e (e.engine.kept.last_txn + 1) e.sessions) [] (record { file = omega arith; node = omega arith }));
+      near = tt;
+      bounds = let within : e.engine.kept.commits ≤ e.engine.kept.last_txn = bounds in omega (arith, within);
+      cause = record { never_falls = omega arith; fault = λ done. absurd (never_calm answer (calm_is there.0 there.1 there.2) done) };
+    }
+      where
+        has : (most : ℕ) (st : Standing) → StandsAt most meaning e st → HasModel (known (contents_of e.engine)) (alone_of st)
+        has most st at = model most meaning.observable (now (meaning.history (disk_below e.engine.trees.log))) e.engine.trees.log (contents_of e.engine) (alone_of st) (alone_at most meaning e st at) (sym at.fault ∙ valid) below
 
-          calm_is : (most : ℕ) (st : Standing) → StandsAt most observable history e st → IsCalm answer
-          calm_is most st at = sym (ap (λ (o : Outcome). is_loud o.answer) (plan (alone_of st) session (has most st at))) ∙ outcome_calm (alone_of st) session call (auto_is call is)
+        calm_is : (most : ℕ) (st : Standing) → StandsAt most meaning e st → IsCalm answer
+        calm_is most st at = sym (ap (λ (o : Outcome). is_loud o.answer) (plan (alone_of st) session (has most st at))) ∙ outcome_calm (alone_of st) session call (auto_is call is)
 
-      -- there was no memory
-      pub none_performs : (e : Environment D) (session : ℕ) (call : Call) (error : AllocError) → CanGoOn e → PerformsAnswer observable history sync_out read_out read_of faults e e session call (Err error)
-      none_performs e session call error bounds = record {
-        comes = λ most st line at sound early. record { here = at; log = same_buffer e.engine.trees.log; near = same_reach e };
-        near = same_reach e;
-        bounds = bounds;
-        cause = record { never_falls = omega arith; fault = tt };
-      }
+    -- there was no memory
+    pub none_performs : (e : Environment D) (session : ℕ) (call : Call) (error : AllocError) → CanGoOn e → PerformsAnswer meaning e e session call (Err error)
+    none_performs e session call error bounds = record {
+      comes = λ most st line at sound early. record { here = at; log = same_buffer e.engine.trees.log; near = same_reach e };
+      near = same_reach e;
+      bounds = bounds;
+      cause = record { never_falls = omega arith; fault = tt };
+    }

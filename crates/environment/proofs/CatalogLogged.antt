@@ -15,7 +15,8 @@ use Rattle.std.specs.declared.alloc.AllocError.{AllocError}
 use Rattle.std.proofs.lemmas.Bool.{and_parts, eqb-true, ltb-true}
 use Rattle.std.proofs.lemmas.List.{append-nil}
 use Rattle.std.proofs.lemmas.Option.{none-some}
-use Rattle.je_disk.specs.Moments.{History, now}
+use Rattle.je_disk.specs.DiskMeaning.{DiskMeaning}
+use Rattle.je_disk.specs.Moments.{now}
 use Rattle.je_disk.specs.States.{State}
 use Rattle.je_order.specs.declared.name.Name.{Name}
 use Rattle.je_order.specs.declared.txn_id.TxnId.{TxnId}
@@ -254,40 +255,40 @@ module _ {D : Type 0} where
   with_engine e n = record { engine = n; sessions = e.sessions; written = e.written }
 
   -- nobody has own changes in the databases that changes are of
-  apart_plain : (most : ℕ) (observable : Bool) (history : D → History) (e : Environment D) (st : Standing) (session : ℕ) (call : Call) (planned : PlannedChanges) → StandsAt most observable history e st → st.fault ≡ None → ChangesCatalog call →
+  apart_plain : (most : ℕ) (meaning : DiskMeaning D) (e : Environment D) (st : Standing) (session : ℕ) (call : Call) (planned : PlannedChanges) → StandsAt most meaning e st → st.fault ≡ None → ChangesCatalog call →
       (log : IsPlannedLog (known (contents_of e.engine)) (alone_of st) session call planned) → is_index log.change ≡ false → AreApart st.own planned.changes.items
-  apart_plain most observable history e st session call planned at none is log other =
+  apart_plain most meaning e st session call planned at none is log other =
       let v = at.valid none in
       let one = one_planned (known (contents_of e.engine)) (alone_of st) session call planned is log in
       catalog_apart (committed (cells_of e.engine.trees)) st.own planned.changes.items v.may
       (logged_in e.engine.kept.last_db log.change log.more (committed (cells_of e.engine.trees)) planned.changes.items (of_catalog call log.change one.0) (one.1 other) (log.rows 0))
 
-  apart_index : (most : ℕ) (observable : Bool) (history : D → History) (e : Environment D) (st : Standing) (session : ℕ) (call : Call) (planned : PlannedChanges) → StandsAt most observable history e st → st.fault ≡ None →
+  apart_index : (most : ℕ) (meaning : DiskMeaning D) (e : Environment D) (st : Standing) (session : ℕ) (call : Call) (planned : PlannedChanges) → StandsAt most meaning e st → st.fault ≡ None →
       (log : IsPlannedLog (known (contents_of e.engine)) (alone_of st) session call planned) → is_index log.change ≡ true → IsPlannedFill planned → planned.last_db ≤ LAST_DATABASE → AreApart st.own planned.changes.items
-  apart_index most observable history e st session call planned at none log index fill low =
+  apart_index most meaning e st session call planned at none log index fill low =
       fill_apart (committed (cells_of e.engine.trees)) e.engine.kept.last_db st.own planned fill (index_later e.engine.kept.last_db log.change log.more planned.last_db index log.last_db) (omega (arith, low))
-      (sound_at most observable (now (history (disk_below e.engine.trees.log))) e.engine.trees.log (contents_of e.engine) (alone_of st) (alone_at most observable history e st at) none) (at.valid none).may
+      (sound_at most meaning.observable (now (meaning.history (disk_below e.engine.trees.log))) e.engine.trees.log (contents_of e.engine) (alone_of st) (alone_at most meaning e st at) none) (at.valid none).may
 
   -- so the names that are to be logged are free
-  pub free_names : (most : ℕ) (observable : Bool) (history : D → History) (e : Environment D) (st : Standing) (session : ℕ) (call : Call) (planned : PlannedChanges) (t : TxnId) → StandsAt most observable history e st → st.fault ≡ None →
+  pub free_names : (most : ℕ) (meaning : DiskMeaning D) (e : Environment D) (st : Standing) (session : ℕ) (call : Call) (planned : PlannedChanges) (t : TxnId) → StandsAt most meaning e st → st.fault ≡ None →
       ChangesCatalog call → IsPlannedAs (known (contents_of e.engine)) (alone_of st) session call false planned →
       AllByRecursion (λ (c : TreeChange). IsFreeFor t (write_in (value_at c.name (cells_of e.engine.trees c.db)))) planned.changes.items
-  free_names most observable history e st session call planned t at none is its =
-      free_each (cells_of e.engine.trees) st.own t planned.changes.items (at.valid none).writes (apart_plain most observable history e st session call planned at none is its.log its.kind)
+  free_names most meaning e st session call planned t at none is its =
+      free_each (cells_of e.engine.trees) st.own t planned.changes.items (at.valid none).writes (apart_plain most meaning e st session call planned at none is its.log its.kind)
 
-  pub free_filled : (most : ℕ) (observable : Bool) (history : D → History) (e : Environment D) (st : Standing) (session : ℕ) (call : Call) (planned : PlannedChanges) (t : TxnId) → StandsAt most observable history e st → st.fault ≡ None →
+  pub free_filled : (most : ℕ) (meaning : DiskMeaning D) (e : Environment D) (st : Standing) (session : ℕ) (call : Call) (planned : PlannedChanges) (t : TxnId) → StandsAt most meaning e st → st.fault ≡ None →
       IsPlannedAs (known (contents_of e.engine)) (alone_of st) session call true planned → planned.last_db ≤ LAST_DATABASE →
       AllByRecursion (λ (c : TreeChange). IsFreeFor t (write_in (value_at c.name (cells_of e.engine.trees c.db)))) planned.changes.items
-  free_filled most observable history e st session call planned t at none its low =
-      free_each (cells_of e.engine.trees) st.own t planned.changes.items (at.valid none).writes (apart_index most observable history e st session call planned at none its.log its.kind (its.fill refl) low)
+  free_filled most meaning e st session call planned t at none its low =
+      free_each (cells_of e.engine.trees) st.own t planned.changes.items (at.valid none).writes (apart_index most meaning e st session call planned at none its.log its.kind (its.fill refl) low)
 
   -- and an index's changes fill it
-  pub are_filling : (most : ℕ) (observable : Bool) (history : D → History) (e : Environment D) (st : Standing) (session : ℕ) (call : Call) (planned : PlannedChanges) → StandsAt most observable history e st → st.fault ≡ None →
+  pub are_filling : (most : ℕ) (meaning : DiskMeaning D) (e : Environment D) (st : Standing) (session : ℕ) (call : Call) (planned : PlannedChanges) → StandsAt most meaning e st → st.fault ≡ None →
       IsPlannedAs (known (contents_of e.engine)) (alone_of st) session call true planned → planned.last_db ≤ LAST_DATABASE → AreFilling (has_tree_of e.engine.trees) planned.changes.items
-  are_filling most observable history e st session call planned at none its low =
+  are_filling most meaning e st session call planned at none its low =
       let fill = its.fill refl in
       let v = at.valid none in
-      let here = alone_at most observable history e st at in
+      let here = alone_at most meaning e st at in
       let made = made_new e.engine.trees e.engine.kept (alone_of st) session call planned v.made (here.valid none).gives.numbers its.log low in
       let fits : planned.last_db < 2 ^ 32 = omega (arith, low) in
       subst (AreFilling (has_tree_of e.engine.trees)) (sym fill.are) (
@@ -326,14 +327,14 @@ module _ {D : Type 0} where
       subst (λ (b : Bool). HasLimit e owed (its.log.change ∷ its.log.more) (limit_by (limit_found b e.engine.trees planned.changes.items owed) e.engine.kept.last_node (length planned.changes.items))) its.kind
       (has_limit e owed p session call planned its.log)
 
-  module _ (observable : Bool) (history : D → History) (sync_out read_out : D → Option ℕ) (read_of : D → ℕ) where
+  module _ (meaning : DiskMeaning D) where
     -- ---- where it stands
 
-    pub stands_on : (most : ℕ) (e : Environment D) (n : Engine D) (st : Standing) (q : Alone) → StandsAt most observable history e st → AreSessionsAt e.sessions (with_alone q st) →
-        AreAlone most observable (now (history (disk_below n.trees.log))) n.trees.log (contents_of n) q →
+    pub stands_on : (most : ℕ) (e : Environment D) (n : Engine D) (st : Standing) (q : Alone) → StandsAt most meaning e st → AreSessionsAt e.sessions (with_alone q st) →
+        AreAlone most meaning.observable (now (meaning.history (disk_below n.trees.log))) n.trees.log (contents_of n) q →
         (q.fault ≡ None → HaveDatabases q.numbers q.store n.kept.indexes n.kept.names) →
-        (q.fault ≡ None → IsValidWith observable (now (history (disk_below n.trees.log))) n.trees.log (cells_of n.trees) (has_tree_of n.trees) (fitting n.trees) n.kept.since e.written.by_txn.entries (with_alone q st)) →
-        StandsAt most observable history (with_engine e n) (with_alone q st)
+        (q.fault ≡ None → IsValidWith meaning.observable (now (meaning.history (disk_below n.trees.log))) n.trees.log (cells_of n.trees) (has_tree_of n.trees) (fitting n.trees) n.kept.since e.written.by_txn.entries (with_alone q st)) →
+        StandsAt most meaning (with_engine e n) (with_alone q st)
     stands_on most e n st q at sessions here knows valid = record {
       file_max = here.file_max;
       fault = here.fault;
@@ -349,51 +350,51 @@ module _ {D : Type 0} where
     }
 
     valid_same : (old new : LogBuffer D) (cells later : AllCells) (has_tree later_tree : ℕ → Bool) (forest later_forest : Forest) (since later_since : ℕ) (written : List (TxnId × OwnNames)) (st : Standing) → IsUnchanged old new → ((d : ℕ) → later d ≡ cells d) →
-        ((d : ℕ) → later_tree d ≡ has_tree d) → ((es : List Placed) (base : ℕ) → forest es base → later_forest es base) → later_since ≡ since → IsValidWith observable (now (history (disk_below old))) old cells has_tree forest since written st →
-        IsValidWith observable (now (history (disk_below new))) new later later_tree later_forest later_since written st
+        ((d : ℕ) → later_tree d ≡ has_tree d) → ((es : List Placed) (base : ℕ) → forest es base → later_forest es base) → later_since ≡ since → IsValidWith meaning.observable (now (meaning.history (disk_below old))) old cells has_tree forest since written st →
+        IsValidWith meaning.observable (now (meaning.history (disk_below new))) new later later_tree later_forest later_since written st
     valid_same old new cells later has_tree later_tree forest later_forest since later_since written st same cells_are trees_are carries since_is v =
-        let like : IsLike observable (now (history (disk_below old))) (now (history (disk_below new))) old new = record {
-          logs = (grew_unchanged observable history sync_out read_out read_of old new same).log;
+        let like : IsLike meaning.observable (now (meaning.history (disk_below old))) (now (meaning.history (disk_below new))) old new = record {
+          logs = (grew_unchanged meaning old new same).log;
           end = same.kept.end;
           max = same.kept.max;
           works = same.failed ∙ v.works;
           room = same.kept.room;
         } in
-        subst (λ (c : AllCells). IsValidWith observable (now (history (disk_below new))) new c later_tree later_forest later_since written st) (sym (fun_ext cells_are))
-        (subst (λ (t : ℕ → Bool). IsValidWith observable (now (history (disk_below new))) new cells t later_forest later_since written st) (sym (fun_ext trees_are))
-        (subst (λ (n : ℕ). IsValidWith observable (now (history (disk_below new))) new cells has_tree later_forest n written st) (sym since_is)
-        (valid_fits observable (now (history (disk_below new))) new cells has_tree forest later_forest since written st carries (valid_like observable (now (history (disk_below old))) (now (history (disk_below new))) old new cells has_tree forest since written st st.begun like v))))
+        subst (λ (c : AllCells). IsValidWith meaning.observable (now (meaning.history (disk_below new))) new c later_tree later_forest later_since written st) (sym (fun_ext cells_are))
+        (subst (λ (t : ℕ → Bool). IsValidWith meaning.observable (now (meaning.history (disk_below new))) new cells t later_forest later_since written st) (sym (fun_ext trees_are))
+        (subst (λ (n : ℕ). IsValidWith meaning.observable (now (meaning.history (disk_below new))) new cells has_tree later_forest n written st) (sym since_is)
+        (valid_fits meaning.observable (now (meaning.history (disk_below new))) new cells has_tree forest later_forest since written st carries (valid_like meaning.observable (now (meaning.history (disk_below old))) (now (meaning.history (disk_below new))) old new cells has_tree forest since written st st.begun like v))))
 
     -- nothing was logged: a number was drawn, or not even that
-    pub drawn_same : (most : ℕ) (e : Environment D) (n : Engine D) (st : Standing) → StandsAt most observable history e st → e.engine.kept.last_txn < LAST_TXN → IsSame (drawn_contents (contents_of e.engine)) (contents_of n) →
-        IsUnchanged e.engine.trees.log n.trees.log → AreSameCells e.engine.trees n.trees → (st.fault ≡ None → KnowsDatabases st n.kept) → StandsAt most observable history (with_engine e n) (with_alone (drawn_alone (alone_of st)) st)
+    pub drawn_same : (most : ℕ) (e : Environment D) (n : Engine D) (st : Standing) → StandsAt most meaning e st → e.engine.kept.last_txn < LAST_TXN → IsSame (drawn_contents (contents_of e.engine)) (contents_of n) →
+        IsUnchanged e.engine.trees.log n.trees.log → AreSameCells e.engine.trees n.trees → (st.fault ≡ None → KnowsDatabases st n.kept) → StandsAt most meaning (with_engine e n) (with_alone (drawn_alone (alone_of st)) st)
     drawn_same most e n st at below same log cells knows =
         let p : Alone = alone_of st in
-        let state : State = now (history (disk_below e.engine.trees.log)) in
+        let state : State = now (meaning.history (disk_below e.engine.trees.log)) in
         let left : nat_lt st.last_txn LAST_TXN ≡ true = ap (λ (x : ℕ). nat_lt x LAST_TXN) (sym at.last_txn) ∙ lt-ltb e.engine.kept.last_txn LAST_TXN below in
         let next = next_is st.last_txn left in
         stands_on most e n st (drawn_alone p) at at.sessions_at
-        (same_at observable history sync_out read_out read_of most e.engine.trees.log n.trees.log (drawn_contents (contents_of e.engine)) (contents_of n) (drawn_alone p)
-        (drawn_alone_at observable history sync_out read_out read_of most state e.engine.trees.log (contents_of e.engine) p (alone_at most observable history e st at) below) same log)
+        (same_at meaning most e.engine.trees.log n.trees.log (drawn_contents (contents_of e.engine)) (contents_of n) (drawn_alone p)
+        (drawn_alone_at meaning most state e.engine.trees.log (contents_of e.engine) p (alone_at most meaning e st at) below) same log)
         knows
         (λ none. valid_same e.engine.trees.log n.trees.log (cells_of e.engine.trees) (cells_of n.trees) (has_tree_of e.engine.trees) (has_tree_of n.trees) (fitting e.engine.trees) (fitting n.trees) e.engine.kept.since n.kept.since e.written.by_txn.entries (record st { last_txn = next_txn st.last_txn }) log cells.cells cells.made same.fits (ap (λ (k : Checkpoints). k.since) same.checkpoints)
-        (valid_drawn observable state e.engine.trees.log (cells_of e.engine.trees) (has_tree_of e.engine.trees) (fitting e.engine.trees) e.engine.kept.since e.written.by_txn.entries st (next_txn st.last_txn) (omega (arith, next)) (at.valid none)))
+        (valid_drawn meaning.observable state e.engine.trees.log (cells_of e.engine.trees) (has_tree_of e.engine.trees) (fitting e.engine.trees) e.engine.kept.since e.written.by_txn.entries st (next_txn st.last_txn) (omega (arith, next)) (at.valid none)))
 
-    pub undrawn_same : (most : ℕ) (e : Environment D) (n : Engine D) (st : Standing) → StandsAt most observable history e st → IsSame (contents_of e.engine) (contents_of n) →
-        IsUnchanged e.engine.trees.log n.trees.log → AreSameCells e.engine.trees n.trees → (st.fault ≡ None → KnowsDatabases st n.kept) → StandsAt most observable history (with_engine e n) st
+    pub undrawn_same : (most : ℕ) (e : Environment D) (n : Engine D) (st : Standing) → StandsAt most meaning e st → IsSame (contents_of e.engine) (contents_of n) →
+        IsUnchanged e.engine.trees.log n.trees.log → AreSameCells e.engine.trees n.trees → (st.fault ≡ None → KnowsDatabases st n.kept) → StandsAt most meaning (with_engine e n) st
     undrawn_same most e n st at same log cells knows =
         stands_on most e n st (alone_of st) at at.sessions_at
-        (same_at observable history sync_out read_out read_of most e.engine.trees.log n.trees.log (contents_of e.engine) (contents_of n) (alone_of st) (alone_at most observable history e st at) same log)
+        (same_at meaning most e.engine.trees.log n.trees.log (contents_of e.engine) (contents_of n) (alone_of st) (alone_at most meaning e st at) same log)
         knows
         (λ none. valid_same e.engine.trees.log n.trees.log (cells_of e.engine.trees) (cells_of n.trees) (has_tree_of e.engine.trees) (has_tree_of n.trees) (fitting e.engine.trees) (fitting n.trees) e.engine.kept.since n.kept.since e.written.by_txn.entries st log cells.cells cells.made same.fits (ap (λ (k : Checkpoints). k.since) same.checkpoints) (at.valid none))
 
     -- ---- what is recovered
 
-    module _ (most : ℕ) (e : Environment D) (st : Standing) (session : ℕ) (call : Call) (planned : PlannedChanges) (at : StandsAt most observable history e st) (none : st.fault ≡ None)
+    module _ (most : ℕ) (e : Environment D) (st : Standing) (session : ℕ) (call : Call) (planned : PlannedChanges) (at : StandsAt most meaning e st) (none : st.fault ≡ None)
         (log : IsPlannedLog (known (contents_of e.engine)) (alone_of st) session call planned) (low : planned.last_db ≤ LAST_DATABASE) where
       pub are_of : ArePlanned (committed (cells_of e.engine.trees)) e.engine.kept.last_db log.change log.more planned.changes.items planned.gone
       are_of = are_planned (contents_of e.engine) (alone_of st) session call planned
-          (sound_at most observable (now (history (disk_below e.engine.trees.log))) e.engine.trees.log (contents_of e.engine) (alone_of st) (alone_at most observable history e st at) none) log (omega (arith, low))
+          (sound_at most meaning.observable (now (meaning.history (disk_below e.engine.trees.log))) e.engine.trees.log (contents_of e.engine) (alone_of st) (alone_at most meaning e st at) none) log (omega (arith, low))
 
       pub leaves_of : LeavesRows (committed (cells_of e.engine.trees)) (rows_after planned.changes.items planned.gone (committed (cells_of e.engine.trees))) e.engine.kept.last_db (log.change ∷ log.more) planned.changes.items planned.gone
       leaves_of = planned_rows (committed (cells_of e.engine.trees)) e.engine.kept.last_db log.change log.more planned.changes.items planned.gone are_of
@@ -410,14 +411,14 @@ module _ {D : Type 0} where
       pub gives_of : GivesRecords (at.valid none).log (end_of e.engine.trees.log) (contents_of e.engine)
       gives_of = gives_without (at.valid none).log e st at.last_txn at.last_db (at.valid none).gives
 
-      given_of : HasGiven observable history e.engine.trees.log (at.valid none).log (committed (cells_of e.engine.trees)) e.engine.kept.last_txn e.engine.kept.last_db (λ t. false) (λ t. [])
+      given_of : HasGiven meaning e.engine.trees.log (at.valid none).log (committed (cells_of e.engine.trees)) e.engine.kept.last_txn e.engine.kept.last_db (λ t. false) (λ t. [])
       given_of = record { has = (at.valid none).has; gives = gives_with_none (at.valid none).log (end_of e.engine.trees.log) (contents_of e.engine) gives_of }
 
       -- the log got the entries, or tried them
-      pub logged_step : (n : Engine D) → HasAppended observable history sync_out read_out read_of e.engine.trees.log n.trees.log (txn_of (e.engine.kept.last_txn + 1)) planned.changes.items →
-          IsCallStep observable history sync_out read_out read_of false e.engine n.trees.log ((log.change ∷ log.more) ∷ []) ((log.change ∷ log.more) ∷ [])
+      pub logged_step : (n : Engine D) → HasAppended meaning e.engine.trees.log n.trees.log (txn_of (e.engine.kept.last_txn + 1)) planned.changes.items →
+          IsCallStep meaning false e.engine n.trees.log ((log.change ∷ log.more) ∷ []) ((log.change ∷ log.more) ∷ [])
       logged_step n a =
-          let added : HasAdded observable history sync_out read_out read_of e.engine.trees.log n.trees.log (LogsTransaction (txn_of (e.engine.kept.last_txn + 1)) planned.changes.items) =
+          let added : HasAdded meaning e.engine.trees.log n.trees.log (LogsTransaction (txn_of (e.engine.kept.last_txn + 1)) planned.changes.items) =
           record { entries = a.entries; logs = a.logs; grew = a.grew; room = record { max = e.engine.trees.log.max; entries_are = a.fits.entries_are; room = a.fits.room } } in
           inr (
             txn_of (e.engine.kept.last_txn + 1),
@@ -425,7 +426,7 @@ module _ {D : Type 0} where
               grown = record {
                 entries = a.entries;
                 grew = a.grew;
-                recovers = commit_recovered_in observable history sync_out read_out read_of (at.valid none).log e.engine.trees.log n.trees.log (committed (cells_of e.engine.trees))
+                recovers = commit_recovered_in meaning (at.valid none).log e.engine.trees.log n.trees.log (committed (cells_of e.engine.trees))
                     (rows_after planned.changes.items planned.gone (committed (cells_of e.engine.trees))) e.engine.kept.last_txn e.engine.kept.last_db (e.engine.kept.last_db + made_by (log.change ∷ log.more)) (λ t. false) (λ t. [])
                     (λ d. is_gone d planned.gone) (txn_of (e.engine.kept.last_txn + 1)) [] planned.changes.items (log.change ∷ log.more) given_of may_of leaves_of.store added;
               };
@@ -435,15 +436,15 @@ module _ {D : Type 0} where
             },
           )
 
-      pub tried_step : (n : Engine D) → HasTried observable history sync_out read_out read_of e.engine.trees.log n.trees.log (txn_of (e.engine.kept.last_txn + 1)) planned.changes.items →
-          IsCallStep observable history sync_out read_out read_of true e.engine n.trees.log ((log.change ∷ log.more) ∷ []) ((log.change ∷ log.more) ∷ [])
+      pub tried_step : (n : Engine D) → HasTried meaning e.engine.trees.log n.trees.log (txn_of (e.engine.kept.last_txn + 1)) planned.changes.items →
+          IsCallStep meaning true e.engine n.trees.log ((log.change ∷ log.more) ∷ []) ((log.change ∷ log.more) ∷ [])
       tried_step n a =
-          let failed : HasFailed observable history sync_out read_out read_of e.engine.trees.log n.trees.log (LogsTransaction (txn_of (e.engine.kept.last_txn + 1)) planned.changes.items) =
+          let failed : HasFailed meaning e.engine.trees.log n.trees.log (LogsTransaction (txn_of (e.engine.kept.last_txn + 1)) planned.changes.items) =
           record { entries = a.entries; front = a.front; logs = a.logs; is_front = a.is_front; tried = a.tried; room = record { max = e.engine.trees.log.max; entries_are = a.fits.entries_are; room = a.fits.room } } in
           record {
             front = a.front;
             tried = a.tried;
-            recovers = tried_commit_recovered_in observable history sync_out read_out read_of (at.valid none).log e.engine.trees.log n.trees.log (committed (cells_of e.engine.trees))
+            recovers = tried_commit_recovered_in meaning (at.valid none).log e.engine.trees.log n.trees.log (committed (cells_of e.engine.trees))
                 (rows_after planned.changes.items planned.gone (committed (cells_of e.engine.trees))) e.engine.kept.last_txn e.engine.kept.last_db (e.engine.kept.last_db + made_by (log.change ∷ log.more)) (λ t. false) (λ t. [])
                 (λ d. is_gone d planned.gone) (txn_of (e.engine.kept.last_txn + 1)) [] planned.changes.items (log.change ∷ log.more) given_of may_of leaves_of.store failed;
           }
@@ -460,53 +461,53 @@ module _ {D : Type 0} where
           (subst (λ (m : List Change). ArePlanned (committed (cells_of e.engine.trees)) e.engine.kept.last_db log.change m planned.changes.items planned.gone) (one.1 other) are_of)
 
       apart_of : (fills : Bool) → is_index log.change ≡ fills → (fills ≡ true → IsPlannedFill planned) → ChangesCatalog call → AreApart st.own planned.changes.items
-      apart_of true index fill is = apart_index most observable history e st session call planned at none log index (fill refl) low
-      apart_of false other fill is = apart_plain most observable history e st session call planned at none is log other
+      apart_of true index fill is = apart_index most meaning e st session call planned at none log index (fill refl) low
+      apart_of false other fill is = apart_plain most meaning e st session call planned at none is log other
 
       -- it is valid afterwards
       valid_logged : (fills : Bool) → is_index log.change ≡ fills → (fills ≡ true → IsPlannedFill planned) → (n : Engine D) → AreSound st → ChangesCatalog call → IsFreeToChange st call → e.engine.kept.last_txn < LAST_TXN →
           HasLogged (contents_of e.engine) (contents_of n) planned → LeavesOthers e.engine.trees n.trees planned (owing st + 1) →
-          (a : HasAppended observable history sync_out read_out read_of e.engine.trees.log n.trees.log (txn_of (e.engine.kept.last_txn + 1)) planned.changes.items) →
-          CarriesTrees observable history sync_out read_out read_of e.engine.trees.log a.entries (contents_of e.engine) (contents_of n) →
-          IsValidWith observable (now (history (disk_below n.trees.log))) n.trees.log (cells_of n.trees) (has_tree_of n.trees) (fitting n.trees) n.kept.since e.written.by_txn.entries (with_alone (committed_alone (log.change ∷ log.more) (drawn_alone (alone_of st))) st)
+          (a : HasAppended meaning e.engine.trees.log n.trees.log (txn_of (e.engine.kept.last_txn + 1)) planned.changes.items) →
+          CarriesTrees meaning e.engine.trees.log a.entries (contents_of e.engine) (contents_of n) →
+          IsValidWith meaning.observable (now (meaning.history (disk_below n.trees.log))) n.trees.log (cells_of n.trees) (has_tree_of n.trees) (fitting n.trees) n.kept.since e.written.by_txn.entries (with_alone (committed_alone (log.change ∷ log.more) (drawn_alone (alone_of st))) st)
       valid_logged fills kind fill n sound is free below has leaves a carries =
           let p : Alone = alone_of st in
           let c : Contents = contents_of e.engine in
           let rows : Rows = committed (cells_of e.engine.trees) in
           let v = at.valid none in
           let one = one_planned (known c) p session call planned is log in
-          let added : HasAdded observable history sync_out read_out read_of e.engine.trees.log n.trees.log (LogsTransaction (txn_of (e.engine.kept.last_txn + 1)) planned.changes.items) =
+          let added : HasAdded meaning e.engine.trees.log n.trees.log (LogsTransaction (txn_of (e.engine.kept.last_txn + 1)) planned.changes.items) =
           record { entries = a.entries; logs = a.logs; grew = a.grew; room = record { max = e.engine.trees.log.max; entries_are = a.fits.entries_are; room = a.fits.room } } in
           let left : nat_lt st.last_txn LAST_TXN ≡ true = ap (λ (x : ℕ). nat_lt x LAST_TXN) (sym at.last_txn) ∙ lt-ltb e.engine.kept.last_txn LAST_TXN below in
           let are : ArePlanned rows st.last_db log.change log.more planned.changes.items planned.gone =
           subst (λ (x : ℕ). ArePlanned rows x log.change log.more planned.changes.items planned.gone) at.last_db are_of in
           let catalog : rows_after planned.changes.items planned.gone rows 0 ≡ rows_changed (row_changes 0 st.last_db log.change rows) rows 0 =
           catalog_of fills kind fill is ∙ ap (λ (x : ℕ). rows_changed (row_changes 0 x log.change rows) rows 0) at.last_db in
-          logged_valid observable history sync_out read_out read_of e.engine.trees.log n.trees.log (cells_of e.engine.trees) (cells_of n.trees) (has_tree_of e.engine.trees) (has_tree_of n.trees) (fitting e.engine.trees) (fitting n.trees) e.engine.kept.since n.kept.since e.written.by_txn.entries st
+          logged_valid meaning e.engine.trees.log n.trees.log (cells_of e.engine.trees) (cells_of n.trees) (has_tree_of e.engine.trees) (has_tree_of n.trees) (fitting e.engine.trees) (fitting n.trees) e.engine.kept.since n.kept.since e.written.by_txn.entries st
           (with_alone (committed_alone (log.change ∷ log.more) (drawn_alone p)) st) (txn_of (e.engine.kept.last_txn + 1)) log.change log.more planned.changes.items planned.gone v are catalog (apart_of fills kind fill is)
           sound.numbers (next_is st.last_txn left) (ap (λ (x : ℕ). x + 1) at.last_txn)
           (λ u. elsewhere_of rows st call log.change u v.makes.named sound free one.0) added carries (ap (λ (k : Checkpoints). k.since) has.checkpoints) (fun_ext has.rows) leaves.writes
           (trees_logged c (contents_of n) p session call planned (has_tree_of e.engine.trees) (has_tree_of n.trees)
-          (sound_at most observable (now (history (disk_below e.engine.trees.log))) e.engine.trees.log c p (alone_at most observable history e st at) none) log (omega (arith, low)) has v.made leaves.trees)
+          (sound_at most meaning.observable (now (meaning.history (disk_below e.engine.trees.log))) e.engine.trees.log c p (alone_at most meaning e st at) none) log (omega (arith, low)) has v.made leaves.trees)
           (λ x owed. subst (λ (k : ℕ). HasRoomFor n.trees.log (commit_sizes k)) owed (leaves.room (owing st) (omega arith)))
-          (store_on observable history sync_out read_out read_of e.engine.trees.log n.trees.log v.log c log.change log.more planned
-          (may_grow observable (now (history (disk_below e.engine.trees.log))) e.engine.trees.log v.log c p session call planned v.has gives_of log (omega (arith, low))) a st.store v.recovers)
+          (store_on meaning e.engine.trees.log n.trees.log v.log c log.change log.more planned
+          (may_grow meaning.observable (now (meaning.history (disk_below e.engine.trees.log))) e.engine.trees.log v.log c p session call planned v.has gives_of log (omega (arith, low))) a st.store v.recovers)
           refl
 
     -- ---- how it comes out
 
     pub within_below : (e : Environment D) (n : Engine D) (p : Alone) (session : ℕ) (call : Call) (planned : PlannedChanges) (found : Option TreeErr) (answer : Answer) → p.fault ≡ None → IsAutoCommitted call →
         (log : IsPlannedLog (known (contents_of e.engine)) p session call planned) →
-        LogsChanges observable history sync_out read_out read_of e.engine.trees.log n.trees.log (contents_of e.engine) (contents_of n) planned found (Ok answer) →
+        LogsChanges meaning e.engine.trees.log n.trees.log (contents_of e.engine) (contents_of n) planned found (Ok answer) →
         EndsNear e.engine.trees n.trees (length planned.changes.items) (Ok answer) → has_failed e.engine.trees.log ≡ false →
         IsWithin (reach_of (with_engine e n)) (reach_after (reach_of e) (log.change ∷ log.more))
     within_below e n p session call planned found answer none is log logs near works =
         near_env e n (log.change ∷ log.more) works
         (subst (λ (cs : List Change). IsWithin (reach_below n) (reach_after (reach_below e.engine) cs)) (alone_changes p session call none is ∙ log.changes)
-        (logs_grow observable history sync_out read_out read_of e.engine n p session call planned found (Ok answer) none is log logs near))
+        (logs_grow meaning e.engine n p session call planned found (Ok answer) none is log logs near))
 
     module _ (most : ℕ) (e : Environment D) (st : Standing) (session line : ℕ) (call : Call) (fills : Bool) (planned : PlannedChanges) (is : ChangesCatalog call) (early : early_refusal st session call ≡ None) (sound : AreSound st)
-        (free : IsFreeToChange st call) (at : StandsAt most observable history e st) (none : st.fault ≡ None) (below : e.engine.kept.last_txn < LAST_TXN)
+        (free : IsFreeToChange st call) (at : StandsAt most meaning e st) (none : st.fault ≡ None) (below : e.engine.kept.last_txn < LAST_TXN)
         (its : IsPlannedAs (known (contents_of e.engine)) (alone_of st) session call fills planned) where
       abbrev log : IsPlannedLog (known (contents_of e.engine)) (alone_of st) session call planned
       log = its.log
@@ -516,14 +517,14 @@ module _ {D : Type 0} where
 
       -- an answer of the engine
       comes_by : (n : Engine D) (answer : Answer) (after : Alone) →
-          LogsChanges observable history sync_out read_out read_of e.engine.trees.log n.trees.log (contents_of e.engine) (contents_of n) planned (limit_found fills e.engine.trees planned.changes.items (owing st + 1)) (Ok answer) →
+          LogsChanges meaning e.engine.trees.log n.trees.log (contents_of e.engine) (contents_of n) planned (limit_found fills e.engine.trees planned.changes.items (owing st + 1)) (Ok answer) →
           EndsNear e.engine.trees n.trees (length planned.changes.items) (Ok answer) →
-          EndsAlone limit_of (alone_of st) session call answer after → StandsAt most observable history (with_engine e n) (with_alone after st) → IsNumbered answer after.commits →
+          EndsAlone limit_of (alone_of st) session call answer after → StandsAt most meaning (with_engine e n) (with_alone after st) → IsNumbered answer after.commits →
           after.fault ≡ cond (is_disk_fault answer) (Some Disk) None →
-          IsCallStep observable history sync_out read_out read_of (is_disk_fault answer) e.engine n.trees.log (tried (log.change ∷ log.more) (fate_of answer)) (tried (log.change ∷ log.more) (fate_of answer)) →
-          HasCome observable history sync_out read_out read_of most e (with_engine e n) st session line call answer []
+          IsCallStep meaning (is_disk_fault answer) e.engine n.trees.log (tried (log.change ∷ log.more) (fate_of answer)) (tried (log.change ∷ log.more) (fate_of answer)) →
+          HasCome meaning most e (with_engine e n) st session line call answer []
       comes_by n answer after logs near ends here numbered fault step =
-          come_alone observable history sync_out read_out read_of most e (with_engine e n) st session line call answer (log.change ∷ log.more) limit_of after is early none log.changes (λ late. free)
+          come_alone meaning most e (with_engine e n) st session line call answer (log.change ∷ log.more) limit_of after is early none log.changes (λ late. free)
           (has_limit_as e (owing st + 1) (alone_of st) session call fills planned its) ends here numbered fault step
           (within_below e n (alone_of st) session call planned (limit_found fills e.engine.trees planned.changes.items (owing st + 1)) answer none (auto_is call is) log logs near (at.valid none).works)
 
@@ -548,12 +549,12 @@ module _ {D : Type 0} where
           (followed rows st.last_db st v.makes call log.change one.0 may (plain_for rows st session call log.change log.more v.makes one.0 log.changes))) follow
 
       model_at : HasModel (known (contents_of e.engine)) (alone_of st)
-      model_at = model most observable (now (history (disk_below e.engine.trees.log))) e.engine.trees.log (contents_of e.engine) (alone_of st) (alone_at most observable history e st at) none below
+      model_at = model most meaning.observable (now (meaning.history (disk_below e.engine.trees.log))) e.engine.trees.log (contents_of e.engine) (alone_of st) (alone_at most meaning e st at) none below
 
       comes_logged : (n : Engine D) (commit : ℕ) →
-          LogsChanges observable history sync_out read_out read_of e.engine.trees.log n.trees.log (contents_of e.engine) (contents_of n) planned (limit_found fills e.engine.trees planned.changes.items (owing st + 1)) (Ok (Logged commit)) →
+          LogsChanges meaning e.engine.trees.log n.trees.log (contents_of e.engine) (contents_of n) planned (limit_found fills e.engine.trees planned.changes.items (owing st + 1)) (Ok (Logged commit)) →
           EndsNear e.engine.trees n.trees (length planned.changes.items) (Ok (Logged commit)) → LeavesOthers e.engine.trees n.trees planned (owing st + 1) →
-          FollowsCall st call n.kept (Ok (Logged commit)) → HasCome observable history sync_out read_out read_of most e (with_engine e n) st session line call (Logged commit) []
+          FollowsCall st call n.kept (Ok (Logged commit)) → HasCome meaning most e (with_engine e n) st session line call (Logged commit) []
       comes_logged n commit logs near leaves follows =
           let p : Alone = alone_of st in
           let after : Alone = committed_alone (log.change ∷ log.more) (drawn_alone p) in
@@ -567,15 +568,15 @@ module _ {D : Type 0} where
           record { actives = s.actives; own = s.own; places = cursors_alone limit_of after st session line call (Logged commit) is early none (λ late. free) ends e.sessions.cursors s.places; waiting = s.waiting; locks = s.locks } in
           comes_by n (Logged commit) after logs near ends
           (stands_on most e n st after at sessions
-          (logged_at observable history sync_out read_out read_of most e.engine.trees.log n.trees.log (contents_of e.engine) (contents_of n) p session call planned (alone_at most observable history e st at) none below log logs.2 logs.1 logs.4 logs.5)
+          (logged_at meaning most e.engine.trees.log n.trees.log (contents_of e.engine) (contents_of n) p session call planned (alone_at most meaning e st at) none below log logs.2 logs.1 logs.4 logs.5)
           (λ valid. knows_logged n logs.2 logs.1 (valid_logged most e st session call planned at none log logs.2 fills its.kind its.fill n sound is free below logs.1 leaves logs.4 logs.5).makes follows)
           (λ valid. valid_logged most e st session call planned at none log logs.2 fills its.kind its.fill n sound is free below logs.1 leaves logs.4 logs.5))
           number none (logged_step most e st session call planned at none log logs.2 n logs.4)
 
       comes_full : (n : Engine D) →
-          LogsChanges observable history sync_out read_out read_of e.engine.trees.log n.trees.log (contents_of e.engine) (contents_of n) planned (limit_found fills e.engine.trees planned.changes.items (owing st + 1)) (Ok LogFull) →
+          LogsChanges meaning e.engine.trees.log n.trees.log (contents_of e.engine) (contents_of n) planned (limit_found fills e.engine.trees planned.changes.items (owing st + 1)) (Ok LogFull) →
           EndsNear e.engine.trees n.trees (length planned.changes.items) (Ok LogFull) → AreSameCells e.engine.trees n.trees → KnowsDatabases st n.kept →
-          HasCome observable history sync_out read_out read_of most e (with_engine e n) st session line call LogFull []
+          HasCome meaning most e (with_engine e n) st session line call LogFull []
       comes_full n logs near same knows =
           let p : Alone = alone_of st in
           comes_by n LogFull (drawn_alone p) logs near
@@ -583,9 +584,9 @@ module _ {D : Type 0} where
           (drawn_same most e n st at below logs.1 logs.2 same (λ calm. knows)) tt none (inl (logs.2, refl, refl))
 
       comes_ended : (n : Engine D) →
-          LogsChanges observable history sync_out read_out read_of e.engine.trees.log n.trees.log (contents_of e.engine) (contents_of n) planned (limit_found fills e.engine.trees planned.changes.items (owing st + 1)) (Ok IdsEnded) →
+          LogsChanges meaning e.engine.trees.log n.trees.log (contents_of e.engine) (contents_of n) planned (limit_found fills e.engine.trees planned.changes.items (owing st + 1)) (Ok IdsEnded) →
           EndsNear e.engine.trees n.trees (length planned.changes.items) (Ok IdsEnded) → AreSameCells e.engine.trees n.trees → KnowsDatabases st n.kept → e.engine.kept.last_db ≤ LAST_DATABASE →
-          HasCome observable history sync_out read_out read_of most e (with_engine e n) st session line call IdsEnded []
+          HasCome meaning most e (with_engine e n) st session line call IdsEnded []
       comes_ended n logs near same knows few =
           comes_by n IdsEnded (drawn_alone (alone_of st)) logs near (by_limit logs.0) (drawn_same most e n st at below logs.1 logs.2 same (λ calm. knows)) tt none (inl (logs.2, refl, refl))
         where
@@ -596,25 +597,25 @@ module _ {D : Type 0} where
               (ids_ends (known (contents_of e.engine)) (alone_of st) session call planned none (auto_is call is) model_at log few past.1)
 
       comes_failed : (n : Engine D) →
-          LogsChanges observable history sync_out read_out read_of e.engine.trees.log n.trees.log (contents_of e.engine) (contents_of n) planned (limit_found fills e.engine.trees planned.changes.items (owing st + 1)) (Ok DiskFault) →
+          LogsChanges meaning e.engine.trees.log n.trees.log (contents_of e.engine) (contents_of n) planned (limit_found fills e.engine.trees planned.changes.items (owing st + 1)) (Ok DiskFault) →
           EndsNear e.engine.trees n.trees (length planned.changes.items) (Ok DiskFault) →
-          HasCome observable history sync_out read_out read_of most e (with_engine e n) st session line call DiskFault []
+          HasCome meaning most e (with_engine e n) st session line call DiskFault []
       comes_failed n logs near =
           let p : Alone = alone_of st in
           comes_by n DiskFault (faulted_alone p) logs near
           (subst (λ (l : Option Answer). EndsAlone l p session call DiskFault (faulted_alone p)) (sym logs.2)
           (fault_ends (known (contents_of e.engine)) p session call planned none (auto_is call is) model_at log logs.1))
           (stands_on most e n st (faulted_alone p) at (sessions_faulted e.sessions st st.begun at.sessions_at)
-          (faulted_at most observable (now (history (disk_below e.engine.trees.log))) (now (history (disk_below n.trees.log))) e.engine.trees.log n.trees.log (contents_of e.engine) (contents_of n) p p.begun
-          (alone_at most observable history e st at) logs.0 logs.3.tried.max)
+          (faulted_at most meaning.observable (now (meaning.history (disk_below e.engine.trees.log))) (now (meaning.history (disk_below n.trees.log))) e.engine.trees.log n.trees.log (contents_of e.engine) (contents_of n) p p.begun
+          (alone_at most meaning e st at) logs.0 logs.3.tried.max)
           (λ valid. absurd cc)
           (λ valid. absurd cc))
           tt refl (tried_step most e st session call planned at none log logs.1 n logs.3)
 
       pub comes_out : (n : Engine D) (result : Result Answer AllocError) →
-          LogsChanges observable history sync_out read_out read_of e.engine.trees.log n.trees.log (contents_of e.engine) (contents_of n) planned (limit_found fills e.engine.trees planned.changes.items (owing st + 1)) result →
+          LogsChanges meaning e.engine.trees.log n.trees.log (contents_of e.engine) (contents_of n) planned (limit_found fills e.engine.trees planned.changes.items (owing st + 1)) result →
           EndsNear e.engine.trees n.trees (length planned.changes.items) result → LeavesCells e.engine.trees n.trees planned (owing st + 1) result → FollowsCall st call n.kept result → e.engine.kept.last_db ≤ LAST_DATABASE →
-          ComesToAnswer observable history sync_out read_out read_of most e (with_engine e n) st session line call result
+          ComesToAnswer meaning most e (with_engine e n) st session line call result
       comes_out n (Ok (Logged commit)) logs near leaves follows few = comes_logged n commit logs near leaves follows
       comes_out n (Ok LogFull) logs near leaves follows few = comes_full n logs near leaves (knows_still follows)
       comes_out n (Ok IdsEnded) logs near leaves follows few = comes_ended n logs near leaves (knows_still follows) few
@@ -637,61 +638,61 @@ module _ {D : Type 0} where
               record { file = omega (arith, file); node = omega (arith, node) }
 
     -- the call by what the engine logged
-    pub logs_performs : (faults : D → ℕ) (e : Environment D) (n : Engine D) (session owed : ℕ) (call : Call) (fills : Bool) (planned : PlannedChanges) (result : Result Answer AllocError) → ChangesCatalog call → e.engine.kept.fault ≡ None →
+    pub logs_performs : (e : Environment D) (n : Engine D) (session owed : ℕ) (call : Call) (fills : Bool) (planned : PlannedChanges) (result : Result Answer AllocError) → ChangesCatalog call → e.engine.kept.fault ≡ None →
         e.engine.kept.last_txn < LAST_TXN → e.engine.kept.last_db ≤ LAST_DATABASE →
         ((p : Alone) (s : ℕ) → HasModel (known (contents_of e.engine)) p → IsPlannedAs (known (contents_of e.engine)) p s call fills planned) →
-        ((most : ℕ) (st : Standing) → StandsAt most observable history e st → AreSound st → IsFreeToChange st call) →
+        ((most : ℕ) (st : Standing) → StandsAt most meaning e st → AreSound st → IsFreeToChange st call) →
         ((st : Standing) → AreSessionsAt e.sessions st → owed ≡ owing st + 1) →
-        ((most : ℕ) × (st : Standing) × StandsAt most observable history e st × AreSound st × (early_refusal st session call ≡ None)) →
-        LogsChanges observable history sync_out read_out read_of e.engine.trees.log n.trees.log (contents_of e.engine) (contents_of n) planned (limit_found fills e.engine.trees planned.changes.items owed) result →
+        ((most : ℕ) × (st : Standing) × StandsAt most meaning e st × AreSound st × (early_refusal st session call ≡ None)) →
+        LogsChanges meaning e.engine.trees.log n.trees.log (contents_of e.engine) (contents_of n) planned (limit_found fills e.engine.trees planned.changes.items owed) result →
         EndsNear e.engine.trees n.trees (length planned.changes.items) result → LeavesCells e.engine.trees n.trees planned owed result →
-        ((most : ℕ) (st : Standing) → StandsAt most observable history e st → FollowsCall st call n.kept result) → CanGoOn (with_engine e n) →
-        HasStepCause (faults (disk_below e.engine.trees.log)) (faults (disk_below n.trees.log)) result →
-        PerformsAnswer observable history sync_out read_out read_of faults e (with_engine e n) session call result
-    logs_performs faults e n session owed call fills planned result is valid below few plan free owed_is there logs near leaves follows bounds cause = record {
+        ((most : ℕ) (st : Standing) → StandsAt most meaning e st → FollowsCall st call n.kept result) → CanGoOn (with_engine e n) →
+        HasStepCause (meaning.faults (disk_below e.engine.trees.log)) (meaning.faults (disk_below n.trees.log)) result →
+        PerformsAnswer meaning e (with_engine e n) session call result
+    logs_performs e n session owed call fills planned result is valid below few plan free owed_is there logs near leaves follows bounds cause = record {
       comes = comes;
       near = near_of result (comes there.0 there.1 0 there.2 there.3 there.4);
       bounds = bounds;
       cause = cause;
     }
       where
-        comes : (most : ℕ) (st : Standing) (line : ℕ) → StandsAt most observable history e st → AreSound st → early_refusal st session call ≡ None →
-            ComesToAnswer observable history sync_out read_out read_of most e (with_engine e n) st session line call result
+        comes : (most : ℕ) (st : Standing) (line : ℕ) → StandsAt most meaning e st → AreSound st → early_refusal st session call ≡ None →
+            ComesToAnswer meaning most e (with_engine e n) st session line call result
         comes most st line at sound early =
             let none : st.fault ≡ None = sym at.fault ∙ valid in
             let owed_ : owed ≡ owing st + 1 = owed_is st at.sessions_at in
             comes_out most e st session line call fills planned is early sound (free most st at sound) at none below
-            (plan (alone_of st) session (model most observable (now (history (disk_below e.engine.trees.log))) e.engine.trees.log (contents_of e.engine) (alone_of st) (alone_at most observable history e st at) none below)) n result
-            (subst (λ (x : ℕ). LogsChanges observable history sync_out read_out read_of e.engine.trees.log n.trees.log (contents_of e.engine) (contents_of n) planned (limit_found fills e.engine.trees planned.changes.items x) result) owed_ logs)
+            (plan (alone_of st) session (model most meaning.observable (now (meaning.history (disk_below e.engine.trees.log))) e.engine.trees.log (contents_of e.engine) (alone_of st) (alone_at most meaning e st at) none below)) n result
+            (subst (λ (x : ℕ). LogsChanges meaning e.engine.trees.log n.trees.log (contents_of e.engine) (contents_of n) planned (limit_found fills e.engine.trees planned.changes.items x) result) owed_ logs)
             near (subst (λ (x : ℕ). LeavesCells e.engine.trees n.trees planned x result) owed_ leaves) (follows most st at) few
 
-        near_of : (r : Result Answer AllocError) → ComesToAnswer observable history sync_out read_out read_of there.0 e (with_engine e n) there.1 session 0 call r → OnErr r (IsWithin (reach_of (with_engine e n)) (reach_of e))
+        near_of : (r : Result Answer AllocError) → ComesToAnswer meaning there.0 e (with_engine e n) there.1 session 0 call r → OnErr r (IsWithin (reach_of (with_engine e n)) (reach_of e))
         near_of (Ok answer) come_ = tt
         near_of (Err error) come_ = come_.near
 
     -- somebody uses its database
-    pub used_performs : (faults : D → ℕ) (e : Environment D) (session : ℕ) (call : Call) (t : TxnId) (fills : Bool) (planned : PlannedChanges) → ChangesCatalog call → e.engine.kept.last_txn < LAST_TXN → e.engine.kept.fault ≡ None → CanGoOn e →
+    pub used_performs : (e : Environment D) (session : ℕ) (call : Call) (t : TxnId) (fills : Bool) (planned : PlannedChanges) → ChangesCatalog call → e.engine.kept.last_txn < LAST_TXN → e.engine.kept.fault ≡ None → CanGoOn e →
         ((p : Alone) (s : ℕ) → HasModel (known (contents_of e.engine)) p → IsPlannedAs (known (contents_of e.engine)) p s call fills planned) →
-        ((most : ℕ) (st : Standing) → StandsAt most observable history e st → AreSound st → IsUsedBy st call t) →
-        PerformsAnswer observable history sync_out read_out read_of faults e (with_begun e (e.engine.kept.last_txn + 1) e.sessions) session call (Ok (DatabaseInUse t))
-    used_performs faults e session call t fills planned is below valid bounds plan used = record {
+        ((most : ℕ) (st : Standing) → StandsAt most meaning e st → AreSound st → IsUsedBy st call t) →
+        PerformsAnswer meaning e (with_begun e (e.engine.kept.last_txn + 1) e.sessions) session call (Ok (DatabaseInUse t))
+    used_performs e session call t fills planned is below valid bounds plan used = record {
       comes = λ most st line at sound early.
           let none : st.fault ≡ None = sym at.fault ∙ valid in
           let p : Alone = alone_of st in
           let out = outside st session call is early in
-          let its = plan p session (model most observable (now (history (disk_below e.engine.trees.log))) e.engine.trees.log (contents_of e.engine) p (alone_at most observable history e st at) none below) in
+          let its = plan p session (model most meaning.observable (now (meaning.history (disk_below e.engine.trees.log))) e.engine.trees.log (contents_of e.engine) p (alone_at most meaning e st at) none below) in
           let log = its.log in
           let alike : late_refusal st session call ≡ late_refusal (alone p) session call = late_alike st session call is out in
           let late : late_refusal st session call ≡ None = alike ∙ (logs_alone (known (contents_of e.engine)) p session call planned (auto_is call is) log).0 in
           let same : (outcome_unless (late_refusal st session call) (performed_outcome p session call)).changes ≡ log.change ∷ log.more =
           ap (λ (l : Option Answer). (outcome_unless l (performed_outcome p session call)).changes) alike ∙ log.changes in
           let limit : Option Answer = limit_by (limit_found fills e.engine.trees planned.changes.items (owing st + 1)) e.engine.kept.last_node (length planned.changes.items) in
-          come observable history sync_out read_out read_of most e (with_begun e (e.engine.kept.last_txn + 1) e.sessions) st session line call (DatabaseInUse t) (log.change ∷ log.more) limit (drawn_alone p) out
+          come meaning most e (with_begun e (e.engine.kept.last_txn + 1) e.sessions) st session line call (DatabaseInUse t) (log.change ∷ log.more) limit (drawn_alone p) out
           (written_are (late_refusal st session call) st session call is ∙ same) (committed_are (late_refusal st session call) st session call is ∙ same)
           (has_limit_as e (owing st + 1) p session call fills planned its)
           (subst (λ (l : Option Answer). IsEvaluated l limit st session line call (DatabaseInUse t) []) (sym late) (in_use_answers limit st session line call t is (used most st at sound)))
           (ap (λ (l : Option Answer). after_evaluated l st session line call (DatabaseInUse t) []) late ∙ in_use_leaves st session line call t is out)
-          (drawn_here observable history sync_out read_out read_of most e st below at) tt none (inl (same_buffer e.engine.trees.log, refl, refl))
+          (drawn_here meaning most e st below at) tt none (inl (same_buffer e.engine.trees.log, refl, refl))
           (within_more e (with_begun e (e.engine.kept.last_txn + 1) e.sessions) (log.change ∷ log.more) (record { file = omega arith; node = omega arith }));
       near = tt;
       bounds = let within : e.engine.kept.commits ≤ e.engine.kept.last_txn = bounds in omega (arith, within);
@@ -702,26 +703,26 @@ module _ {D : Type 0} where
         never_used u done = absurd cc
 
     -- the same where the call would change nothing
-    pub used_answers : (faults : D → ℕ) (e : Environment D) (session : ℕ) (call : Call) (t : TxnId) → ChangesCatalog call → e.engine.kept.last_txn < LAST_TXN → e.engine.kept.fault ≡ None → CanGoOn e →
+    pub used_answers : (e : Environment D) (session : ℕ) (call : Call) (t : TxnId) → ChangesCatalog call → e.engine.kept.last_txn < LAST_TXN → e.engine.kept.fault ≡ None → CanGoOn e →
         ((p : Alone) (s : ℕ) → HasModel (known (contents_of e.engine)) p → outcome_alone p s call ≡ answers ReadOnlyIndex) →
-        ((most : ℕ) (st : Standing) → StandsAt most observable history e st → AreSound st → IsUsedBy st call t) →
-        PerformsAnswer observable history sync_out read_out read_of faults e (with_begun e (e.engine.kept.last_txn + 1) e.sessions) session call (Ok (DatabaseInUse t))
-    used_answers faults e session call t is below valid bounds plan used = record {
+        ((most : ℕ) (st : Standing) → StandsAt most meaning e st → AreSound st → IsUsedBy st call t) →
+        PerformsAnswer meaning e (with_begun e (e.engine.kept.last_txn + 1) e.sessions) session call (Ok (DatabaseInUse t))
+    used_answers e session call t is below valid bounds plan used = record {
       comes = λ most st line at sound early.
           let none : st.fault ≡ None = sym at.fault ∙ valid in
           let p : Alone = alone_of st in
           let out = outside st session call is early in
-          let planned = plan p session (model most observable (now (history (disk_below e.engine.trees.log))) e.engine.trees.log (contents_of e.engine) p (alone_at most observable history e st at) none below) in
+          let planned = plan p session (model most meaning.observable (now (meaning.history (disk_below e.engine.trees.log))) e.engine.trees.log (contents_of e.engine) p (alone_at most meaning e st at) none below) in
           let alike : late_refusal st session call ≡ late_refusal (alone p) session call = late_alike st session call is out in
           let late : late_refusal st session call ≡ None = alike ∙ read_only_late p session call is planned in
           let same : (outcome_unless (late_refusal st session call) (performed_outcome p session call)).changes ≡ [] =
           ap (λ (l : Option Answer). (outcome_unless l (performed_outcome p session call)).changes) alike ∙ ap (λ (o : Outcome). o.changes) planned in
-          come observable history sync_out read_out read_of most e (with_begun e (e.engine.kept.last_txn + 1) e.sessions) st session line call (DatabaseInUse t) [] None (drawn_alone p) out
+          come meaning most e (with_begun e (e.engine.kept.last_txn + 1) e.sessions) st session line call (DatabaseInUse t) [] None (drawn_alone p) out
           (written_are (late_refusal st session call) st session call is ∙ same) (committed_are (late_refusal st session call) st session call is ∙ same)
           refl
           (subst (λ (l : Option Answer). IsEvaluated l None st session line call (DatabaseInUse t) []) (sym late) (in_use_answers None st session line call t is (used most st at sound)))
           (ap (λ (l : Option Answer). after_evaluated l st session line call (DatabaseInUse t) []) late ∙ in_use_leaves st session line call t is out)
-          (drawn_here observable history sync_out read_out read_of most e st below at) tt none (inl (same_buffer e.engine.trees.log, refl, refl))
+          (drawn_here meaning most e st below at) tt none (inl (same_buffer e.engine.trees.log, refl, refl))
           (within_more e (with_begun e (e.engine.kept.last_txn + 1) e.sessions) [] (record { file = omega arith; node = omega arith }));
       near = tt;
       bounds = let within : e.engine.kept.commits ≤ e.engine.kept.last_txn = bounds in omega (arith, within);

@@ -15,7 +15,8 @@ use Rattle.std.specs.Option.{option_or}
 use Rattle.std.proofs.lemmas.Bool.{cond-false, eqb-true, ne_eqb}
 use Rattle.std.proofs.lemmas.List.{reverse-append}
 use Rattle.std.proofs.lemmas.List.Folds.{find-append}
-use Rattle.je_disk.specs.Moments.{History, now}
+use Rattle.je_disk.specs.DiskMeaning.{DiskMeaning}
+use Rattle.je_disk.specs.Moments.{now}
 use Rattle.je_order.specs.Order.{name_cmp}
 use Rattle.je_order.specs.Transactions.{is_same_txn}
 use Rattle.je_order.specs.declared.name.Name.{Name}
@@ -153,29 +154,29 @@ module _ (rows : Rows) (change : Change) (planned : List TreeChange) (gone : Opt
 
 -- ---- a valid environment
 
-module _ {D : Type 0} (observable : Bool) (history : D → History) (sync_out read_out : D → Option ℕ) (read_of : D → ℕ) where
+module _ {D : Type 0} (meaning : DiskMeaning D) where
   -- a change was logged with its Commit
   pub logged_valid : (old new : LogBuffer D) (cells later : AllCells) (has_tree later_tree : ℕ → Bool) (forest later_forest : Forest) (since later_since : ℕ) (written : List (TxnId × OwnNames)) (st after : Standing) (t : TxnId) (change : Change) (more : List Change)
-      (planned : List TreeChange) (gone : Option ℕ) (v : IsValidWith observable (now (history (disk_of old))) old cells has_tree forest since written st) →
+      (planned : List TreeChange) (gone : Option ℕ) (v : IsValidWith meaning.observable (now (meaning.history (disk_of old))) old cells has_tree forest since written st) →
       ArePlanned (committed cells) st.last_db change more planned gone → rows_after planned gone (committed cells) 0 ≡ rows_changed (row_changes 0 st.last_db change (committed cells)) (committed cells) 0 →
       AreApart st.own planned → AreNumbered st.last_txn st.actives → next_txn st.last_txn ≡ st.last_txn + 1 → t.0 ≡ st.last_txn + 1 →
       ((u : ℕ) → AllByRecursion (λ (c : OwnChange). IsElsewhere (committed cells) change c.0) (st.own u)) →
-      (a : HasAdded observable history sync_out read_out read_of old new (LogsTransaction t planned)) →
-      ((log : Log) (base : ℕ) → HasLog observable (now (history (disk_of old))) old log → base ≤ pos_lsn (end_of old) → forest (placed log) base → later_forest (placed (longer old a.entries log)) base) → later_since ≡ since →
+      (a : HasAdded meaning old new (LogsTransaction t planned)) →
+      ((log : Log) (base : ℕ) → HasLog meaning.observable (now (meaning.history (disk_of old))) old log → base ≤ pos_lsn (end_of old) → forest (placed log) base → later_forest (placed (longer old a.entries log)) base) → later_since ≡ since →
       committed later ≡ rows_after planned gone (committed cells) → LeavesWrites planned gone cells later → ((db : ℕ) → later_tree db ≡ has_number (numbers_of (committed later)) db) →
       ((n : ℕ) → owing st ≡ suc n → HasRoomFor new (commit_sizes (suc n))) → RecoversStore (longer old a.entries v.log) after.store →
       after ≡ with_alone (committed_alone (change ∷ more) (drawn_alone (alone_of st))) st →
-      IsValidWith observable (now (history (disk_of new))) new later later_tree later_forest later_since written after
+      IsValidWith meaning.observable (now (meaning.history (disk_of new))) new later later_tree later_forest later_since written after
   unfolding changes_leave_log transaction_leaves_log transaction_is_given transaction_gives transaction_on still_gives
   logged_valid old new cells later has_tree later_tree forest later_forest since later_since written st after t change more planned gone v are catalog apart numbers step next elsewhere a carries since_is rows_are writes made room recovers after_is =
       let rows : Rows = committed cells in
       let leaves : LeavesRows rows (rows_after planned gone rows) st.last_db (change ∷ more) planned gone = planned_rows rows st.last_db change more planned gone are in
-      let at : IsLogAt observable history old v.log rows (active_number st.actives) st = record { given = record { has = v.has; gives = v.gives }; makes = v.makes; may = v.may } in
+      let at : IsLogAt meaning old v.log rows (active_number st.actives) st = record { given = record { has = v.has; gives = v.gives }; makes = v.makes; may = v.may } in
       let own_is : after.own ≡ st.own = ap (λ (s : Standing). s.own) after_is in
       let actives_is : after.actives ≡ st.actives = ap (λ (s : Standing). s.actives) after_is in
       let last_is : after.last_txn ≡ st.last_txn + 1 = ap (λ (s : Standing). s.last_txn) after_is ∙ step in
-      let on : IsLogAt observable history new (longer old a.entries v.log) (rows_after planned gone rows) (active_number st.actives) after =
-      changes_leave_log observable history sync_out read_out read_of old new v.log rows (active_number st.actives) (active_number st.actives) st after t change more planned gone at are
+      let on : IsLogAt meaning new (longer old a.entries v.log) (rows_after planned gone rows) (active_number st.actives) after =
+      changes_leave_log meaning old new v.log rows (active_number st.actives) (active_number st.actives) st after t change more planned gone at are
       (inr (omega (arith, next), refl)) catalog apart
       (subst (λ (own : ℕ → List OwnChange). (u : ℕ) → AllByRecursion (λ (c : OwnChange). IsElsewhere rows change c.0) (own u)) (sym own_is) elsewhere)
       (subst (λ (own : ℕ → List OwnChange). (u : ℕ) → AllByRecursion (MayBeCommitted rows) (own u)) (sym own_is) v.may)
@@ -186,7 +187,7 @@ module _ {D : Type 0} (observable : Bool) (history : D → History) (sync_out re
       (subst (λ (r : Rows). GivesRecordsWith (longer old a.entries v.log) (end_of new) r after.last_txn after.last_db (active_number st.actives) after.own) (sym rows_are) on.given.gives)
       ∙ same_under (λ (r : Rows). GivesRecordsWith (longer old a.entries v.log) (end_of new) r after.last_txn after.last_db (active_number st.actives) after.own) (λ x g. g.base) (sym rows_are) on.given.gives))
       (subst (λ (n : ℕ). Lives later_forest (longer old a.entries v.log) n (pos_lsn (end_of new)) written v.gives.base) (sym since_is)
-      (lives_on observable history sync_out read_out read_of old new v.log a.entries later_forest since v.gives.base written v.has a.grew (transaction_no_ends t planned a.entries a.logs)
+      (lives_on meaning old new v.log a.entries later_forest since v.gives.base written v.has a.grew (transaction_no_ends t planned a.entries a.logs)
       (carries v.log v.gives.base v.has (begun_with v.log (end_of old) rows st.last_txn st.last_db (active_number st.actives) st.own v.gives) v.fits) v.from
       (λ u named. transaction_no_commit u t planned a.entries (λ same. is_begun v.log (end_of old) rows st.last_txn st.last_db (active_number st.actives) st.own v.gives written (pos_lsn (end_of old)) u v.firsts named (omega (arith, next, same))) a.logs) v.firsts)) in
       record {

@@ -4,7 +4,7 @@ use Rattle.std.proofs.Common.{◌≡◌, ◌≢◌, ◌∙◌, ◌⊎◌, inl, i
 use Rattle.std.proofs.lemmas.Bool.{eq-eqb}
 use Rattle.std.proofs.lemmas.List.{append-nil, length-map}
 use Rattle.std.specs.List.{AllByRecursion}
-use Rattle.je_disk.specs.Moments.{History}
+use Rattle.je_disk.specs.DiskMeaning.{DiskMeaning}
 use Rattle.store_model.specs.declared.answer.Answer.{Answer}
 use Rattle.store_model.specs.declared.answer.Answer.TheVariants.{Logged, LogFull, IdsEnded, DiskFault}
 use Rattle.store_model.specs.declared.call.Call.{Call}
@@ -41,7 +41,8 @@ use Rattle.engine.specs.Limits.{IsWithin, reach_after}
 use Rattle.environment.specs.declared.environment.Environment.{Environment}
 use Rattle.environment.specs.declared.wrote.Wrote.{Wrote}
 use Rattle.environment.specs.declared.wrote.Wrote.TheVariants.{Done, Full, NoNumbers, Failed}
-use Rattle.environment.specs.Committing.{HasNotSettled, HasSettled, is_set}
+use Rattle.active_txns.specs.Own.{is_set}
+use Rattle.environment.specs.Committing.{HasNotSettled, HasSettled}
 use Rattle.environment.specs.Ending.{HasAbandoned}
 use Rattle.environment.specs.Limits.{owing_with}
 use Rattle.environment.specs.OwnEnds.{AreEndedBy, HasPushedAndLogged, answer_for}
@@ -96,37 +97,37 @@ module _ {D : Type 0} where
       let f1 = first.file in let n1 = first.node in let f2 = second.file in let n2 = second.node in
       record { file = omega (arith, f1, f2); node = omega (arith, n1, n2) }
 
-module _ {D : Type 0} (observable : Bool) (history : D → History) (sync_out read_out : D → Option ℕ) (read_of faults : D → ℕ) where
+module _ {D : Type 0} (meaning : DiskMeaning D) where
   -- ---- a log that grows twice
 
   longer_then : (x y : LogBuffer D) (a b : List Entry) (log : Log) → file_max_of y ≡ file_max_of x → end_of y ≡ end_after_all (file_max_of x) (end_of x) (map size_of a) → longer y b (longer x a log) ≡ longer x (a ++ b) log
   longer_then x y a b log max end = ap₂ (λ (m : ℕ) (p : LogPos). log_with_all m p b (longer x a log)) max end ∙ sym (with_all-append (file_max_of x) (end_of x) a b log)
 
-  recovers_then : (x y : LogBuffer D) (a b : List Entry) (more : List (List Change)) → Grew observable history sync_out read_out read_of x y a → RecoversWith observable history sync_out read_out read_of x a [] →
-      RecoversWith observable history sync_out read_out read_of y b more → RecoversWith observable history sync_out read_out read_of x (a ++ b) more
+  recovers_then : (x y : LogBuffer D) (a b : List Entry) (more : List (List Change)) → Grew meaning x y a → RecoversWith meaning x a [] →
+      RecoversWith meaning y b more → RecoversWith meaning x (a ++ b) more
   recovers_then x y a b more grew first second observed log has f o base ts rec =
       subst (λ (l : Log). RecoversLog f o base (ts ++ more) l) (longer_then x y a b log grew.max grew.end)
       (subst (λ (l : List (List Change)). RecoversLog f o base (l ++ more) (longer y b (longer x a log))) (append-nil ts)
       (second observed (longer x a log) (grew.log log has) f o base (ts ++ []) (first observed log has f o base ts rec)))
 
-  none_more : (x y : LogBuffer D) → IsUnchanged x y → HasGrown observable history sync_out read_out read_of x y []
+  none_more : (x y : LogBuffer D) → IsUnchanged x y → HasGrown meaning x y []
   none_more x y un = record {
     entries = [];
-    grew = grew_unchanged observable history sync_out read_out read_of x y un;
+    grew = grew_unchanged meaning x y un;
     recovers = λ observed log has f o base ts rec. subst (λ (l : List (List Change)). RecoversLog f o base l log) (sym (append-nil ts)) rec;
   }
 
-  both_grown : (x y z : LogBuffer D) (more : List (List Change)) → HasGrown observable history sync_out read_out read_of x y [] → HasGrown observable history sync_out read_out read_of y z more →
-      HasGrown observable history sync_out read_out read_of x z more
+  both_grown : (x y z : LogBuffer D) (more : List (List Change)) → HasGrown meaning x y [] → HasGrown meaning y z more →
+      HasGrown meaning x z more
   both_grown x y z more first second = record {
     entries = first.entries ++ second.entries;
-    grew = grew_then observable history sync_out read_out read_of x y z first.entries second.entries first.grew second.grew;
+    grew = grew_then meaning x y z first.entries second.entries first.grew second.grew;
     recovers = recovers_then x y first.entries second.entries more first.grew first.recovers second.recovers;
   }
 
   -- a Commit behind the entries of changes
-  committed_behind : (x : Engine D) (y z : LogBuffer D) (wrote : List (List Change)) (changes : List Change) (txn : TxnId) → HasLoggedCall observable history sync_out read_out read_of x y wrote [] txn →
-      (second : HasGrown observable history sync_out read_out read_of y z (changes ∷ [])) → second.entries ≡ Committed txn ∷ [] → HasLoggedCall observable history sync_out read_out read_of x z wrote (changes ∷ []) txn
+  committed_behind : (x : Engine D) (y z : LogBuffer D) (wrote : List (List Change)) (changes : List Change) (txn : TxnId) → HasLoggedCall meaning x y wrote [] txn →
+      (second : HasGrown meaning y z (changes ∷ [])) → second.entries ≡ Committed txn ∷ [] → HasLoggedCall meaning x z wrote (changes ∷ []) txn
   unfolding both_grown
   committed_behind x y z wrote changes txn first second is = record {
     grown = both_grown x.trees.log y z (changes ∷ []) first.grown second;
@@ -136,7 +137,7 @@ module _ {D : Type 0} (observable : Bool) (history : D → History) (sync_out re
   }
 
   -- nothing more
-  idle_then : (x : Engine D) (y z : LogBuffer D) → IsCallStep observable history sync_out read_out read_of false x y [] [] → IsUnchanged y z → IsCallStep observable history sync_out read_out read_of false x z [] []
+  idle_then : (x : Engine D) (y z : LogBuffer D) → IsCallStep meaning false x y [] [] → IsUnchanged y z → IsCallStep meaning false x z [] []
   unfolding both_grown none_more
   idle_then x y z (inl h) same = inr (txn_id 0, record { grown = both_grown x.trees.log y z [] (none_more x.trees.log y h.0) (none_more y z same); planned = []; rows = refl; logs = refl })
   idle_then x y z (inr h) same = inr (
@@ -150,24 +151,24 @@ module _ {D : Type 0} (observable : Bool) (history : D → History) (sync_out re
   )
 
   -- a log that failed was to commit more, or not
-  more_failed : (x y : LogBuffer D) (more : List (List Change)) → HasFailedWith observable history sync_out read_out read_of x y [] → HasFailedWith observable history sync_out read_out read_of x y more
+  more_failed : (x y : LogBuffer D) (more : List (List Change)) → HasFailedWith meaning x y [] → HasFailedWith meaning x y more
   more_failed x y more h = record { front = h.front; tried = h.tried; recovers = by h.recovers }
     where
-      by : RecoversWith observable history sync_out read_out read_of x h.front [] ⊎ RecoversWith observable history sync_out read_out read_of x h.front [] →
-          RecoversWith observable history sync_out read_out read_of x h.front [] ⊎ RecoversWith observable history sync_out read_out read_of x h.front more
+      by : RecoversWith meaning x h.front [] ⊎ RecoversWith meaning x h.front [] →
+          RecoversWith meaning x h.front [] ⊎ RecoversWith meaning x h.front more
       by (inl r) = inl r
       by (inr r) = inl r
 
-  both_failed : (x y z : LogBuffer D) (more : List (List Change)) → HasGrown observable history sync_out read_out read_of x y [] → HasFailedWith observable history sync_out read_out read_of y z more →
-      HasFailedWith observable history sync_out read_out read_of x z more
+  both_failed : (x y z : LogBuffer D) (more : List (List Change)) → HasGrown meaning x y [] → HasFailedWith meaning y z more →
+      HasFailedWith meaning x z more
   both_failed x y z more first h = record {
     front = first.entries ++ h.front;
-    tried = tried_then observable history sync_out read_out read_of x y z first.entries h.front first.grew h.tried;
+    tried = tried_then meaning x y z first.entries h.front first.grew h.tried;
     recovers = by h.recovers;
   }
     where
-      by : RecoversWith observable history sync_out read_out read_of y h.front [] ⊎ RecoversWith observable history sync_out read_out read_of y h.front more →
-          RecoversWith observable history sync_out read_out read_of x (first.entries ++ h.front) [] ⊎ RecoversWith observable history sync_out read_out read_of x (first.entries ++ h.front) more
+      by : RecoversWith meaning y h.front [] ⊎ RecoversWith meaning y h.front more →
+          RecoversWith meaning x (first.entries ++ h.front) [] ⊎ RecoversWith meaning x (first.entries ++ h.front) more
       by (inl r) = inl (recovers_then x y first.entries h.front [] first.grew first.recovers r)
       by (inr r) = inr (recovers_then x y first.entries h.front more first.grew first.recovers r)
 
@@ -188,12 +189,12 @@ module _ {D : Type 0} (observable : Bool) (history : D → History) (sync_out re
 
     abbrev Autos : (Bool → Standing) → Answer → Bool → Type 0
     Autos after answer is =
-        HasStepped observable history sync_out read_out read_of most before new (owing_with (Some a) st) all_ (changes_closed is all_)
+        HasStepped meaning most before new (owing_with (Some a) st) all_ (changes_closed is all_)
         (λ limit. IsLogged (log_limit limit) (cond is (Logged (st.commits + 1)) ev.answer) answer × (◌≡◌ {A = List Victim} [] [])) (after is) answer
 
     abbrev AutosOld : (Bool → Standing) → Answer → Bool → Type 0
     AutosOld after answer is =
-        HasStepped observable history sync_out read_out read_of most before old (owing_with (Some a) st) all_ (changes_closed is all_)
+        HasStepped meaning most before old (owing_with (Some a) st) all_ (changes_closed is all_)
         (λ limit. IsLogged (log_limit limit) (cond is (Logged (st.commits + 1)) ev.answer) answer × (◌≡◌ {A = List Victim} [] [])) (after is) answer
 
     abbrev Ends : (Bool → Standing) → Answer → Type 0
@@ -201,7 +202,7 @@ module _ {D : Type 0} (observable : Bool) (history : D → History) (sync_out re
 
     abbrev Up : Wrote → Type 0
     Up wrote =
-        HasStepped observable history sync_out read_out read_of most before old (owing_with (Some a) st) all_ [] (λ limit. IsLogged (log_limit limit) ev.answer (answer_for wrote ev.answer)) (standing_by st a call g ev.place cs wrote) (answer_for wrote ev.answer)
+        HasStepped meaning most before old (owing_with (Some a) st) all_ [] (λ limit. IsLogged (log_limit limit) ev.answer (answer_for wrote ev.answer)) (standing_by st a call g ev.place cs wrote) (answer_for wrote ev.answer)
 
     own_then : then_.own a.txn.0 ≡ with_numbers cs
     own_then = ap (λ (b : Bool). cond b (st.own a.txn.0 ++ with_numbers cs) (st.own a.txn.0)) (eq-eqb a.txn.0 a.txn.0 refl) ∙ ap (λ (l : Own). l ++ with_numbers cs) bare
@@ -212,25 +213,25 @@ module _ {D : Type 0} (observable : Bool) (history : D → History) (sync_out re
     named : changes_named then_ (then_.own a.txn.0) ≡ all_
     named = ap (changes_named then_) own_then ∙ names_in st cs each
 
-    pub ends_done : (records : ℕ) → Up Done → HasLoggedCall observable history sync_out read_out read_of before.engine old.engine.trees.log (all_ ∷ []) [] a.txn → HasSettled observable history sync_out read_out read_of faults old new a.session a.txn records →
+    pub ends_done : (records : ℕ) → Up Done → HasLoggedCall meaning before.engine old.engine.trees.log (all_ ∷ []) [] a.txn → HasSettled meaning old new a.session a.txn records →
         records + had_at a.txn old.written.by_txn.entries ≡ old.engine.kept.totals.records + count_by (λ (c : ℕ × RecordChange). is_set c.1) (then_.own a.txn.0) →
         Ends (λ b. closed b a all_ then_) (Logged (st.commits + 1))
     ends_done records w logs h sum = subst (Autos (λ b. closed b a all_ then_) (Logged (st.commits + 1))) (sym auto) (record {
       limit = w.limit;
       has_limit = w.has_limit;
       answers = (logged_well w.limit ev.answer (Logged (st.commits + 1)) well w.answers, refl);
-      here = subst (λ (l : List Change). StandsAt most observable history new (ended a (committed_to l then_))) named
-          (settled observable history sync_out read_out read_of faults old new then_ a records most h its some_then sum none w.here);
+      here = subst (λ (l : List Change). StandsAt most meaning new (ended a (committed_to l then_))) named
+          (settled meaning old new then_ a records most h its some_then sum none w.here);
       numbered = refl;
       fault = none;
       logged = inr (
         a.txn,
-        subst (λ (l : List Change). HasLoggedCall observable history sync_out read_out read_of before.engine new.engine.trees.log (all_ ∷ []) (l ∷ []) a.txn) named
+        subst (λ (l : List Change). HasLoggedCall meaning before.engine new.engine.trees.log (all_ ∷ []) (l ∷ []) a.txn) named
             (committed_behind before.engine old.engine.trees.log new.engine.trees.log (all_ ∷ []) (changes_named then_ (then_.own a.txn.0)) a.txn logs
-            (grown_then observable history sync_out read_out read_of faults old new then_ a records (w.here.valid none) h its)
-            (grown_entries observable history sync_out read_out read_of faults old new then_ a records (w.here.valid none) h its)),
+            (grown_then meaning old new then_ a records (w.here.valid none) h its)
+            (grown_entries meaning old new then_ a records (w.here.valid none) h its)),
       );
-      near = far before old new all_ w.near (settled_near observable history sync_out read_out read_of faults old new then_ a records h its some_then w.here.sessions_at (w.here.valid none).works);
+      near = far before old new all_ w.near (settled_near meaning old new then_ a records h its some_then w.here.sessions_at (w.here.valid none).works);
     })
 
     pub ends_full : Up Full → HasAbandoned old new a.session a.txn → AreNumbered st.last_txn st.actives → Ends (λ b. closed b a [] (answered a call g st)) LogFull
@@ -238,11 +239,11 @@ module _ {D : Type 0} (observable : Bool) (history : D → History) (sync_out re
       limit = w.limit;
       has_limit = w.has_limit;
       answers = (relimit (log_limit w.limit) ev.answer (Logged (st.commits + 1)) LogFull w.answers (λ is. absurd (refused (ap fate_of is ∙ well))), refl);
-      here = abandoned most observable history old new (answered a call g st) a h its (λ calm. numbers) w.here;
+      here = abandoned most meaning old new (answered a call g st) a h its (λ calm. numbers) w.here;
       numbered = tt;
       fault = none;
       logged = idle_then before.engine old.engine.trees.log new.engine.trees.log w.logged h.log;
-      near = far before old new all_ w.near (abandoned_near most observable history old new (answered a call g st) a h w.here.sessions_at);
+      near = far before old new all_ w.near (abandoned_near most meaning old new (answered a call g st) a h w.here.sessions_at);
     })
       where
         refused : fate_of LogFull ≡ Succeeds → ⊥
@@ -253,11 +254,11 @@ module _ {D : Type 0} (observable : Bool) (history : D → History) (sync_out re
       limit = w.limit;
       has_limit = w.has_limit;
       answers = (relimit (log_limit w.limit) ev.answer (Logged (st.commits + 1)) IdsEnded w.answers (λ is. absurd (refused (ap fate_of is ∙ well))), refl);
-      here = abandoned most observable history old new (answered a call g st) a h its (λ calm. numbers) w.here;
+      here = abandoned most meaning old new (answered a call g st) a h its (λ calm. numbers) w.here;
       numbered = tt;
       fault = none;
       logged = idle_then before.engine old.engine.trees.log new.engine.trees.log w.logged h.log;
-      near = far before old new all_ w.near (abandoned_near most observable history old new (answered a call g st) a h w.here.sessions_at);
+      near = far before old new all_ w.near (abandoned_near most meaning old new (answered a call g st) a h w.here.sessions_at);
     })
       where
         refused : fate_of IdsEnded ≡ Succeeds → ⊥
@@ -286,17 +287,17 @@ module _ {D : Type 0} (observable : Bool) (history : D → History) (sync_out re
     named_own = ap (changes_named own_) own_own ∙ names_in st cs each
 
     abbrev Logs : Type 0
-    Logs = WritesOwn observable history sync_out read_out read_of before old st a.txn.0 cs (owing own_) (Ok Done)
+    Logs = WritesOwn meaning before old st a.txn.0 cs (owing own_) (Ok Done)
 
     count_ : length all_ ≡ length cs
     count_ = length-map cs (λ c. change_in c.0.1.name c.1)
 
-    pub ends_unsettled : (s : Sessions) → StandsAt most observable history before st → Logs → HasNotSettled observable history sync_out read_out read_of faults old new a.txn → AreSessionsAt s st → owing own_ ≡ owing_with (Some a) st →
-        HasStepped observable history sync_out read_out read_of most before (in_sessions s new) (owing_with (Some a) st) all_ (changes_closed a.is_auto all_)
+    pub ends_unsettled : (s : Sessions) → StandsAt most meaning before st → Logs → HasNotSettled meaning old new a.txn → AreSessionsAt s st → owing own_ ≡ owing_with (Some a) st →
+        HasStepped meaning most before (in_sessions s new) (owing_with (Some a) st) all_ (changes_closed a.is_auto all_)
         (λ limit. IsLogged (log_limit limit) (cond a.is_auto (Logged (st.commits + 1)) ev.answer) DiskFault × (◌≡◌ {A = List Victim} [] [])) (faulted st) DiskFault
     ends_unsettled s here w h stands owes =
         subst (λ (is : Bool).
-        HasStepped observable history sync_out read_out read_of most before (in_sessions s new) (owing_with (Some a) st) all_ (changes_closed is all_)
+        HasStepped meaning most before (in_sessions s new) (owing_with (Some a) st) all_ (changes_closed is all_)
         (λ limit. IsLogged (log_limit limit) (cond is (Logged (st.commits + 1)) ev.answer) DiskFault × (◌≡◌ {A = List Victim} [] [])) (faulted st) DiskFault) (sym auto) (record {
           limit = None;
           has_limit = subst (λ (owed : ℕ). HasLimit before owed all_ None) owes w.2;
@@ -317,8 +318,8 @@ module _ {D : Type 0} (observable : Bool) (history : D → History) (sync_out re
           numbered = tt;
           fault = refl;
           logged = both_failed before.engine.trees.log old.engine.trees.log new.engine.trees.log (all_ ∷ []) w.1.grown
-              (subst (λ (l : List Change). HasFailedWith observable history sync_out read_out read_of old.engine.trees.log new.engine.trees.log (l ∷ [])) named_own
-              (failed_then observable history sync_out read_out read_of faults old new own_ a 0 w.0 h its));
+              (subst (λ (l : List Change). HasFailedWith meaning old.engine.trees.log new.engine.trees.log (l ∷ [])) named_own
+              (failed_then meaning old new own_ a 0 w.0 h its));
           near = record {
             file = let k = ap (λ (b : Bool). cond b 0 ((end_of new.engine.trees.log).file + waits_of new.engine.trees + owed_by s)) h.tried.tried.failed in omega (arith, k);
             node = let k = ap (λ (k : Kept). k.last_node) h.kept in let l = ap (λ (k : Kept). k.last_node) w.4 in let n = count_ in omega (arith, k, l, n);
@@ -336,9 +337,9 @@ module _ {D : Type 0} (observable : Bool) (history : D → History) (sync_out re
         by (suc n) e = (n, w.0.room n e)
 
     -- so many of its names had a record at most
-    pub had_again : Logs → StandsAt most observable history before st → had_at a.txn old.written.by_txn.entries ≤ before.engine.kept.totals.records + count_by (λ (c : ℕ × RecordChange). is_set c.1) (with_numbers cs)
+    pub had_again : Logs → StandsAt most meaning before st → had_at a.txn old.written.by_txn.entries ≤ before.engine.kept.totals.records + count_by (λ (c : ℕ × RecordChange). is_set c.1) (with_numbers cs)
     had_again w here =
-        let k = had_within observable history sync_out read_out read_of faults old new own_ a 0 w.0 (ap (λ (k : Kept). k.totals) w.4 ∙ here.totals) in
+        let k = had_within meaning old new own_ a 0 w.0 (ap (λ (k : Kept). k.totals) w.4 ∙ here.totals) in
         let l = ap (λ (k : Kept). k.totals.records) w.4 in
         let n = ap (λ (l : Own). count_by (λ (c : ℕ × RecordChange). is_set c.1) l) own_own in
         omega (arith, k, l, n)
@@ -353,7 +354,7 @@ module _ {D : Type 0} (observable : Bool) (history : D → History) (sync_out re
   -- ---- from where the call got its locks
 
   module _ (before e : Environment D) (most session line : ℕ) (st : Standing) (a : Active) (call : Call) (g : Target) (answer : Answer) (changes : Own)
-      (up : IsTakenUp observable history most before e st session a call g answer changes) (bare : st.own a.txn.0 ≡ []) (auto : a.is_auto ≡ true) (filled : changes ≢ []) where
+      (up : IsTakenUp meaning most before e st session a call g answer changes) (bare : st.own a.txn.0 ≡ []) (auto : a.is_auto ≡ true) (filled : changes ≢ []) where
     abbrev outcome_ : Evaluated
     outcome_ = outcome_of st a call g
 
@@ -388,37 +389,37 @@ module _ {D : Type 0} (observable : Bool) (history : D → History) (sync_out re
 
     -- what is told of it
     wraps : (new : Environment D) (told : Answer) (o : Outcome) → o.answer ≡ told → o.victims ≡ [] →
-        HasStepped observable history sync_out read_out read_of most before new (owing_with (Some a) st) (with_names cs_) (changes_closed a.is_auto (with_names cs_))
+        HasStepped meaning most before new (owing_with (Some a) st) (with_names cs_) (changes_closed a.is_auto (with_names cs_))
         (λ limit. IsLogged (log_limit limit) (cond a.is_auto (Logged (st.commits + 1)) outcome_.answer) told × (◌≡◌ {A = List Victim} [] [])) (after_fate (fate_of told) st st a call g outcome_) told →
-        AccessesTo observable history sync_out read_out read_of most before new st a line call g (Ok o)
+        AccessesTo meaning most before new st a line call g (Ok o)
     wraps new told o is alone h =
-        told_so (HasAccessed observable history sync_out read_out read_of most before new st a line call g) o told is alone
-        (subst (Takes observable history sync_out read_out read_of most before new st a line call g told) (sym up.taken.free)
-        (evaluates_some observable history sync_out read_out read_of most before new st a call g told a.is_auto outcome_ outcome_.changes refl
-        (some_evaluated observable history sync_out read_out read_of before e most session st a call g answer changes up filled) h))
+        told_so (HasAccessed meaning most before new st a line call g) o told is alone
+        (subst (Takes meaning most before new st a line call g told) (sym up.taken.free)
+        (evaluates_some meaning most before new st a call g told a.is_auto outcome_ outcome_.changes refl
+        (some_evaluated meaning before e most session st a call g answer changes up filled) h))
 
     abbrev Came : Environment D → Wrote → Type 0
-    Came mid wrote = HasPushedAndLogged observable history sync_out read_out read_of e mid a (needs_in st a call g) st cs_ (Ok wrote)
+    Came mid wrote = HasPushedAndLogged meaning e mid a (needs_in st a call g) st cs_ (Ok wrote)
 
     -- its changes were written, before its transaction ends
     up_as : (mid : Environment D) (s : Sessions) (wrote : Wrote) (p : Came mid wrote) → AreEndedBy wrote s a call outcome_.place (needs_in st a call g) p.more st → (c : Changed) (l : List Changed) → cs_ ≡ c ∷ l →
-        HasStepped observable history sync_out read_out read_of most before (in_sessions s mid) (owing_with (Some a) st) (with_names (c ∷ l)) [] (λ limit. IsLogged (log_limit limit) outcome_.answer (answer_for wrote outcome_.answer))
+        HasStepped meaning most before (in_sessions s mid) (owing_with (Some a) st) (with_names (c ∷ l)) [] (λ limit. IsLogged (log_limit limit) outcome_.answer (answer_for wrote outcome_.answer))
         (standing_by st a call g outcome_.place (c ∷ l) wrote) (answer_for wrote outcome_.answer)
     up_as mid s wrote p stands c l is =
-        subst (λ (m : List Changed). HasStepped observable history sync_out read_out read_of most before (in_sessions s mid) (owing_with (Some a) st) (with_names m) []
+        subst (λ (m : List Changed). HasStepped meaning most before (in_sessions s mid) (owing_with (Some a) st) (with_names m) []
         (λ limit. IsLogged (log_limit limit) outcome_.answer (answer_for wrote outcome_.answer)) (standing_by st a call g outcome_.place m wrote) (answer_for wrote outcome_.answer)) is
-        (steps_up observable history sync_out read_out read_of before e most session st a call g answer changes up mid s wrote filled p stands)
+        (steps_up meaning before e most session st a call g answer changes up mid s wrote filled p stands)
 
     logs_as : (mid : Environment D) → Came mid Done → (c : Changed) (l : List Changed) → cs_ ≡ c ∷ l →
-        WritesOwn observable history sync_out read_out read_of before mid st a.txn.0 (c ∷ l) (owing (with_own a.txn.0 (with_numbers (c ∷ l)) st)) (Ok Done)
+        WritesOwn meaning before mid st a.txn.0 (c ∷ l) (owing (with_own a.txn.0 (with_numbers (c ∷ l)) st)) (Ok Done)
     logs_as mid p c l is =
-        subst (λ (m : List Changed). WritesOwn observable history sync_out read_out read_of before mid st a.txn.0 m (owing (with_own a.txn.0 (with_numbers m) st)) (Ok Done)) is
-        (writes_move observable history sync_out read_out read_of e before mid st a.txn.0 cs_ (owing (with_own a.txn.0 (with_numbers cs_) st)) (Ok Done) up.engine p.writes)
+        subst (λ (m : List Changed). WritesOwn meaning before mid st a.txn.0 m (owing (with_own a.txn.0 (with_numbers m) st)) (Ok Done)) is
+        (writes_move meaning e before mid st a.txn.0 cs_ (owing (with_own a.txn.0 (with_numbers cs_) st)) (Ok Done) up.engine p.writes)
 
     -- where it ends so
     abbrev Ends_ : Environment D → Answer → (List Changed → Standing) → List Changed → Type 0
     Ends_ new told after l =
-        HasStepped observable history sync_out read_out read_of most before new (owing_with (Some a) st) (with_names l) (changes_closed a.is_auto (with_names l))
+        HasStepped meaning most before new (owing_with (Some a) st) (with_names l) (changes_closed a.is_auto (with_names l))
         (λ limit. IsLogged (log_limit limit) (cond a.is_auto (Logged (st.commits + 1)) outcome_.answer) told × (◌≡◌ {A = List Victim} [] [])) (after l) told
 
     counts_ : count_by (λ (c : ℕ × RecordChange). is_set c.1) changes ≡ count_by (λ (c : ℕ × RecordChange). is_set c.1) (with_numbers cs_)
@@ -435,36 +436,36 @@ module _ {D : Type 0} (observable : Bool) (history : D → History) (sync_out re
 
     pub accesses_done : (mid new : Environment D) (s : Sessions) (records : ℕ) (o : Outcome) (p : Came mid Done) →
         AreSessionsAt s (with_move a call outcome_.place (with_locks a (all_got a.txn (needs_in st a call g) st.locks.at) (with_own a.txn.0 p.more st))) →
-        HasSettled observable history sync_out read_out read_of faults (in_sessions s mid) new session a.txn records →
+        HasSettled meaning (in_sessions s mid) new session a.txn records →
         records + had_at a.txn mid.written.by_txn.entries ≡ before.engine.kept.totals.records + count_by (λ (c : ℕ × RecordChange). is_set c.1) changes → o.answer ≡ Logged (st.commits + 1) → o.victims ≡ [] →
-        AccessesTo observable history sync_out read_out read_of most before new st a line call g (Ok o)
+        AccessesTo meaning most before new st a line call g (Ok o)
     accesses_done mid new s records o p stands h sum told alone = wraps new (Logged (st.commits + 1)) o told alone
-        (subst (λ (l : List Changed). HasStepped observable history sync_out read_out read_of most before new (owing_with (Some a) st) (with_names cs_) (changes_closed a.is_auto (with_names cs_))
+        (subst (λ (l : List Changed). HasStepped meaning most before new (owing_with (Some a) st) (with_names cs_) (changes_closed a.is_auto (with_names cs_))
         (λ limit. IsLogged (log_limit limit) (cond a.is_auto (Logged (st.commits + 1)) outcome_.answer) (Logged (st.commits + 1)) × (◌≡◌ {A = List Victim} [] []))
         (closed a.is_auto a (with_names cs_) (with_changes a call outcome_.place (with_numbers l) (answered a call g st))) (Logged (st.commits + 1))) (sym (answered_changes st a call g outcome_.changes))
         (by_first (Ends_ new (Logged (st.commits + 1)) (λ l. closed a.is_auto a (with_names l) (with_changes a call outcome_.place (with_numbers l) (answered a call g st)))) (λ c l is. ends_done most before (in_sessions s mid) new st a call g outcome_ c l up.valid bare its_ (each_as c l is) auto calm_ well_ records (up_as mid s Done p stands c l is) (logs_as mid p c l is).1
-        (subst (λ (n : ℕ). HasSettled observable history sync_out read_out read_of faults (in_sessions s mid) new n a.txn records) (sym (found_session session a st.actives up.its)) h)
+        (subst (λ (n : ℕ). HasSettled meaning (in_sessions s mid) new n a.txn records) (sym (found_session session a st.actives up.its)) h)
         (sum_again most before mid mid st a call g outcome_ c l up.valid bare its_ (each_as c l is) auto calm_ well_ records (logs_as mid p c l is) (sum ∙ ap (λ (n : ℕ). before.engine.kept.totals.records + n) (counts_ ∙ ap (λ (m : List Changed). count_by (λ (x : ℕ × RecordChange). is_set x.1) (with_numbers m)) is))))))
 
-    pub accesses_unsettled : (mid new : Environment D) (s : Sessions) (o : Outcome) → Came mid Done → HasNotSettled observable history sync_out read_out read_of faults mid new a.txn → AreSessionsAt s st → o.answer ≡ DiskFault →
-        o.victims ≡ [] → AccessesTo observable history sync_out read_out read_of most before (in_sessions s new) st a line call g (Ok o)
+    pub accesses_unsettled : (mid new : Environment D) (s : Sessions) (o : Outcome) → Came mid Done → HasNotSettled meaning mid new a.txn → AreSessionsAt s st → o.answer ≡ DiskFault →
+        o.victims ≡ [] → AccessesTo meaning most before (in_sessions s new) st a line call g (Ok o)
     accesses_unsettled mid new s o p h stands told alone = wraps (in_sessions s new) DiskFault o told alone
         (by_first (Ends_ (in_sessions s new) DiskFault (λ l. faulted st)) (λ c l is. ends_unsettled most before mid new st a call g outcome_ c l up.valid bare its_ (each_as c l is) auto calm_ well_ s up.here (logs_as mid p c l is) h stands
         (owing_pushed st a (with_numbers (c ∷ l)) (λ e. absurd cc) up.sound.numbers (is_under_way session a st.actives up.its))))
 
     pub accesses_full : (mid new : Environment D) (s : Sessions) (o : Outcome) → Came mid Full → AreSessionsAt s (with_locks a (all_got a.txn (needs_in st a call g) st.locks.at) st) → HasAbandoned (in_sessions s mid) new session a.txn →
-        o.answer ≡ LogFull → o.victims ≡ [] → AccessesTo observable history sync_out read_out read_of most before new st a line call g (Ok o)
+        o.answer ≡ LogFull → o.victims ≡ [] → AccessesTo meaning most before new st a line call g (Ok o)
     accesses_full mid new s o p stands h told alone = wraps new LogFull o told alone
         (by_first (Ends_ new LogFull (λ l. closed a.is_auto a [] (answered a call g st))) (λ c l is. ends_full most before (in_sessions s mid) new st a call g outcome_ c l up.valid bare its_ (each_as c l is) auto calm_ well_ (up_as mid s Full p stands c l is)
         (subst (λ (n : ℕ). HasAbandoned (in_sessions s mid) new n a.txn) (sym (found_session session a st.actives up.its)) h) up.sound.numbers))
 
     pub accesses_numbers : (mid new : Environment D) (s : Sessions) (o : Outcome) → Came mid NoNumbers → AreSessionsAt s (with_locks a (all_got a.txn (needs_in st a call g) st.locks.at) st) →
-        HasAbandoned (in_sessions s mid) new session a.txn → o.answer ≡ IdsEnded → o.victims ≡ [] → AccessesTo observable history sync_out read_out read_of most before new st a line call g (Ok o)
+        HasAbandoned (in_sessions s mid) new session a.txn → o.answer ≡ IdsEnded → o.victims ≡ [] → AccessesTo meaning most before new st a line call g (Ok o)
     accesses_numbers mid new s o p stands h told alone = wraps new IdsEnded o told alone
         (by_first (Ends_ new IdsEnded (λ l. closed a.is_auto a [] (answered a call g st))) (λ c l is. ends_numbers most before (in_sessions s mid) new st a call g outcome_ c l up.valid bare its_ (each_as c l is) auto calm_ well_ (up_as mid s NoNumbers p stands c l is)
         (subst (λ (n : ℕ). HasAbandoned (in_sessions s mid) new n a.txn) (sym (found_session session a st.actives up.its)) h) up.sound.numbers))
 
     pub accesses_failed : (mid : Environment D) (s : Sessions) (o : Outcome) → Came mid Failed → AreSessionsAt s st → o.answer ≡ DiskFault → o.victims ≡ [] →
-        AccessesTo observable history sync_out read_out read_of most before (in_sessions s mid) st a line call g (Ok o)
+        AccessesTo meaning most before (in_sessions s mid) st a line call g (Ok o)
     accesses_failed mid s o p stands told alone = wraps (in_sessions s mid) DiskFault o told alone
         (by_first (Ends_ (in_sessions s mid) DiskFault (λ l. faulted st)) (λ c l is. ends_failed most before (in_sessions s mid) (in_sessions s mid) st a call g outcome_ c l up.valid bare its_ (each_as c l is) auto calm_ well_ (up_as mid s Failed p stands c l is)))

@@ -13,7 +13,8 @@ use Rattle.std.proofs.lemmas.Bool.{cond-true, cond-false, eq-eqb}
 use Rattle.std.proofs.lemmas.List.{append-nil}
 use Rattle.std.proofs.lemmas.List.Sums.{length-filter}
 use Rattle.std.proofs.lemmas.Option.{none-some, same_Some}
-use Rattle.je_disk.specs.Moments.{History, now}
+use Rattle.je_disk.specs.DiskMeaning.{DiskMeaning}
+use Rattle.je_disk.specs.Moments.{now}
 use Rattle.je_order.specs.Transactions.{is_same_txn}
 use Rattle.je_order.proofs.TxnIds.{same_either}
 use Rattle.je_order.proofs.Lists.{all_weaker}
@@ -78,7 +79,9 @@ use Rattle.engine.specs.Limits.{IsWithin}
 use Rattle.engine.specs.Steps.{IsNumbered}
 use Rattle.engine.proofs.GuardedEvents.{commit_recovered_in, tried_commit_recovered_in}
 use Rattle.environment.specs.declared.environment.Environment.{Environment}
-use Rattle.environment.specs.Committing.{HasNotSettled, HasSettled, is_set}
+use Rattle.active_txns.specs.declared.own_counts.OwnCounts.{OwnCounts}
+use Rattle.active_txns.specs.Own.{counted, is_set}
+use Rattle.environment.specs.Committing.{HasNotSettled, HasSettled}
 use Rattle.environment.specs.Ending.{HasAbandoned}
 use Rattle.environment.specs.Limits.{owing_after, written_evaluated}
 use Rattle.environment.specs.Steps.{HasCome, HasFailedWith, HasGrown, HasLoggedCall, HasStepped, IsCallStep, PerformsAnswer, RecoversWith, StandsAt}
@@ -219,7 +222,7 @@ is_under_way session a as_ is = any_from (λ (c : Active). is_same_txn (txn_id a
 
 -- ---- where it stands
 
-module _ {D : Type 0} (observable : Bool) (history : D → History) (sync_out read_out : D → Option ℕ) (read_of faults : D → ℕ) where
+module _ {D : Type 0} (meaning : DiskMeaning D) where
   module _ (old new : Environment D) (st : Standing) (a : Active) (records : ℕ) where
     abbrev log_old : LogBuffer D
     log_old = old.engine.trees.log
@@ -243,10 +246,10 @@ module _ {D : Type 0} (observable : Bool) (history : D → History) (sync_out re
     then_ = ended a (committed_to changes_it st)
 
     abbrev Settled : Type 0
-    Settled = HasSettled observable history sync_out read_out read_of faults old new a.session a.txn records
+    Settled = HasSettled meaning old new a.session a.txn records
 
     abbrev Valid : Type 0
-    Valid = IsValidWith observable (now (history (disk_below log_old))) log_old (cells_of old.engine.trees) (has_tree_of old.engine.trees) (fitting old.engine.trees) old.engine.kept.since old.written.by_txn.entries st
+    Valid = IsValidWith meaning.observable (now (meaning.history (disk_below log_old))) log_old (cells_of old.engine.trees) (has_tree_of old.engine.trees) (fitting old.engine.trees) old.engine.kept.since old.written.by_txn.entries st
 
     abbrev Sum : Type 0
     Sum = records + had_at a.txn old.written.by_txn.entries ≡ old.engine.kept.totals.records + count_by (λ (c : ℕ × RecordChange). is_set c.1) own_it
@@ -254,10 +257,10 @@ module _ {D : Type 0} (observable : Bool) (history : D → History) (sync_out re
     pub are_own : Valid → OwnAreCommitted rows_old st.last_db st own_it
     are_own v = own_may_be_committed rows_old st.last_db st own_it v.makes (v.may a.txn.0)
 
-    unfoldable pub log_at : (v : Valid) → IsLogAt observable history log_old v.log rows_old (active_number st.actives) st
+    unfoldable pub log_at : (v : Valid) → IsLogAt meaning log_old v.log rows_old (active_number st.actives) st
     log_at v = record { given = record { has = v.has; gives = v.gives }; makes = v.makes; may = v.may }
 
-    abbrev add : Settled → HasAdded observable history sync_out read_out read_of log_old log_new (LogsTransaction a.txn [])
+    abbrev add : Settled → HasAdded meaning log_old log_new (LogsTransaction a.txn [])
     add h = record {
       entries = Committed a.txn ∷ [];
       logs = ([], refl, refl);
@@ -266,9 +269,9 @@ module _ {D : Type 0} (observable : Bool) (history : D → History) (sync_out re
     }
 
     unfoldable log_then : (v : Valid) → (h : Settled) → active_of a.session st.actives ≡ Some a →
-        IsLogAt observable history log_new (longer log_old (Committed a.txn ∷ []) v.log) later_rows (active_number then_.actives) then_
+        IsLogAt meaning log_new (longer log_old (Committed a.txn ∷ []) v.log) later_rows (active_number then_.actives) then_
     log_then v h is =
-        own_commit_leaves_log observable history sync_out read_out read_of log_old log_new v.log rows_old (active_number st.actives) (active_number then_.actives) st then_ a.txn (log_at v)
+        own_commit_leaves_log meaning log_old log_new v.log rows_old (active_number st.actives) (active_number then_.actives) st then_ a.txn (log_at v)
         (is_under_way a.session a st.actives is) (add h) (record { store = refl; numbers = refl; last_db = refl }) refl
         (λ u still. any_left (λ (c : Active). is_same_txn (txn_id u) c.txn) (λ (c : Active). not (c.session == a.session)) st.actives still) (λ u. refl)
 
@@ -319,20 +322,20 @@ module _ {D : Type 0} (observable : Bool) (history : D → History) (sync_out re
       base = v.recovers.base;
       transactions = v.recovers.transactions ++ changes_it ∷ [];
       recovers =
-          commit_is_recovered observable history sync_out read_out read_of log_old log_new v.log rows_old later_rows st.last_txn st.last_db st.last_db (active_number st.actives) st.own (λ d. false) a.txn own_it []
+          commit_is_recovered meaning log_old log_new v.log rows_old later_rows st.last_txn st.last_db st.last_db (active_number st.actives) st.own (λ d. false) a.txn own_it []
           changes_it v.recovers.first v.recovers.opening v.recovers.base v.recovers.transactions (log_at v).given (may_commit v is) (are_own v).store (add h) v.recovers.recovers;
       made = store_push v.recovers.opening v.recovers.transactions changes_it ∙ ap (all_changed changes_it) v.recovers.made;
     }
 
     valid_then : (v : Valid) → (h : Settled) → active_of a.session st.actives ≡ Some a → own_it ≢ [] →
-        IsValidWith observable (now (history (disk_below log_new))) log_new (cells_of new.engine.trees) (has_tree_of new.engine.trees) (fitting new.engine.trees) new.engine.kept.since new.written.by_txn.entries then_
+        IsValidWith meaning.observable (now (meaning.history (disk_below log_new))) log_new (cells_of new.engine.trees) (has_tree_of new.engine.trees) (fitting new.engine.trees) new.engine.kept.since new.written.by_txn.entries then_
     unfolding log_then log_at own_commit_leaves_log commit_own transaction_leaves_log transaction_is_given transaction_gives transaction_on still_gives
     valid_then v h is some =
         let at = log_then v h is in
         let rows = sym (rows_then v h) in
         let lives = subst (Lives (fitting new.engine.trees) (longer log_old (Committed a.txn ∷ []) v.log) new.engine.kept.since (pos_lsn (end_of log_new)) new.written.by_txn.entries)
         (sym (same_under (λ (r : Rows). GivesRecordsWith (longer log_old (Committed a.txn ∷ []) v.log) (end_of log_new) r then_.last_txn then_.last_db (active_number then_.actives) then_.own) (λ r g. g.base) rows at.given.gives))
-        (lives_on observable history sync_out read_out read_of log_old log_new v.log (Committed a.txn ∷ []) (fitting new.engine.trees) new.engine.kept.since v.gives.base new.written.by_txn.entries v.has h.committed.grew.grew
+        (lives_on meaning log_old log_new v.log (Committed a.txn ∷ []) (fitting new.engine.trees) new.engine.kept.since v.gives.base new.written.by_txn.entries v.has h.committed.grew.grew
         (commit_no_end a.txn)
         (h.committed.fits v.log v.gives.base v.has (begun_with v.log (end_of log_old) rows_old st.last_txn st.last_db (active_number st.actives) st.own v.gives) v.fits)
         (subst (λ (k : Kept). EndsFrom v.log v.gives.base k.since) (sym h.committed.kept) v.from)
@@ -377,7 +380,7 @@ module _ {D : Type 0} (observable : Bool) (history : D → History) (sync_out re
             let all = ap (λ (t : Totals). t.records) was in
             omega (arith, counted, had, set, all, sum)
 
-    pub settled : (most : ℕ) → Settled → active_of a.session st.actives ≡ Some a → own_it ≢ [] → Sum → st.fault ≡ None → StandsAt most observable history old st → StandsAt most observable history new then_
+    pub settled : (most : ℕ) → Settled → active_of a.session st.actives ≡ Some a → own_it ≢ [] → Sum → st.fault ≡ None → StandsAt most meaning old st → StandsAt most meaning new then_
     settled most h is some sum none at = record {
       file_max = h.committed.grew.grew.max ∙ at.file_max;
       fault = ap (λ (k : Kept). k.fault) h.committed.kept ∙ at.fault;
@@ -409,12 +412,12 @@ module _ {D : Type 0} (observable : Bool) (history : D → History) (sync_out re
       node = let k = ap (λ (k : Kept). k.last_node) h.committed.kept in omega (arith, k);
     }
 
-    pub grown_then : (v : Valid) → (h : Settled) → active_of a.session st.actives ≡ Some a → HasGrown observable history sync_out read_out read_of log_old log_new (changes_it ∷ [])
+    pub grown_then : (v : Valid) → (h : Settled) → active_of a.session st.actives ≡ Some a → HasGrown meaning log_old log_new (changes_it ∷ [])
     grown_then v h is = record {
       entries = Committed a.txn ∷ [];
       grew = h.committed.grew.grew;
       recovers =
-          commit_recovered_in observable history sync_out read_out read_of v.log log_old log_new rows_old later_rows st.last_txn st.last_db st.last_db (active_number st.actives) st.own (λ d. false) a.txn own_it []
+          commit_recovered_in meaning v.log log_old log_new rows_old later_rows st.last_txn st.last_db st.last_db (active_number st.actives) st.own (λ d. false) a.txn own_it []
           changes_it (log_at v).given (may_commit v is) (are_own v).store (add h);
     }
 
@@ -422,19 +425,19 @@ module _ {D : Type 0} (observable : Bool) (history : D → History) (sync_out re
     unfolding grown_then
     grown_entries v h is = refl
 
-    pub came : (most session line : ℕ) → Settled → active_of session st.actives ≡ Some a → own_it ≢ [] → Sum → st.fault ≡ None → StandsAt most observable history old st →
-        HasCome observable history sync_out read_out read_of most old new st session line Commit (commit_answer a.durability st.commits) []
+    pub came : (most session line : ℕ) → Settled → active_of session st.actives ≡ Some a → own_it ≢ [] → Sum → st.fault ≡ None → StandsAt most meaning old st →
+        HasCome meaning most old new st session line Commit (commit_answer a.durability st.commits) []
     came most session line h some nonempty sum none at = subst Come (sym (commit_late st session a some)) (record {
       limit = None;
       has_limit = refl;
       answers = (subst (λ (o : Option Active). IsEnded o st answer) (sym some) (is_committed changes_it st a answer many (inl refl)), refl);
-      here = subst (StandsAt most observable history new) (sym path) (settled most h is nonempty sum none at);
+      here = subst (StandsAt most meaning new) (sym path) (settled most h is nonempty sum none at);
       numbered = subst (λ (s : Standing). IsNumbered answer s.commits) (sym path) (numbered_done a.durability st.commits);
       fault = ap (λ (s : Standing). s.fault) path ∙ (none ∙ sym (ap (λ (b : Bool). cond b (Some Disk) None) quiet));
-      logged = subst (λ (b : Bool). IsCallStep observable history sync_out read_out read_of b old.engine log_new [] (tried (changes_ended (active_of session st.actives) st) (fate_of answer))) (sym quiet)
+      logged = subst (λ (b : Bool). IsCallStep meaning b old.engine log_new [] (tried (changes_ended (active_of session st.actives) st) (fate_of answer))) (sym quiet)
           (inr (
             a.txn,
-            subst (λ (l : List (List Change)). HasLoggedCall observable history sync_out read_out read_of old.engine log_new [] l a.txn) (sym tries)
+            subst (λ (l : List (List Change)). HasLoggedCall meaning old.engine log_new [] l a.txn) (sym tries)
                 (record { grown = grown_then v h is; planned = []; rows = refl; logs = ([], refl, grown_entries v h is) }),
           ));
       near = within_more old new [] (settled_near h is nonempty at.sessions_at v.works);
@@ -463,15 +466,15 @@ module _ {D : Type 0} (observable : Bool) (history : D → History) (sync_out re
             ∙ (ap (λ (f : Fate). after_commit f changes_it a st) (fate_done a.durability st.commits) ∙ ap (ended a) (if_any changes_it st many))
 
         Come : Option Answer → Type 0
-        Come late = HasStepped observable history sync_out read_out read_of most old new (owing_after st session) (written_evaluated late st session Commit) (changes_evaluated late st session Commit)
+        Come late = HasStepped meaning most old new (owing_after st session) (written_evaluated late st session Commit) (changes_evaluated late st session Commit)
             (λ limit. IsEvaluated late limit st session line Commit answer []) (after_evaluated late st session line Commit answer []) answer
 
     -- ---- the disk failed
 
     abbrev NotSettled : Type 0
-    NotSettled = HasNotSettled observable history sync_out read_out read_of faults old new a.txn
+    NotSettled = HasNotSettled meaning old new a.txn
 
-    abbrev pub not_added : NotSettled → HasFailed observable history sync_out read_out read_of log_old log_new (LogsTransaction a.txn [])
+    abbrev pub not_added : NotSettled → HasFailed meaning log_old log_new (LogsTransaction a.txn [])
     not_added h = record {
       entries = Committed a.txn ∷ [];
       front = h.front;
@@ -481,12 +484,12 @@ module _ {D : Type 0} (observable : Bool) (history : D → History) (sync_out re
       room = record { max = log_old.max; entries_are = h.tried.fits.entries_are; room = h.tried.fits.room };
     }
 
-    pub failed_then : (v : Valid) → (h : NotSettled) → active_of a.session st.actives ≡ Some a → HasFailedWith observable history sync_out read_out read_of log_old log_new (changes_it ∷ [])
+    pub failed_then : (v : Valid) → (h : NotSettled) → active_of a.session st.actives ≡ Some a → HasFailedWith meaning log_old log_new (changes_it ∷ [])
     failed_then v h is = record {
       front = h.front;
       tried = h.tried.tried;
       recovers =
-          tried_commit_recovered_in observable history sync_out read_out read_of v.log log_old log_new rows_old later_rows st.last_txn st.last_db st.last_db (active_number st.actives) st.own (λ d. false) a.txn own_it []
+          tried_commit_recovered_in meaning v.log log_old log_new rows_old later_rows st.last_txn st.last_db st.last_db (active_number st.actives) st.own (λ d. false) a.txn own_it []
           changes_it (log_at v).given (may_commit v is) (are_own v).store (not_added h);
     }
 
@@ -499,7 +502,7 @@ module _ {D : Type 0} (observable : Bool) (history : D → History) (sync_out re
         let all = ap (λ (t : Totals). t.records) at in
         omega (arith, counted, had, set, all)
 
-    fault_at : (most : ℕ) → NotSettled → StandsAt most observable history old st → StandsAt most observable history new (faulted st)
+    fault_at : (most : ℕ) → NotSettled → StandsAt most meaning old st → StandsAt most meaning new (faulted st)
     fault_at most h at = record {
       file_max = h.tried.tried.max ∙ at.file_max;
       fault = ap (λ (k : Kept). k.fault) h.kept;
@@ -521,20 +524,20 @@ module _ {D : Type 0} (observable : Bool) (history : D → History) (sync_out re
       node = let k = ap (λ (k : Kept). k.last_node) h.kept in omega (arith, k);
     }
 
-    pub came_fault : (most session line : ℕ) → NotSettled → active_of session st.actives ≡ Some a → own_it ≢ [] → st.fault ≡ None → StandsAt most observable history old st →
-        HasCome observable history sync_out read_out read_of most old new st session line Commit DiskFault []
+    pub came_fault : (most session line : ℕ) → NotSettled → active_of session st.actives ≡ Some a → own_it ≢ [] → st.fault ≡ None → StandsAt most meaning old st →
+        HasCome meaning most old new st session line Commit DiskFault []
     came_fault most session line h some nonempty none at = subst Come (sym (commit_late st session a some)) (record {
       limit = None;
       has_limit = refl;
       answers = (subst (λ (o : Option Active). IsEnded o st DiskFault) (sym some) (is_committed changes_it st a DiskFault many (inr refl)), refl);
-      here = subst (StandsAt most observable history new) (sym path) (fault_at most h at);
+      here = subst (StandsAt most meaning new) (sym path) (fault_at most h at);
       numbered = tt;
       fault = ap (λ (s : Standing). s.fault) path;
       logged = record {
         front = h.front;
         tried = h.tried.tried;
-        recovers = subst (λ (l : List (List Change)). RecoversWith observable history sync_out read_out read_of log_old h.front [] ⊎ RecoversWith observable history sync_out read_out read_of log_old h.front l) (sym tries)
-            (tried_commit_recovered_in observable history sync_out read_out read_of v.log log_old log_new rows_old later_rows st.last_txn st.last_db st.last_db (active_number st.actives) st.own (λ d. false) a.txn own_it []
+        recovers = subst (λ (l : List (List Change)). RecoversWith meaning log_old h.front [] ⊎ RecoversWith meaning log_old h.front l) (sym tries)
+            (tried_commit_recovered_in meaning v.log log_old log_new rows_old later_rows st.last_txn st.last_db st.last_db (active_number st.actives) st.own (λ d. false) a.txn own_it []
             changes_it (log_at v).given (may_commit v is) (are_own v).store (not_added h));
       };
       near = within_more old new [] (fault_near h);
@@ -556,22 +559,22 @@ module _ {D : Type 0} (observable : Bool) (history : D → History) (sync_out re
         path = ap (λ (o : Option Active). after_ending o st DiskFault) some
 
         Come : Option Answer → Type 0
-        Come late = HasStepped observable history sync_out read_out read_of most old new (owing_after st session) (written_evaluated late st session Commit) (changes_evaluated late st session Commit)
+        Come late = HasStepped meaning most old new (owing_after st session) (written_evaluated late st session Commit) (changes_evaluated late st session Commit)
             (λ limit. IsEvaluated late limit st session line Commit DiskFault []) (after_evaluated late st session line Commit DiskFault []) DiskFault
 
     -- ---- nothing was changed
 
-    pub came_empty : (most session line : ℕ) → HasAbandoned old new a.session a.txn → active_of session st.actives ≡ Some a → own_it ≡ [] → AreSound st → st.fault ≡ None → StandsAt most observable history old st →
-        HasCome observable history sync_out read_out read_of most old new st session line Commit Done []
+    pub came_empty : (most session line : ℕ) → HasAbandoned old new a.session a.txn → active_of session st.actives ≡ Some a → own_it ≡ [] → AreSound st → st.fault ≡ None → StandsAt most meaning old st →
+        HasCome meaning most old new st session line Commit Done []
     came_empty most session line h some empty sound none at = subst Come (sym (commit_late st session a some)) (record {
       limit = None;
       has_limit = refl;
       answers = (subst (λ (o : Option Active). IsEnded o st Done) (sym some) (subst (λ (l : List Change). IsCommitted l st a Done) (sym nothing) refl), refl);
-      here = subst (StandsAt most observable history new) (sym path) (abandoned most observable history old new st a h is (λ calm_. sound.numbers) at);
+      here = subst (StandsAt most meaning new) (sym path) (abandoned most meaning old new st a h is (λ calm_. sound.numbers) at);
       numbered = tt;
       fault = ap (λ (s : Standing). s.fault) path ∙ none;
       logged = inl (h.log, ap (λ (o : Option Active). tried (changes_ended o st) Succeeds) some ∙ ap (λ (l : List Change). tried l Succeeds) nothing, refl);
-      near = within_more old new [] (abandoned_near most observable history old new st a h at.sessions_at);
+      near = within_more old new [] (abandoned_near most meaning old new st a h at.sessions_at);
     })
       where
         is : active_of a.session st.actives ≡ Some a
@@ -584,13 +587,13 @@ module _ {D : Type 0} (observable : Bool) (history : D → History) (sync_out re
         path = ap (λ (o : Option Active). after_ending o st Done) some ∙ ap (λ (l : List Change). ended a (committed_if_any l st)) nothing
 
         Come : Option Answer → Type 0
-        Come late = HasStepped observable history sync_out read_out read_of most old new (owing_after st session) (written_evaluated late st session Commit) (changes_evaluated late st session Commit)
+        Come late = HasStepped meaning most old new (owing_after st session) (written_evaluated late st session Commit) (changes_evaluated late st session Commit)
             (λ limit. IsEvaluated late limit st session line Commit Done []) (after_evaluated late st session line Commit Done []) Done
 
   -- ---- what the call comes to wherever the model stands
 
   pub room_for : (most : ℕ) (old : Environment D) (st : Standing) (session : ℕ) (a : Active) → active_of session st.actives ≡ Some a → st.own a.txn.0 ≢ [] → st.fault ≡ None →
-      StandsAt most observable history old st → (owed : ℕ) × HasRoomFor old.engine.trees.log (commit_sizes (suc owed))
+      StandsAt most meaning old st → (owed : ℕ) × HasRoomFor old.engine.trees.log (commit_sizes (suc owed))
   room_for most old st session a some nonempty none at = by (owing st) refl
     where
       less : owing (ended a st) + 1 ≤ owing st
@@ -600,46 +603,51 @@ module _ {D : Type 0} (observable : Bool) (history : D → History) (sync_out re
       by zero e = absurd (omega (arith, less, e))
       by (suc n) e = (n, (at.valid none).room n e)
 
+  -- where no change is counted, there is none
+  none_of : (own : Own) → length own ≡ 0 → own ≡ []
+  none_of [] is = refl
+  none_of (c ∷ own) is = absurd (omega (arith, is))
+
   module _ (old new : Environment D) (session : ℕ) (found : Option (Bor Active)) (a : Bor Active) (its : found ≡ Some a)
       (finds : (st : Standing) → AreSessionsAt old.sessions st → option_copied found ≡ active_of session st.actives)
-      (own_list : Own) (own_is : (st : Standing) → AreSessionsAt old.sessions st → own_list ≡ st.own a.now.txn.0) (valid : old.engine.kept.fault ≡ None) where
+      (counts : OwnCounts) (counts_are : (st : Standing) → AreSessionsAt old.sessions st → counts ≡ counted (st.own a.now.txn.0)) (valid : old.engine.kept.fault ≡ None) where
     some_at : (st : Standing) → AreSessionsAt old.sessions st → active_of session st.actives ≡ Some a.now
     some_at st at = sym (finds st at) ∙ ap option_copied its
 
     same_session : (st : Standing) → AreSessionsAt old.sessions st → a.now.session ≡ session
     same_session st at = found_session session a.now st.actives (some_at st at)
 
-    pub empty_performs : own_list ≡ [] → HasAbandoned old new session a.now.txn → CanGoOn old → PerformsAnswer observable history sync_out read_out read_of faults old new session Commit (Ok Done)
+    pub empty_performs : counts.len ≡ 0 → HasAbandoned old new session a.now.txn → CanGoOn old → PerformsAnswer meaning old new session Commit (Ok Done)
     empty_performs empty h bounds = record {
       comes = λ most st line at sound early.
           came_empty old new st a.now 0 most session line (subst (λ (s : ℕ). HasAbandoned old new s a.now.txn) (sym (same_session st at.sessions_at)) h) (some_at st at.sessions_at)
-          (sym (own_is st at.sessions_at) ∙ empty) sound (sym at.fault ∙ valid) at;
+          (none_of (st.own a.now.txn.0) (sym (ap (λ (k : OwnCounts). k.len) (counts_are st at.sessions_at)) ∙ empty)) sound (sym at.fault ∙ valid) at;
       near = tt;
       bounds = subst (λ (k : Kept). k.commits ≤ k.last_txn) (sym h.kept) bounds;
       cause = record {
-        never_falls = subst (λ (d : D). faults (disk_of old) ≤ faults d) (sym h.log.disk) (omega arith);
+        never_falls = subst (λ (d : D). meaning.faults (disk_of old) ≤ meaning.faults d) (sym h.log.disk) (omega arith);
         fault = λ done. absurd (never_fault NoSync 0 done);
       };
     }
 
-    some_own : own_list ≢ [] → (st : Standing) → AreSessionsAt old.sessions st → st.own a.now.txn.0 ≢ []
-    some_own nonempty st at none = nonempty (own_is st at ∙ none)
+    some_own : counts.len ≢ 0 → (st : Standing) → AreSessionsAt old.sessions st → st.own a.now.txn.0 ≢ []
+    some_own nonempty st at none = nonempty (ap (λ (k : OwnCounts). k.len) (counts_are st at) ∙ ap length none)
 
-    pub room_performs : own_list ≢ [] → (most : ℕ) (st : Standing) → StandsAt most observable history old st → (owed : ℕ) × HasRoomFor old.engine.trees.log (commit_sizes (suc owed))
+    pub room_performs : counts.len ≢ 0 → (most : ℕ) (st : Standing) → StandsAt most meaning old st → (owed : ℕ) × HasRoomFor old.engine.trees.log (commit_sizes (suc owed))
     room_performs nonempty most st at = room_for most old st session a.now (some_at st at.sessions_at) (some_own nonempty st at.sessions_at) (sym at.fault ∙ valid) at
 
-    pub settled_performs : (records : ℕ) (answer : Answer) → own_list ≢ [] → HasSettled observable history sync_out read_out read_of faults old new session a.now.txn records →
-        records + had_at a.now.txn old.written.by_txn.entries ≡ old.engine.kept.totals.records + count_by (λ (c : ℕ × RecordChange). is_set c.1) own_list →
+    pub settled_performs : (records : ℕ) (answer : Answer) → counts.len ≢ 0 → HasSettled meaning old new session a.now.txn records →
+        records + had_at a.now.txn old.written.by_txn.entries ≡ old.engine.kept.totals.records + counts.set →
         old.engine.kept.commits < old.engine.kept.last_txn → ((before : ℕ) → new.engine.kept.commits ≡ before + 1 → answer ≡ commit_answer a.now.durability before) →
-        PerformsAnswer observable history sync_out read_out read_of faults old new session Commit (Ok answer)
+        PerformsAnswer meaning old new session Commit (Ok answer)
     settled_performs records answer nonempty h sum fits answers = record {
       comes = λ most st line at sound early.
-          subst (λ (r : Answer). HasCome observable history sync_out read_out read_of most old new st session line Commit r [])
+          subst (λ (r : Answer). HasCome meaning most old new st session line Commit r [])
           (sym (answers st.commits (ap (λ (k : Kept). k.commits) h.committed.kept ∙ ap (λ (n : ℕ). n + 1) at.commits)))
           (came old new st a.now records most session line
-          (subst (λ (s : ℕ). HasSettled observable history sync_out read_out read_of faults old new s a.now.txn records) (sym (same_session st at.sessions_at)) h)
+          (subst (λ (s : ℕ). HasSettled meaning old new s a.now.txn records) (sym (same_session st at.sessions_at)) h)
           (some_at st at.sessions_at) (some_own nonempty st at.sessions_at)
-          (sum ∙ ap (λ (l : Own). old.engine.kept.totals.records + count_by (λ (c : ℕ × RecordChange). is_set c.1) l) (own_is st at.sessions_at))
+          (sum ∙ ap (λ (k : OwnCounts). old.engine.kept.totals.records + k.set) (counts_are st at.sessions_at))
           (sym at.fault ∙ valid) at);
       near = tt;
       bounds = subst (λ (k : Kept). k.commits ≤ k.last_txn) (sym h.committed.kept) (omega (arith, fits));
@@ -649,9 +657,9 @@ module _ {D : Type 0} (observable : Bool) (history : D → History) (sync_out re
       };
     }
 
-    pub fault_performs : own_list ≢ [] → HasNotSettled observable history sync_out read_out read_of faults old new a.now.txn → CanGoOn old →
-        (most : ℕ) (st : Standing) → StandsAt most observable history old st →
-        PerformsAnswer observable history sync_out read_out read_of faults old new session Commit (Ok DiskFault)
+    pub fault_performs : counts.len ≢ 0 → HasNotSettled meaning old new a.now.txn → CanGoOn old →
+        (most : ℕ) (st : Standing) → StandsAt most meaning old st →
+        PerformsAnswer meaning old new session Commit (Ok DiskFault)
     fault_performs nonempty h bounds most_here here at_here = record {
       comes = λ most st line at sound early.
           came_fault old new st a.now 0 most session line h (some_at st at.sessions_at) (some_own nonempty st at.sessions_at) (sym at.fault ∙ valid) at;

@@ -2,7 +2,7 @@
 use Rattle.std.proofs.Common.{◌≡◌, ◌∙◌, ℕ, ◌==◌, Bool, true, false, true≢false, cond, not, filter, inl, List, [], ◌∷◌, ◌++◌, Option, None, Some, is_some, Ok, refl, ap, sym, subst, arith}
 use Rattle.std.proofs.Common.{Bor}
 use Rattle.std.specs.Option.{option_copied, option_map, IfSome}
-use Rattle.je_disk.specs.Moments.{History}
+use Rattle.je_disk.specs.DiskMeaning.{DiskMeaning}
 use Rattle.store_model.specs.declared.place.Place.{Place}
 use Rattle.store_model.specs.declared.store.Database.{Database}
 use Rattle.store_model.specs.declared.change.Change.{Change}
@@ -203,58 +203,57 @@ commits_none call st session is = absurd is
 pub never_done : Done ≡ DiskFault → ⊥
 never_done is = absurd cc
 
-module _ {D : Type 0} (observable : Bool) (history : D → History) where
+module _ {D : Type 0} (meaning : DiskMeaning D) where
   -- with other cursors it stands there
-  placed_at : (most : ℕ) (e : Environment D) (s : Sessions) (st : Standing) (session : ℕ) (others : List Place) → AreSessionsAt s (with_places session others st) → StandsAt most observable history e st →
-      StandsAt most observable history (in_sessions s e) (with_places session others st)
-  placed_at most e s st session others stands at = elsewhere_at most observable history e s st st.own (with_at session others st.places) st.locks refl stands at
+  placed_at : (most : ℕ) (e : Environment D) (s : Sessions) (st : Standing) (session : ℕ) (others : List Place) → AreSessionsAt s (with_places session others st) → StandsAt most meaning e st →
+      StandsAt most meaning (in_sessions s e) (with_places session others st)
+  placed_at most e s st session others stands at = elsewhere_at most meaning e s st st.own (with_at session others st.places) st.locks refl stands at
 
   -- and reaches as far
   pub near_placed : (e : Environment D) (s : Sessions) (st : Standing) (session : ℕ) (others : List Place) → AreSessionsAt e.sessions st → AreSessionsAt s (with_places session others st) → IsWithin (reach_of (in_sessions s e)) (reach_of e)
   near_placed e s st session others at stands = near_owed e s (owed_is s (with_places session others st) stands ∙ sym (owed_is e.sessions st at))
 
-  module _ (sync_out read_out : D → Option ℕ) (read_of : D → ℕ) where
-    pub cursors_come : (most : ℕ) (e : Environment D) (s : Sessions) (st : Standing) (session line : ℕ) (call : Call) (others : List Place) → OpensOrCloses call → late_refusal st session call ≡ None →
-        after_performed call st session line Done [] ≡ with_places session others st → AreSessionsAt s (with_places session others st) → st.fault ≡ None → StandsAt most observable history e st →
-        HasCome observable history sync_out read_out read_of most e (in_sessions s e) st session line call Done []
-    cursors_come most e s st session line call others is late leaves stands none at = subst Come (sym late) (record {
-      limit = None;
-      has_limit = subst (λ (cs : List Change). HasLimit e (owing_after st session) cs None) (sym (writes_none call st session is)) refl;
-      answers = performs_done call None st session line is;
-      here = subst (StandsAt most observable history (in_sessions s e)) (sym leaves) (placed_at most e s st session others stands at);
-      numbered = tt;
-      fault = ap (λ (x : Standing). x.fault) leaves ∙ none;
-      logged = inl (same_buffer e.engine.trees.log, ap (λ (cs : List Change). tried cs (fate_of Done)) (commits_none call st session is), ap (λ (cs : List Change). tried cs (fate_of Done)) (writes_none call st session is));
-      near = within_more e (in_sessions s e) (written_performed call st session) (near_placed e s st session others at.sessions_at stands);
-    })
-      where
-        Come : Option Answer → Type 0
-        Come late = HasStepped observable history sync_out read_out read_of most e (in_sessions s e) (owing_after st session) (written_evaluated late st session call) (changes_evaluated late st session call)
-            (λ limit. IsEvaluated late limit st session line call Done []) (after_evaluated late st session line call Done []) Done
+  pub cursors_come : (most : ℕ) (e : Environment D) (s : Sessions) (st : Standing) (session line : ℕ) (call : Call) (others : List Place) → OpensOrCloses call → late_refusal st session call ≡ None →
+      after_performed call st session line Done [] ≡ with_places session others st → AreSessionsAt s (with_places session others st) → st.fault ≡ None → StandsAt most meaning e st →
+      HasCome meaning most e (in_sessions s e) st session line call Done []
+  cursors_come most e s st session line call others is late leaves stands none at = subst Come (sym late) (record {
+    limit = None;
+    has_limit = subst (λ (cs : List Change). HasLimit e (owing_after st session) cs None) (sym (writes_none call st session is)) refl;
+    answers = performs_done call None st session line is;
+    here = subst (StandsAt most meaning (in_sessions s e)) (sym leaves) (placed_at most e s st session others stands at);
+    numbered = tt;
+    fault = ap (λ (x : Standing). x.fault) leaves ∙ none;
+    logged = inl (same_buffer e.engine.trees.log, ap (λ (cs : List Change). tried cs (fate_of Done)) (commits_none call st session is), ap (λ (cs : List Change). tried cs (fate_of Done)) (writes_none call st session is));
+    near = within_more e (in_sessions s e) (written_performed call st session) (near_placed e s st session others at.sessions_at stands);
+  })
+    where
+      Come : Option Answer → Type 0
+      Come late = HasStepped meaning most e (in_sessions s e) (owing_after st session) (written_evaluated late st session call) (changes_evaluated late st session call)
+          (λ limit. IsEvaluated late limit st session line call Done []) (after_evaluated late st session line call Done []) Done
 
-    -- a refusal alone
-    pub refusal_comes : (most : ℕ) (old new : Environment D) (st : Standing) (session line : ℕ) (call : Call) (answer : Answer) → StandsAt most observable history new (drawn_by (active_of session st.actives) st) → st.fault ≡ None →
-        IsUnchanged old.engine.trees.log new.engine.trees.log → IsWithin (reach_of new) (reach_of old) → late_refusal st session call ≡ Some answer → IsCalm answer →
-        HasCome observable history sync_out read_out read_of most old new st session line call answer []
-    refusal_comes most old new st session line call answer here none same near late calm =
-        refused_late observable history sync_out read_out read_of most old new st session line call answer (record { answer = answer; victims = [] }) here none same near late calm refl refl
+  -- a refusal alone
+  pub refusal_comes : (most : ℕ) (old new : Environment D) (st : Standing) (session line : ℕ) (call : Call) (answer : Answer) → StandsAt most meaning new (drawn_by (active_of session st.actives) st) → st.fault ≡ None →
+      IsUnchanged old.engine.trees.log new.engine.trees.log → IsWithin (reach_of new) (reach_of old) → late_refusal st session call ≡ Some answer → IsCalm answer →
+      HasCome meaning most old new st session line call answer []
+  refusal_comes most old new st session line call answer here none same near late calm =
+      refused_late meaning most old new st session line call answer (record { answer = answer; victims = [] }) here none same near late calm refl refl
 
-    -- a cursor more
-    pub opened_comes : (most : ℕ) (e : Environment D) (s : Sessions) (st : Standing) (session line : ℕ) (call : Call) (c : OpenCursor) → IsOpening st session call c →
-        (place_at c.place.cursor (st.places c.session) ≡ None → IsUnderIn st.store st.numbers c.place.db c.name c.kind → AreSessionsAt s (with_places c.session (st.places c.session ++ c.place ∷ []) st)) → st.fault ≡ None →
-        StandsAt most observable history e st → HasCome observable history sync_out read_out read_of most e (in_sessions s e) st session line call Done []
-    opened_comes most e s st session line call c o stands none at =
-        cursors_come most e s st session line call (st.places session ++ c.place ∷ []) o.is o.late (o.leaves line)
-        (subst (λ (n : ℕ). AreSessionsAt s (with_places n (st.places n ++ c.place ∷ []) st)) o.its
-        (stands (subst (λ (n : ℕ). place_at c.place.cursor (st.places n) ≡ None) (sym o.its) o.free) o.under)) none at
+  -- a cursor more
+  pub opened_comes : (most : ℕ) (e : Environment D) (s : Sessions) (st : Standing) (session line : ℕ) (call : Call) (c : OpenCursor) → IsOpening st session call c →
+      (place_at c.place.cursor (st.places c.session) ≡ None → IsUnderIn st.store st.numbers c.place.db c.name c.kind → AreSessionsAt s (with_places c.session (st.places c.session ++ c.place ∷ []) st)) → st.fault ≡ None →
+      StandsAt most meaning e st → HasCome meaning most e (in_sessions s e) st session line call Done []
+  opened_comes most e s st session line call c o stands none at =
+      cursors_come most e s st session line call (st.places session ++ c.place ∷ []) o.is o.late (o.leaves line)
+      (subst (λ (n : ℕ). AreSessionsAt s (with_places n (st.places n ++ c.place ∷ []) st)) o.its
+      (stands (subst (λ (n : ℕ). place_at c.place.cursor (st.places n) ≡ None) (sym o.its) o.free) o.under)) none at
 
-    -- there was no memory
-    pub not_opened : (most : ℕ) (e : Environment D) (s : Sessions) (st : Standing) → AreSessionsAt s st → StandsAt most observable history e st → HasNotCome observable history sync_out read_out read_of most e (in_sessions s e) st
-    not_opened most e s st stands at = record {
-      here = sessions_same most observable history e s st stands at;
-      log = same_buffer e.engine.trees.log;
-      near = near_owed e s (owed_is s st stands ∙ sym (owed_is e.sessions st at.sessions_at));
-    }
+  -- there was no memory
+  pub not_opened : (most : ℕ) (e : Environment D) (s : Sessions) (st : Standing) → AreSessionsAt s st → StandsAt most meaning e st → HasNotCome meaning most e (in_sessions s e) st
+  not_opened most e s st stands at = record {
+    here = sessions_same most meaning e s st stands at;
+    log = same_buffer e.engine.trees.log;
+    near = near_owed e s (owed_is s st stands ∙ sym (owed_is e.sessions st at.sessions_at));
+  }
 
 -- a calm answer is no fault of the disk
 pub calm_step : (before after : ℕ) (answer : Answer) → IsCalm answer → after ≡ before → HasStepCause before after (Ok answer)
@@ -263,27 +262,27 @@ calm_step before after answer calm same = record {
   fault = λ fault. absurd (true≢false (ap is_disk_fault (sym fault) ∙ faultless answer calm));
 }
 
-module _ {D : Type 0} (observable : Bool) (history : D → History) (sync_out read_out : D → Option ℕ) (read_of faults : D → ℕ) where
+module _ {D : Type 0} (meaning : DiskMeaning D) where
   -- a refusal, wherever the model stands
-  pub refusal_performs : (old new : Environment D) (session : ℕ) (call : Call) (answer : Answer) → IsCalm answer → ((most : ℕ) (st : Standing) → StandsAt most observable history old st → late_refusal st session call ≡ Some answer) →
-      old.engine.kept.fault ≡ None → ((most : ℕ) (st : Standing) → StandsAt most observable history old st → StandsAt most observable history new (drawn_by (active_of session st.actives) st)) →
-      IsUnchanged old.engine.trees.log new.engine.trees.log → IsWithin (reach_of new) (reach_of old) → CanGoOn new → faults (disk_of new) ≡ faults (disk_of old) →
-      PerformsAnswer observable history sync_out read_out read_of faults old new session call (Ok answer)
+  pub refusal_performs : (old new : Environment D) (session : ℕ) (call : Call) (answer : Answer) → IsCalm answer → ((most : ℕ) (st : Standing) → StandsAt most meaning old st → late_refusal st session call ≡ Some answer) →
+      old.engine.kept.fault ≡ None → ((most : ℕ) (st : Standing) → StandsAt most meaning old st → StandsAt most meaning new (drawn_by (active_of session st.actives) st)) →
+      IsUnchanged old.engine.trees.log new.engine.trees.log → IsWithin (reach_of new) (reach_of old) → CanGoOn new → meaning.faults (disk_of new) ≡ meaning.faults (disk_of old) →
+      PerformsAnswer meaning old new session call (Ok answer)
   refusal_performs old new session call answer calm late valid here same near bounds disk = record {
     comes = λ most st line at sound early.
-        refusal_comes observable history sync_out read_out read_of most old new st session line call answer (here most st at) (sym at.fault ∙ valid) same near (late most st at) calm;
+        refusal_comes meaning most old new st session line call answer (here most st at) (sym at.fault ∙ valid) same near (late most st at) calm;
     near = tt;
     bounds = bounds;
-    cause = calm_step (faults (disk_of old)) (faults (disk_of new)) answer calm disk;
+    cause = calm_step (meaning.faults (disk_of old)) (meaning.faults (disk_of new)) answer calm disk;
   }
 
   -- a cursor that is closed
-  pub close_performs : (e : Environment D) (s : Sessions) (session cursor : ℕ) → ((most : ℕ) (st : Standing) → StandsAt most observable history e st → late_refusal st session (Close cursor) ≡ None) → e.engine.kept.fault ≡ None →
+  pub close_performs : (e : Environment D) (s : Sessions) (session cursor : ℕ) → ((most : ℕ) (st : Standing) → StandsAt most meaning e st → late_refusal st session (Close cursor) ≡ None) → e.engine.kept.fault ≡ None →
       ((st : Standing) → AreSessionsAt e.sessions st → AreSessionsAt s (with_places session (filter (λ p. not (p.cursor == cursor)) (st.places session)) st)) → CanGoOn e →
-      PerformsAnswer observable history sync_out read_out read_of faults e (in_sessions s e) session (Close cursor) (Ok Done)
+      PerformsAnswer meaning e (in_sessions s e) session (Close cursor) (Ok Done)
   close_performs e s session cursor late valid stands bounds = record {
     comes = λ most st line at sound early.
-        cursors_come observable history sync_out read_out read_of most e s st session line (Close cursor) (filter (λ p. not (p.cursor == cursor)) (st.places session)) tt (late most st at) refl (stands st at.sessions_at) (sym at.fault ∙ valid) at;
+        cursors_come meaning most e s st session line (Close cursor) (filter (λ p. not (p.cursor == cursor)) (st.places session)) tt (late most st at) refl (stands st at.sessions_at) (sym at.fault ∙ valid) at;
     near = tt;
     bounds = bounds;
     cause = record { never_falls = omega arith; fault = λ done. absurd (never_done done) };

@@ -4,7 +4,7 @@ use Rattle.std.specs.Prelude.{IfSome}
 use Rattle.std.specs.List.{AllByRecursion}
 use Rattle.std.specs.declared.alloc.AllocError.{AllocError}
 use Rattle.std.proofs.lemmas.Bool.{eqb-true}
-use Rattle.je_disk.specs.Moments.{History}
+use Rattle.je_disk.specs.DiskMeaning.{DiskMeaning}
 use Rattle.je_order.specs.declared.txn_id.TxnId.{TxnId}
 use Rattle.lock_table.specs.declared.record_id.RecordId.{RecordId}
 use Rattle.store_model.specs.declared.answer.Answer.{Answer}
@@ -99,9 +99,9 @@ module _ {D : Type 0} where
   pub same_reach : (e : Environment D) → IsWithin (reach_of e) (reach_of e)
   same_reach e = record { file = omega arith; node = omega arith }
 
-  module _ (observable : Bool) (history : D → History) (sync_out read_out : D → Option ℕ) (read_of : D → ℕ) where
-    pub refused_early : (most : ℕ) (e : Environment D) (st : Standing) (session line : ℕ) (call : Call) (refusal : Answer) → StandsAt most observable history e st → st.fault ≡ None →
-        early_refusal st session call ≡ Some refusal → HasCalled observable history sync_out read_out read_of most e e st session line call refusal []
+  module _ (meaning : DiskMeaning D) where
+    pub refused_early : (most : ℕ) (e : Environment D) (st : Standing) (session line : ℕ) (call : Call) (refusal : Answer) → StandsAt most meaning e st → st.fault ≡ None →
+        early_refusal st session call ≡ Some refusal → HasCalled meaning most e e st session line call refusal []
     refused_early most e st session line call refusal here none is =
         subst Called (sym is) (record {
           limit = None;
@@ -110,7 +110,7 @@ module _ {D : Type 0} where
           here = here;
           numbered = unnumbered refusal st.commits calm;
           fault = none ∙ ap (λ (b : Bool). cond b (Some Disk) None) (sym (faultless refusal calm));
-          logged = subst (λ (b : Bool). IsCallStep observable history sync_out read_out read_of b e.engine e.engine.trees.log [] []) (sym (faultless refusal calm)) (inl (same_buffer e.engine.trees.log, refl, refl));
+          logged = subst (λ (b : Bool). IsCallStep meaning b e.engine e.engine.trees.log [] []) (sym (faultless refusal calm)) (inl (same_buffer e.engine.trees.log, refl, refl));
           near = within_more e e [] (same_reach e);
         })
       where
@@ -118,16 +118,16 @@ module _ {D : Type 0} where
         calm = subst IsCalmRefusal is (calm_early st session call)
 
         Called : Option Answer → Type 0
-        Called early = HasStepped observable history sync_out read_out read_of most e e (owing_after st session) (written_unless early st session call) (changes_of early st session call)
+        Called early = HasStepped meaning most e e (owing_after st session) (written_unless early st session call) (changes_of early st session call)
             (λ limit. IsCallAnswered early limit st session line call refusal []) (after_call early st session line call refusal []) refusal
 
     -- a call that nothing refuses early
     pub not_refused : (most : ℕ) (old new : Environment D) (st : Standing) (session line : ℕ) (call : Call) (result : Result Outcome AllocError) → early_refusal st session call ≡ None →
-        ComesTo observable history sync_out read_out read_of most old new st session line call result → CallsTo observable history sync_out read_out read_of most old new st session line call result
+        ComesTo meaning most old new st session line call result → CallsTo meaning most old new st session line call result
     not_refused most old new st session line call (Ok o) none comes = subst Called (sym none) comes
       where
         Called : Option Answer → Type 0
-        Called early = HasStepped observable history sync_out read_out read_of most old new (owing_after st session) (written_unless early st session call) (changes_of early st session call)
+        Called early = HasStepped meaning most old new (owing_after st session) (written_unless early st session call) (changes_of early st session call)
             (λ limit. IsCallAnswered early limit st session line call o.answer o.victims) (after_call early st session line call o.answer o.victims) o.answer
     not_refused most old new st session line call (Err error) none comes = comes
 

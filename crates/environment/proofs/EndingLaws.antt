@@ -9,6 +9,7 @@ use Rattle.std.specs.List.{AllByRecursion, list_any}
 use Rattle.std.proofs.lemmas.Bool.{cond-true, cond-false, eqb-true, or_right}
 use Rattle.std.proofs.lemmas.Bool.Decides.{eqb_tells}
 use Rattle.std.proofs.lemmas.Option.{none-some, same_Some}
+use Rattle.je_disk.specs.DiskMeaning.{DiskMeaning}
 use Rattle.je_disk.specs.States.{State}
 use Rattle.je_disk.specs.Moments.{History, now}
 use Rattle.je_lsn.specs.Naming.{last_file}
@@ -270,7 +271,7 @@ module _ {D : Type 0} where
 
   -- ---- where it stands
 
-  module _ (most : ℕ) (observable : Bool) (history : D → History) (old new : Environment D) (st : Standing) (a : Active) where
+  module _ (most : ℕ) (meaning : DiskMeaning D) (old new : Environment D) (st : Standing) (a : Active) where
     abbrev rows_old : Rows
     rows_old = committed (cells_of old.engine.trees)
 
@@ -278,7 +279,7 @@ module _ {D : Type 0} where
     rows_new = committed (cells_of new.engine.trees)
 
     abbrev state_of : D → State
-    state_of d = now (history d)
+    state_of d = now (meaning.history d)
 
     abbrev after_ : Standing
     after_ = ended a st
@@ -320,13 +321,13 @@ module _ {D : Type 0} where
             (room_fewer old.engine.trees.log (suc n) (suc m) (omega (arith, less, e, is)) (room m e))
 
     valid_still : HasAbandoned old new a.session a.txn → AreNumbered st.last_txn st.actives → active_of a.session st.actives ≡ Some a →
-        IsValidWith observable (state_of (disk_of old.engine.trees.log)) old.engine.trees.log (cells_of old.engine.trees) (has_tree_of old.engine.trees) (fitting old.engine.trees) old.engine.kept.since old.written.by_txn.entries st →
-        IsValidWith observable (state_of (disk_of new.engine.trees.log)) new.engine.trees.log (cells_of new.engine.trees) (has_tree_of new.engine.trees) (fitting new.engine.trees) new.engine.kept.since new.written.by_txn.entries after_
+        IsValidWith meaning.observable (state_of (disk_of old.engine.trees.log)) old.engine.trees.log (cells_of old.engine.trees) (has_tree_of old.engine.trees) (fitting old.engine.trees) old.engine.kept.since old.written.by_txn.entries st →
+        IsValidWith meaning.observable (state_of (disk_of new.engine.trees.log)) new.engine.trees.log (cells_of new.engine.trees) (has_tree_of new.engine.trees) (fitting new.engine.trees) new.engine.kept.since new.written.by_txn.entries after_
     unfolding still_gives
     valid_still h numbers is v = record {
       log = v.log;
-      has = subst (λ (d : D). HasLog observable (state_of d) new.engine.trees.log v.log) (sym h.log.disk)
-          (log_kept observable (state_of (disk_of old.engine.trees.log)) old.engine.trees.log new.engine.trees.log v.log h.log.kept v.has);
+      has = subst (λ (d : D). HasLog meaning.observable (state_of d) new.engine.trees.log v.log) (sym h.log.disk)
+          (log_kept meaning.observable (state_of (disk_of old.engine.trees.log)) old.engine.trees.log new.engine.trees.log v.log h.log.kept v.has);
       works = h.log.failed ∙ v.works;
       gives = subst (λ (e : LogPos). GivesRecordsWith v.log e rows_new st.last_txn st.last_db (active_number after_.actives) after_.own) (sym h.log.kept.end)
           (subst (λ (r : Rows). GivesRecordsWith v.log (end_of old.engine.trees.log) r st.last_txn st.last_db (active_number after_.actives) after_.own) (sym same)
@@ -370,7 +371,7 @@ module _ {D : Type 0} where
           (fewer_less old.written.by_txn.entries new.written.by_txn.entries a.txn h.names h.firsts))
 
     pub abandoned : HasAbandoned old new a.session a.txn → active_of a.session st.actives ≡ Some a → (st.fault ≡ None → AreNumbered st.last_txn st.actives) →
-        StandsAt most observable history old st → StandsAt most observable history new after_
+        StandsAt most meaning old st → StandsAt most meaning new after_
     abandoned h is numbers at = record {
       file_max = h.log.kept.max ∙ at.file_max;
       fault = ap (λ k. k.fault) h.kept ∙ at.fault;
@@ -437,9 +438,9 @@ module _ {D : Type 0} where
   }
 
   -- a session's call no longer waits
-  pub withdrawn : (most : ℕ) (observable : Bool) (history : D → History) (e : Environment D) (s : Sessions) (st : Standing) (session : ℕ) → StandsAt most observable history e st →
-      AreSessionsAt s (without_call session st) → StandsAt most observable history (record { engine = e.engine; sessions = s; written = e.written }) (without_call session st)
-  withdrawn most observable history e s st session at now_ = record {
+  pub withdrawn : (most : ℕ) (meaning : DiskMeaning D) (e : Environment D) (s : Sessions) (st : Standing) (session : ℕ) → StandsAt most meaning e st →
+      AreSessionsAt s (without_call session st) → StandsAt most meaning (record { engine = e.engine; sessions = s; written = e.written }) (without_call session st)
+  withdrawn most meaning e s st session at now_ = record {
     file_max = at.file_max;
     fault = at.fault;
     last_txn = at.last_txn;
@@ -450,7 +451,7 @@ module _ {D : Type 0} where
     apart = own_waits_left (λ (w : Wait). not (w.session == session)) st.waiting at.apart;
     checkpoint = at.checkpoint;
     databases = at.databases;
-    valid = λ none. valid_waiting observable (now (history (disk_of e.engine.trees.log))) e.engine.trees.log (cells_of e.engine.trees) (has_tree_of e.engine.trees) (fitting e.engine.trees) e.engine.kept.since e.written.by_txn.entries st
+    valid = λ none. valid_waiting meaning.observable (now (meaning.history (disk_of e.engine.trees.log))) e.engine.trees.log (cells_of e.engine.trees) (has_tree_of e.engine.trees) (fitting e.engine.trees) e.engine.kept.since e.written.by_txn.entries st
         (without_call session st).waiting st.locks (at.valid none);
   }
 

@@ -6,7 +6,8 @@ use Rattle.std.proofs.Common.{◌≡◌, ◌≢◌, ◌∙◌, ◌==◌, ◌+◌
 use mathlib.Core.Path.{fun_ext}
 use Rattle.std.specs.declared.alloc.AllocError.{AllocError}
 use Rattle.std.proofs.lemmas.Bool.{eqb-true, eqb-false}
-use Rattle.je_disk.specs.Moments.{History, now}
+use Rattle.je_disk.specs.DiskMeaning.{DiskMeaning}
+use Rattle.je_disk.specs.Moments.{now}
 use Rattle.store_model.specs.declared.answer.Answer.{Answer}
 use Rattle.store_model.specs.declared.answer.Answer.TheVariants.{IdsEnded, DiskFault, LogFull, Logged}
 use Rattle.store_model.specs.declared.call.Call.{Call}
@@ -92,8 +93,8 @@ within_by : (n last_db : ℕ) (b : Bool) → (n == 0) ≡ b → (n ≢ 0 → n �
 within_by n last_db true e le = let is = eqb-true n 0 e in omega (arith, is)
 within_by n last_db false e le = le (eqb-false n 0 e)
 
-module _ {D : Type 0} (observable : Bool) (history : D → History) (sync_out read_out : D → Option ℕ) (read_of : D → ℕ) where
-  module _ (most : ℕ) (e : Environment D) (st : Standing) (session : ℕ) (call : Call) (fills : Bool) (planned : PlannedChanges) (at : StandsAt most observable history e st) (none : st.fault ≡ None) (is : ChangesCatalog call)
+module _ {D : Type 0} (meaning : DiskMeaning D) where
+  module _ (most : ℕ) (e : Environment D) (st : Standing) (session : ℕ) (call : Call) (fills : Bool) (planned : PlannedChanges) (at : StandsAt most meaning e st) (none : st.fault ≡ None) (is : ChangesCatalog call)
       (its : IsPlannedAs (known (contents_of e.engine)) (alone_of st) session call fills planned) (number : Option ℕ) (held : Held) (number_is : number ≡ changed_number (number_named (committed (cells_of e.engine.trees))) call)
       (held_is : IsHeldFor e.engine.kept.last_db number call held) where
     abbrev rows_ : Rows
@@ -127,7 +128,7 @@ module _ {D : Type 0} (observable : Bool) (history : D → History) (sync_out re
     within name =
         subst (λ (f : List ℕ → ℕ). f name ≤ last_) numbers_are
         (within_by (number_named rows_ name) last_ (number_named rows_ name == 0) refl
-        (number-within rows_ last_ name (sound_at most observable (now (history (disk_below e.engine.trees.log))) e.engine.trees.log (contents_of e.engine) (alone_of st) (alone_at most observable history e st at) none)))
+        (number-within rows_ last_ name (sound_at most meaning.observable (now (meaning.history (disk_below e.engine.trees.log))) e.engine.trees.log (contents_of e.engine) (alone_of st) (alone_at most meaning e st at) none)))
 
     change_is : IsChangeOf call its.log.change
     change_is = (one_planned (known (contents_of e.engine)) (alone_of st) session call planned is its.log).0
@@ -165,7 +166,7 @@ module _ {D : Type 0} (observable : Bool) (history : D → History) (sync_out re
         }
 
     pub follows_call : (n : Engine D) (owed : ℕ) (result : Result Answer AllocError) (kept : Kept) (done : Bool) → done ≡ is_logged result →
-        LogsChanges observable history sync_out read_out read_of e.engine.trees.log n.trees.log (contents_of e.engine) (contents_of n) planned (limit_found fills e.engine.trees planned.changes.items owed) result →
+        LogsChanges meaning e.engine.trees.log n.trees.log (contents_of e.engine) (contents_of n) planned (limit_found fills e.engine.trees planned.changes.items owed) result →
         (done ≡ true → (was : Names) → HasNames was e.engine.kept.names → IfSome {T = ℕ × List ℕ} held.renamed (λ r. (name : List ℕ) × (names_gone held.gone (names_held last_ call was) r.0 ≡ Some name)) →
         HasNames (names_renamed held.renamed (names_gone held.gone (names_held last_ call was))) kept.names) →
         (done ≡ true → (made : Made) → HasIndexes made e.engine.kept.indexes → made (last_ + 1) ≡ None → HasIndexes (made_gone held.gone (made_held last_ number call made)) kept.indexes) →
@@ -191,9 +192,9 @@ module _ {D : Type 0} where
   abbrev pub with_maps : Environment D → DbNames → IndexMap → Environment D
   with_maps e names indexes = record e { engine = record e.engine { kept = record e.engine.kept { names = names; indexes = indexes } } }
 
-module _ {D : Type 0} (observable : Bool) (history : D → History) (sync_out read_out : D → Option ℕ) (read_of : D → ℕ) where
-  held_still : (most : ℕ) (e : Environment D) (names : DbNames) (indexes : IndexMap) (st : Standing) → StandsAt most observable history e st → (st.fault ≡ None → HaveDatabases st.numbers st.store indexes names) →
-      StandsAt most observable history (with_maps e names indexes) st
+module _ {D : Type 0} (meaning : DiskMeaning D) where
+  held_still : (most : ℕ) (e : Environment D) (names : DbNames) (indexes : IndexMap) (st : Standing) → StandsAt most meaning e st → (st.fault ≡ None → HaveDatabases st.numbers st.store indexes names) →
+      StandsAt most meaning (with_maps e names indexes) st
   held_still most e names indexes st at knows = record {
     file_max = at.file_max;
     fault = at.fault;
@@ -209,12 +210,12 @@ module _ {D : Type 0} (observable : Bool) (history : D → History) (sync_out re
   }
 
   -- there was no memory to hold what it changes
-  pub not_held : (faults : D → ℕ) (e : Environment D) (names : DbNames) (indexes : IndexMap) (session : ℕ) (call : Call) (result : Result Answer AllocError) → IsErr result → e.engine.kept.fault ≡ None → CanGoOn e →
+  pub not_held : (e : Environment D) (names : DbNames) (indexes : IndexMap) (session : ℕ) (call : Call) (result : Result Answer AllocError) → IsErr result → e.engine.kept.fault ≡ None → CanGoOn e →
       ((was : Names) → HasNames was e.engine.kept.names → was (e.engine.kept.last_db + 1) ≡ None → HasNames was names) →
       ((made : Made) → HasIndexes made e.engine.kept.indexes → made (e.engine.kept.last_db + 1) ≡ None → HasIndexes made indexes) →
-      PerformsAnswer observable history sync_out read_out read_of faults e (with_maps e names indexes) session call result
-  not_held faults e names indexes session call (Ok answer) error valid bounds names_are indexes_are = absurd (true≢false (sym error))
-  not_held faults e names indexes session call (Err error) is valid bounds names_are indexes_are = record {
+      PerformsAnswer meaning e (with_maps e names indexes) session call result
+  not_held e names indexes session call (Ok answer) error valid bounds names_are indexes_are = absurd (true≢false (sym error))
+  not_held e names indexes session call (Err error) is valid bounds names_are indexes_are = record {
     comes = λ most st line at sound early. record {
       here = held_still most e names indexes st at (λ calm.
           let knows = at.databases calm in

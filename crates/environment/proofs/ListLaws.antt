@@ -2,7 +2,8 @@
 use Rattle.std.specs.Option.{option_copied}
 use Rattle.std.proofs.Common.{◌≡◌, ◌∙◌, ◌≤◌, ◌+◌, ℕ, Bor, nat_lt, Bool, true, false, cond, is_some, List, [], Option, None, Some, Ok, Err, ap, refl, sym, subst, inl, arith}
 use Rattle.std.specs.declared.alloc.AllocError.{AllocError}
-use Rattle.je_disk.specs.Moments.{History, now}
+use Rattle.je_disk.specs.DiskMeaning.{DiskMeaning}
+use Rattle.je_disk.specs.Moments.{now}
 use Rattle.je_disk.specs.States.{State}
 use Rattle.je_order.specs.declared.txn_id.TxnId.{TxnId}
 use Rattle.store_model.specs.declared.store.TheConstants.{LAST_TXN}
@@ -94,9 +95,9 @@ module _ {D : Type 0} where
     firsts = v.firsts;
   }
 
-  pub drawn_at : (most : ℕ) (observable : Bool) (history : D → History) (e : Environment D) (last : ℕ) (st : Standing) → st.last_txn ≤ last → StandsAt most observable history e st →
-      StandsAt most observable history (with_begun e last e.sessions) (record st { last_txn = last })
-  drawn_at most observable history e last st more at = record {
+  pub drawn_at : (most : ℕ) (meaning : DiskMeaning D) (e : Environment D) (last : ℕ) (st : Standing) → st.last_txn ≤ last → StandsAt most meaning e st →
+      StandsAt most meaning (with_begun e last e.sessions) (record st { last_txn = last })
+  drawn_at most meaning e last st more at = record {
     file_max = at.file_max;
     fault = at.fault;
     last_txn = refl;
@@ -107,7 +108,7 @@ module _ {D : Type 0} where
     apart = at.apart;
     checkpoint = at.checkpoint;
     databases = at.databases;
-    valid = λ none. valid_drawn observable (now (history (disk_below e.engine.trees.log))) e.engine.trees.log (cells_of e.engine.trees) (has_tree_of e.engine.trees) (fitting e.engine.trees) e.engine.kept.since e.written.by_txn.entries st last more (at.valid none);
+    valid = λ none. valid_drawn meaning.observable (now (meaning.history (disk_below e.engine.trees.log))) e.engine.trees.log (cells_of e.engine.trees) (has_tree_of e.engine.trees) (fitting e.engine.trees) e.engine.kept.since e.written.by_txn.entries st last more (at.valid none);
   }
 
 -- ---- the call
@@ -125,20 +126,20 @@ pub drawn_fault : (o : Option Active) (st : Standing) → (drawn_by o st).fault 
 drawn_fault None st = refl
 drawn_fault (Some a) st = refl
 
-module _ {D : Type 0} (observable : Bool) (history : D → History) (sync_out read_out : D → Option ℕ) (read_of : D → ℕ) where
+module _ {D : Type 0} (meaning : DiskMeaning D) where
   abbrev Come : ℕ → Environment D → Environment D → Standing → ℕ → ℕ → Answer → Option Answer → Type 0
   Come most old new st session line answer late =
-      HasStepped observable history sync_out read_out read_of most old new (owing_after st session) (written_evaluated late st session Lists)
+      HasStepped meaning most old new (owing_after st session) (written_evaluated late st session Lists)
       (changes_evaluated late st session Lists) (λ limit. IsEvaluated late limit st session line Lists answer []) (after_evaluated late st session line Lists answer []) answer
 
   -- in a transaction
-  listed_inside : (most : ℕ) (e : Environment D) (st : Standing) (session line : ℕ) (a : Active) → active_of session st.actives ≡ Some a → st.fault ≡ None → StandsAt most observable history e st →
-      HasCome observable history sync_out read_out read_of most e e st session line Lists (Names (names_of st.store)) []
+  listed_inside : (most : ℕ) (e : Environment D) (st : Standing) (session line : ℕ) (a : Active) → active_of session st.actives ≡ Some a → st.fault ≡ None → StandsAt most meaning e st →
+      HasCome meaning most e e st session line Lists (Names (names_of st.store)) []
   listed_inside most e st session line a some none at = subst (Come most e e st session line (Names (names_of st.store))) (sym (list_late st session (Some a) some)) (record {
     limit = None;
     has_limit = refl;
     answers = (refl, refl);
-    here = subst (λ (o : Option Active). StandsAt most observable history e (drawn_by o st)) (sym some) at;
+    here = subst (λ (o : Option Active). StandsAt most meaning e (drawn_by o st)) (sym some) at;
     numbered = tt;
     fault = drawn_fault (active_of session st.actives) st ∙ none;
     logged = inl (same_buffer e.engine.trees.log, refl, refl);
@@ -147,16 +148,16 @@ module _ {D : Type 0} (observable : Bool) (history : D → History) (sync_out re
 
   -- outside, where a number is left
   listed_outside : (most : ℕ) (e : Environment D) (last : ℕ) (st : Standing) (session line : ℕ) → active_of session st.actives ≡ None → nat_lt st.last_txn LAST_TXN ≡ true → last ≡ next_txn st.last_txn → st.fault ≡ None →
-      StandsAt most observable history e st → HasCome observable history sync_out read_out read_of most e (with_begun e last e.sessions) st session line Lists (Names (names_of st.store)) []
+      StandsAt most meaning e st → HasCome meaning most e (with_begun e last e.sessions) st session line Lists (Names (names_of st.store)) []
   listed_outside most e last st session line outside left next none at =
       subst (Come most e (with_begun e last e.sessions) st session line (Names (names_of st.store)))
       (sym (list_late st session None outside ∙ ap (λ (b : Bool). or_refusal (cond b None (Some IdsEnded)) None) left)) (record {
         limit = None;
         has_limit = refl;
         answers = (refl, refl);
-        here = subst (λ (o : Option Active). StandsAt most observable history (with_begun e last e.sessions) (drawn_by o st)) (sym outside)
-            (subst (λ (n : ℕ). StandsAt most observable history (with_begun e last e.sessions) (record st { last_txn = n })) next
-            (drawn_at most observable history e last st (let more = next ∙ next_is st.last_txn left in omega (arith, more)) at));
+        here = subst (λ (o : Option Active). StandsAt most meaning (with_begun e last e.sessions) (drawn_by o st)) (sym outside)
+            (subst (λ (n : ℕ). StandsAt most meaning (with_begun e last e.sessions) (record st { last_txn = n })) next
+            (drawn_at most meaning e last st (let more = next ∙ next_is st.last_txn left in omega (arith, more)) at));
         numbered = tt;
         fault = drawn_fault (active_of session st.actives) st ∙ none;
         logged = inl (same_buffer e.engine.trees.log, refl, refl);
@@ -164,15 +165,15 @@ module _ {D : Type 0} (observable : Bool) (history : D → History) (sync_out re
       })
 
   -- and where none is
-  refused_outside : (most : ℕ) (e : Environment D) (st : Standing) (session line : ℕ) → active_of session st.actives ≡ None → nat_lt st.last_txn LAST_TXN ≡ false → st.fault ≡ None → StandsAt most observable history e st →
-      HasCome observable history sync_out read_out read_of most e e st session line Lists IdsEnded []
+  refused_outside : (most : ℕ) (e : Environment D) (st : Standing) (session line : ℕ) → active_of session st.actives ≡ None → nat_lt st.last_txn LAST_TXN ≡ false → st.fault ≡ None → StandsAt most meaning e st →
+      HasCome meaning most e e st session line Lists IdsEnded []
   refused_outside most e st session line outside ended none at =
       subst (Come most e e st session line IdsEnded) (sym (list_late st session None outside ∙ ap (λ (b : Bool). or_refusal (cond b None (Some IdsEnded)) None) ended)) (record {
         limit = None;
         has_limit = refl;
         answers = (refl, refl);
-        here = subst (λ (o : Option Active). StandsAt most observable history e (drawn_by o st)) (sym outside)
-            (subst (λ (n : ℕ). StandsAt most observable history e (record st { last_txn = n })) (sym (ap (λ (b : Bool). cond b (st.last_txn + 1) st.last_txn) ended)) at);
+        here = subst (λ (o : Option Active). StandsAt most meaning e (drawn_by o st)) (sym outside)
+            (subst (λ (n : ℕ). StandsAt most meaning e (record st { last_txn = n })) (sym (ap (λ (b : Bool). cond b (st.last_txn + 1) st.last_txn) ended)) at);
         numbered = tt;
         fault = drawn_fault (active_of session st.actives) st ∙ none;
         logged = inl (same_buffer e.engine.trees.log, refl, refl);
@@ -187,52 +188,51 @@ module _ {D : Type 0} (observable : Bool) (history : D → History) (sync_out re
   found_none None h = refl
   found_none (Some a) h = absurd cc
 
-  module _ (faults : D → ℕ) where
-    pub inside_performs : (e : Environment D) (session : ℕ) (answer : Answer) → ((most : ℕ) (st : Standing) → StandsAt most observable history e st → is_some (active_of session st.actives) ≡ true) → e.engine.kept.fault ≡ None →
-        CanGoOn e → ((most : ℕ) (st : Standing) → StandsAt most observable history e st → answer ≡ Names (names_of st.store)) → (answer ≡ DiskFault → ⊥) →
-        PerformsAnswer observable history sync_out read_out read_of faults e e session Lists (Ok answer)
-    inside_performs e session answer inside valid bounds is calm = record {
-      comes = λ most st line at sound early.
-          let some = found_some (active_of session st.actives) (inside most st at) in
-          subst (λ (a : Answer). HasCome observable history sync_out read_out read_of most e e st session line Lists a []) (sym (is most st at))
-          (listed_inside most e st session line some.0 some.1 (sym at.fault ∙ valid) at);
-      near = tt;
-      bounds = bounds;
-      cause = record { never_falls = omega arith; fault = λ done. absurd (calm done) };
-    }
+  pub inside_performs : (e : Environment D) (session : ℕ) (answer : Answer) → ((most : ℕ) (st : Standing) → StandsAt most meaning e st → is_some (active_of session st.actives) ≡ true) → e.engine.kept.fault ≡ None →
+      CanGoOn e → ((most : ℕ) (st : Standing) → StandsAt most meaning e st → answer ≡ Names (names_of st.store)) → (answer ≡ DiskFault → ⊥) →
+      PerformsAnswer meaning e e session Lists (Ok answer)
+  inside_performs e session answer inside valid bounds is calm = record {
+    comes = λ most st line at sound early.
+        let some = found_some (active_of session st.actives) (inside most st at) in
+        subst (λ (a : Answer). HasCome meaning most e e st session line Lists a []) (sym (is most st at))
+        (listed_inside most e st session line some.0 some.1 (sym at.fault ∙ valid) at);
+    near = tt;
+    bounds = bounds;
+    cause = record { never_falls = omega arith; fault = λ done. absurd (calm done) };
+  }
 
-    pub outside_performs : (e : Environment D) (session last : ℕ) (answer : Answer) → ((most : ℕ) (st : Standing) → StandsAt most observable history e st → is_some (active_of session st.actives) ≡ false) →
-        nat_lt e.engine.kept.last_txn LAST_TXN ≡ true → last ≡ e.engine.kept.last_txn + 1 → e.engine.kept.fault ≡ None → CanGoOn e →
-        ((most : ℕ) (st : Standing) → StandsAt most observable history e st → answer ≡ Names (names_of st.store)) → (answer ≡ DiskFault → ⊥) →
-        PerformsAnswer observable history sync_out read_out read_of faults e (with_begun e last e.sessions) session Lists (Ok answer)
-    outside_performs e session last answer outside left next valid bounds is calm = record {
-      comes = λ most st line at sound early.
-          let less = ap (λ (n : ℕ). nat_lt n LAST_TXN) (sym at.last_txn) ∙ left in
-          let number = next ∙ ap (λ (n : ℕ). n + 1) at.last_txn ∙ sym (next_is st.last_txn less) in
-          subst (λ (a : Answer). HasCome observable history sync_out read_out read_of most e (with_begun e last e.sessions) st session line Lists a []) (sym (is most st at))
-          (listed_outside most e last st session line (found_none (active_of session st.actives) (outside most st at)) less number (sym at.fault ∙ valid) at);
-      near = tt;
-      bounds = let within : e.engine.kept.commits ≤ e.engine.kept.last_txn = bounds in omega (arith, within, next);
-      cause = record { never_falls = omega arith; fault = λ done. absurd (calm done) };
-    }
+  pub outside_performs : (e : Environment D) (session last : ℕ) (answer : Answer) → ((most : ℕ) (st : Standing) → StandsAt most meaning e st → is_some (active_of session st.actives) ≡ false) →
+      nat_lt e.engine.kept.last_txn LAST_TXN ≡ true → last ≡ e.engine.kept.last_txn + 1 → e.engine.kept.fault ≡ None → CanGoOn e →
+      ((most : ℕ) (st : Standing) → StandsAt most meaning e st → answer ≡ Names (names_of st.store)) → (answer ≡ DiskFault → ⊥) →
+      PerformsAnswer meaning e (with_begun e last e.sessions) session Lists (Ok answer)
+  outside_performs e session last answer outside left next valid bounds is calm = record {
+    comes = λ most st line at sound early.
+        let less = ap (λ (n : ℕ). nat_lt n LAST_TXN) (sym at.last_txn) ∙ left in
+        let number = next ∙ ap (λ (n : ℕ). n + 1) at.last_txn ∙ sym (next_is st.last_txn less) in
+        subst (λ (a : Answer). HasCome meaning most e (with_begun e last e.sessions) st session line Lists a []) (sym (is most st at))
+        (listed_outside most e last st session line (found_none (active_of session st.actives) (outside most st at)) less number (sym at.fault ∙ valid) at);
+    near = tt;
+    bounds = let within : e.engine.kept.commits ≤ e.engine.kept.last_txn = bounds in omega (arith, within, next);
+    cause = record { never_falls = omega arith; fault = λ done. absurd (calm done) };
+  }
 
-    pub none_performs : (e : Environment D) (session : ℕ) → ((most : ℕ) (st : Standing) → StandsAt most observable history e st → is_some (active_of session st.actives) ≡ false) →
-        nat_lt e.engine.kept.last_txn LAST_TXN ≡ false → e.engine.kept.fault ≡ None → CanGoOn e → PerformsAnswer observable history sync_out read_out read_of faults e e session Lists (Ok IdsEnded)
-    none_performs e session outside ended valid bounds = record {
-      comes = λ most st line at sound early.
-          refused_outside most e st session line (found_none (active_of session st.actives) (outside most st at)) (ap (λ (n : ℕ). nat_lt n LAST_TXN) (sym at.last_txn) ∙ ended) (sym at.fault ∙ valid) at;
-      near = tt;
-      bounds = bounds;
-      cause = record { never_falls = omega arith; fault = λ done. absurd (never_ended done) };
-    }
+  pub none_performs : (e : Environment D) (session : ℕ) → ((most : ℕ) (st : Standing) → StandsAt most meaning e st → is_some (active_of session st.actives) ≡ false) →
+      nat_lt e.engine.kept.last_txn LAST_TXN ≡ false → e.engine.kept.fault ≡ None → CanGoOn e → PerformsAnswer meaning e e session Lists (Ok IdsEnded)
+  none_performs e session outside ended valid bounds = record {
+    comes = λ most st line at sound early.
+        refused_outside most e st session line (found_none (active_of session st.actives) (outside most st at)) (ap (λ (n : ℕ). nat_lt n LAST_TXN) (sym at.last_txn) ∙ ended) (sym at.fault ∙ valid) at;
+    near = tt;
+    bounds = bounds;
+    cause = record { never_falls = omega arith; fault = λ done. absurd (never_ended done) };
+  }
 
-    pub not_listed_performs : (e : Environment D) (session : ℕ) (error : AllocError) → CanGoOn e → PerformsAnswer observable history sync_out read_out read_of faults e e session Lists (Err error)
-    not_listed_performs e session error bounds = record {
-      comes = λ most st line at sound early. record { here = at; log = same_buffer e.engine.trees.log; near = same_reach e };
-      near = same_reach e;
-      bounds = bounds;
-      cause = record { never_falls = omega arith; fault = tt };
-    }
+  pub not_listed_performs : (e : Environment D) (session : ℕ) (error : AllocError) → CanGoOn e → PerformsAnswer meaning e e session Lists (Err error)
+  not_listed_performs e session error bounds = record {
+    comes = λ most st line at sound early. record { here = at; log = same_buffer e.engine.trees.log; near = same_reach e };
+    near = same_reach e;
+    bounds = bounds;
+    cause = record { never_falls = omega arith; fault = tt };
+  }
 
 -- what was found by reference
 pub same_some : (o : Option (Bor Active)) → is_some (option_copied o) ≡ is_some o

@@ -6,7 +6,8 @@ use Rattle.std.specs.declared.alloc.AllocError.{AllocError}
 use Rattle.std.proofs.lemmas.Bool.{cond-true, eq-eqb}
 use Rattle.std.proofs.lemmas.Bool.Decides.{eqb_tells}
 use Rattle.std.proofs.lemmas.List.{length-map}
-use Rattle.je_disk.specs.Moments.{History, now}
+use Rattle.je_disk.specs.DiskMeaning.{DiskMeaning}
+use Rattle.je_disk.specs.Moments.{now}
 use Rattle.je_order.specs.Counts.{HasRisen}
 use Rattle.je_order.specs.declared.txn_id.TxnId.{TxnId}
 use Rattle.log_entry.specs.Body.{IsEntry}
@@ -48,6 +49,8 @@ use Rattle.txn_views.specs.Seen.{is_right_change, seen_rows}
 use Rattle.txn_views.proofs.RightLaws.{changes-are_right}
 use Rattle.txn_locks.specs.Taking.{state_of}
 use Rattle.active_txns.specs.Own.{has_changes}
+use Rattle.active_txns.specs.declared.own_counts.OwnCounts.{OwnCounts}
+use Rattle.active_txns.specs.Own.{AreCounted, counted}
 use Rattle.sessions.specs.declared.all_sessions.Sessions.{Sessions}
 use Rattle.sessions.specs.AtStanding.{AreSessionsAt, owing, with_own}
 use Rattle.sessions.specs.Taking.{HasTaken}
@@ -211,7 +214,7 @@ room_for : (cs : List Changed) → cs ≢ [] → most_entries (length cs) + 1 �
 room_for [] some = absurd (some refl)
 room_for (c ∷ cs) some = let k = length-map cs (λ x. change_in x.0.1.name x.1) in omega (arith, k)
 
-module _ {D : Type 0} (observable : Bool) (history : D → History) (sync_out read_out : D → Option ℕ) (read_of : D → ℕ) where
+module _ {D : Type 0} (meaning : DiskMeaning D) where
   limit_moves : (e before : Environment D) (owed : ℕ) (changes : List Change) (limit : Option Answer) → e.engine ≡ before.engine → HasLimit e owed changes limit → HasLimit before owed changes limit
   limit_moves e before owed [] limit same has = has
   limit_moves e before owed (c ∷ changes) limit same has = record {
@@ -229,13 +232,13 @@ module _ {D : Type 0} (observable : Bool) (history : D → History) (sync_out re
   }
 
   abbrev Writes : Environment D → Environment D → Standing → ℕ → List Changed → ℕ → Result Wrote AllocError → Type 0
-  Writes = WritesOwn observable history sync_out read_out read_of
+  Writes = WritesOwn meaning
 
   pub writes_move : (e before new : Environment D) (st : Standing) (n : ℕ) (cs : List Changed) (owed : ℕ) (result : Result Wrote AllocError) → e.engine ≡ before.engine →
       Writes e new st n cs owed result → Writes before new st n cs owed result
   writes_move e before new st n cs owed (Ok Done) same w = (
     w.0,
-    subst (λ (x : Engine D). Rattle.environment.specs.Steps.HasLoggedCall observable history sync_out read_out read_of x new.engine.trees.log (with_names cs ∷ []) [] (Rattle.standing_laws.specs.Right.txn_id n)) same w.1,
+    subst (λ (x : Engine D). Rattle.environment.specs.Steps.HasLoggedCall meaning x new.engine.trees.log (with_names cs ∷ []) [] (Rattle.standing_laws.specs.Right.txn_id n)) same w.1,
     limit_moves e before owed (with_names cs) None same w.2,
     w.3 ∙ ap (λ (x : Engine D). file_max_of x.trees.log) same,
     w.4 ∙ ap (λ (x : Engine D). record x.kept { last_node = x.kept.last_node + numbers_for (length cs) }) same,
@@ -244,7 +247,7 @@ module _ {D : Type 0} (observable : Bool) (history : D → History) (sync_out re
   writes_move e before new st n cs owed (Ok Full) same w = (w.0, left_moves e before new same w.1, limit_moves e before owed (with_names cs) (Some LogFull) same w.2)
   writes_move e before new st n cs owed (Ok NoNumbers) same w = (w.0, left_moves e before new same w.1, limit_moves e before owed (with_names cs) (Some IdsEnded) same w.2)
   writes_move e before new st n cs owed (Ok Failed) same w = (
-    subst (λ (x : Engine D). Rattle.environment.specs.Steps.HasFailedWith observable history sync_out read_out read_of x.trees.log new.engine.trees.log []) same w.0,
+    subst (λ (x : Engine D). Rattle.environment.specs.Steps.HasFailedWith meaning x.trees.log new.engine.trees.log []) same w.0,
     limit_moves e before owed (with_names cs) None same w.1,
     w.2 ∙ ap (λ (x : Engine D). file_max_of x.trees.log) same,
     w.3 ∙ ap (λ (x : Engine D). record x.kept { fault = Some Disk }) same,
@@ -264,7 +267,7 @@ module _ {D : Type 0} (observable : Bool) (history : D → History) (sync_out re
   tried_none (c ∷ l) = refl
 
   module _ (most : ℕ) (before mid : Environment D) (s : Sessions) (st : Standing) (a : Active) (call : Call) (g : Target) (due_ : Answer) (place : Option Name) (cs : List Changed) (filled : cs ≢ [])
-      (here : StandsAt most observable history before st) (none : st.fault ≡ None) where
+      (here : StandsAt most meaning before st) (none : st.fault ≡ None) where
     abbrev needs_ : List Need
     needs_ = needs_in st a call g
 
@@ -277,7 +280,7 @@ module _ {D : Type 0} (observable : Bool) (history : D → History) (sync_out re
     -- where it ends so
     abbrev Step : Standing → Answer → Type 0
     Step after answer =
-        HasStepped observable history sync_out read_out read_of most before new_ (owing_with (Some a) st) (with_names cs) [] (λ limit. IsLogged (log_limit limit) due_ answer) after answer
+        HasStepped meaning most before new_ (owing_with (Some a) st) (with_names cs) [] (λ limit. IsLogged (log_limit limit) due_ answer) after answer
 
     count_ : length (with_names cs) ≡ length cs
     count_ = length-map cs (λ c. change_in c.0.1.name c.1)
@@ -292,7 +295,7 @@ module _ {D : Type 0} (observable : Bool) (history : D → History) (sync_out re
     abbrev OwnDone : Standing
     OwnDone = with_changes a call place (with_numbers cs) (answered a call g st)
 
-    done_here : Writes before mid st a.txn.0 cs (owing own_) (Ok Done) → AreEndedBy Done s a call place needs_ (with_numbers cs) st → StandsAt most observable history new_ OwnDone
+    done_here : Writes before mid st a.txn.0 cs (owing own_) (Ok Done) → AreEndedBy Done s a call place needs_ (with_numbers cs) st → StandsAt most meaning new_ OwnDone
     done_here w stands = record {
       file_max = w.3 ∙ here.file_max;
       fault = ap (λ (k : Kept). k.fault) w.4 ∙ here.fault;
@@ -304,7 +307,7 @@ module _ {D : Type 0} (observable : Bool) (history : D → History) (sync_out re
       apart = here.apart;
       checkpoint = ap (λ (k : Kept). is_some k.checkpoints.under_way) w.4 ∙ here.checkpoint;
       databases = λ calm. subst (KnowsDatabases st) (sym w.4) (here.databases calm);
-      valid = λ calm. valid_elsewhere observable (now (history (disk_below mid.engine.trees.log))) mid.engine.trees.log (cells_of mid.engine.trees) (has_tree_of mid.engine.trees) (fitting mid.engine.trees) mid.engine.kept.since mid.written.by_txn.entries own_ own_.own
+      valid = λ calm. valid_elsewhere meaning.observable (now (meaning.history (disk_below mid.engine.trees.log))) mid.engine.trees.log (cells_of mid.engine.trees) (has_tree_of mid.engine.trees) (fitting mid.engine.trees) mid.engine.kept.since mid.written.by_txn.entries own_ own_.own
           OwnDone.places OwnDone.locks refl w.0;
     }
 
@@ -325,8 +328,8 @@ module _ {D : Type 0} (observable : Bool) (history : D → History) (sync_out re
       here = done_here w stands;
       numbered = unnumbered due_ st.commits calm;
       fault = none ∙ ap (λ (b : Bool). cond b (Some Disk) None) (sym (faultless due_ calm));
-      logged = subst (λ (b : Bool). IsCallStep observable history sync_out read_out read_of b before.engine mid.engine.trees.log (tried (with_names cs) (fate_of due_)) []) (sym (faultless due_ calm))
-          (subst (λ (l : List (List Change)). IsCallStep observable history sync_out read_out read_of false before.engine mid.engine.trees.log l []) (sym (ap (tried (with_names cs)) well ∙ tried_names cs filled))
+      logged = subst (λ (b : Bool). IsCallStep meaning b before.engine mid.engine.trees.log (tried (with_names cs) (fate_of due_)) []) (sym (faultless due_ calm))
+          (subst (λ (l : List (List Change)). IsCallStep meaning false before.engine mid.engine.trees.log l []) (sym (ap (tried (with_names cs)) well ∙ tried_names cs filled))
           (inr (a.txn, w.1)));
       near = done_near w (done_here w stands).sessions_at owes;
     }
@@ -335,7 +338,7 @@ module _ {D : Type 0} (observable : Bool) (history : D → History) (sync_out re
     abbrev OwnRefused : Standing
     OwnRefused = answered a call g st
 
-    left_here : (locks : _) → IsValidAt observable history mid st → IsLeft before mid → AreSessionsAt s (record st { locks = locks }) → StandsAt most observable history new_ (record st { locks = locks })
+    left_here : (locks : _) → IsValidAt meaning mid st → IsLeft before mid → AreSessionsAt s (record st { locks = locks }) → StandsAt most meaning new_ (record st { locks = locks })
     left_here locks valid left stands = record {
       file_max = left.log.kept.max ∙ here.file_max;
       fault = ap (λ (k : Kept). k.fault) left.kept ∙ here.fault;
@@ -347,7 +350,7 @@ module _ {D : Type 0} (observable : Bool) (history : D → History) (sync_out re
       apart = here.apart;
       checkpoint = ap (λ (k : Kept). is_some k.checkpoints.under_way) left.kept ∙ here.checkpoint;
       databases = λ calm. subst (KnowsDatabases st) (sym left.kept) (here.databases calm);
-      valid = λ calm. valid_elsewhere observable (now (history (disk_below mid.engine.trees.log))) mid.engine.trees.log (cells_of mid.engine.trees) (has_tree_of mid.engine.trees) (fitting mid.engine.trees) mid.engine.kept.since mid.written.by_txn.entries st st.own
+      valid = λ calm. valid_elsewhere meaning.observable (now (meaning.history (disk_below mid.engine.trees.log))) mid.engine.trees.log (cells_of mid.engine.trees) (has_tree_of mid.engine.trees) (fitting mid.engine.trees) mid.engine.kept.since mid.written.by_txn.entries st st.own
           st.places locks refl valid;
     }
 
@@ -358,7 +361,7 @@ module _ {D : Type 0} (observable : Bool) (history : D → History) (sync_out re
       node = let k = ap (λ (k : Kept). k.last_node) left.kept in omega (arith, k);
     }
 
-    refused : (refusal : Answer) → IsCalm refusal → fate_of refusal ≡ IsRefused → IsLogged (log_limit (Some refusal)) due_ refusal → IsValidAt observable history mid st → IsLeft before mid → HasLimit before (owing own_) (with_names cs) (Some refusal) →
+    refused : (refusal : Answer) → IsCalm refusal → fate_of refusal ≡ IsRefused → IsLogged (log_limit (Some refusal)) due_ refusal → IsValidAt meaning mid st → IsLeft before mid → HasLimit before (owing own_) (with_names cs) (Some refusal) →
         AreSessionsAt s (with_locks a (all_got a.txn needs_ st.locks.at) st) → owing own_ ≡ owing_with (Some a) st → Step OwnRefused refusal
     refused refusal calm fate is valid left has stands owes =
         let within = left_near OwnRefused.locks left stands in
@@ -371,7 +374,7 @@ module _ {D : Type 0} (observable : Bool) (history : D → History) (sync_out re
           here = left_here OwnRefused.locks valid left stands;
           numbered = unnumbered refusal st.commits calm;
           fault = none ∙ ap (λ (b : Bool). cond b (Some Disk) None) (sym (faultless refusal calm));
-          logged = subst (λ (b : Bool). IsCallStep observable history sync_out read_out read_of b before.engine mid.engine.trees.log (tried (with_names cs) (fate_of refusal)) []) (sym (faultless refusal calm))
+          logged = subst (λ (b : Bool). IsCallStep meaning b before.engine mid.engine.trees.log (tried (with_names cs) (fate_of refusal)) []) (sym (faultless refusal calm))
               (inl (left.log, refl, ap (tried (with_names cs)) fate ∙ tried_none (with_names cs)));
           near = record { file = omega (arith, file); node = omega (arith, node) };
         }
@@ -423,16 +426,16 @@ module _ {D : Type 0} (observable : Bool) (history : D → History) (sync_out re
   -- ---- the call of a transaction of more calls
 
   abbrev TakesUp : ℕ → Environment D → Environment D → Standing → Active → ℕ → Call → Target → Answer → Option Need → Type 0
-  TakesUp most old new st a line call g answer need = Takes observable history sync_out read_out read_of most old new st a line call g answer need
+  TakesUp most old new st a line call g answer need = Takes meaning most old new st a line call g answer need
 
   -- a call that changes something, by what its answer says
   pub evaluates_some : (most : ℕ) (old new : Environment D) (st : Standing) (a : Active) (call : Call) (g : Target) (answer : Answer) (auto : Bool) (ev : Evaluated) (l : List RecordChange) → ev.changes ≡ l → (l ≡ [] → ⊥) →
-      HasStepped observable history sync_out read_out read_of most old new (owing_with (Some a) st) (with_names (changes_with st a g ev.changes)) (changes_closed auto (with_names (changes_with st a g ev.changes)))
+      HasStepped meaning most old new (owing_with (Some a) st) (with_names (changes_with st a g ev.changes)) (changes_closed auto (with_names (changes_with st a g ev.changes)))
       (λ limit. IsLogged (log_limit limit) (due st a ev) answer × (◌≡◌ {A = List Victim} [] [])) (after_fate (fate_of answer) st st a call g ev) answer →
-      Evaluates observable history sync_out read_out read_of most old new st a call g answer auto ev
+      Evaluates meaning most old new st a call g answer auto ev
   evaluates_some most old new st a call g answer auto ev [] has some h = absurd (some refl)
   evaluates_some most old new st a call g answer auto ev (c ∷ l) has some h =
-      subst (λ (m : List RecordChange). HasStepped observable history sync_out read_out read_of most old new (owing_with (Some a) st) (with_names (changes_with st a g ev.changes)) (changes_closed auto (with_names (changes_with st a g ev.changes)))
+      subst (λ (m : List RecordChange). HasStepped meaning most old new (owing_with (Some a) st) (with_names (changes_with st a g ev.changes)) (changes_closed auto (with_names (changes_with st a g ev.changes)))
       (λ limit. IsDone m limit st a ev answer × (◌≡◌ {A = List Victim} [] [])) (after_changes m st st a call g ev answer) answer) (sym has) h
 
   module _ (most : ℕ) (before new : Environment D) (st : Standing) (a : Active) (call : Call) (g : Target) (ev : Evaluated) where
@@ -442,21 +445,21 @@ module _ {D : Type 0} (observable : Bool) (history : D → History) (sync_out re
     -- by whether it is one call's
     abbrev Autos : (Bool → Standing) → Answer → Bool → Type 0
     Autos after answer auto =
-        HasStepped observable history sync_out read_out read_of most before new (owing_with (Some a) st) names_ (changes_closed auto names_)
+        HasStepped meaning most before new (owing_with (Some a) st) names_ (changes_closed auto names_)
         (λ limit. IsLogged (log_limit limit) (cond auto (Logged (st.commits + 1)) ev.answer) answer × (◌≡◌ {A = List Victim} [] [])) (after auto) answer
 
     abbrev Fated : Fate → Answer → Type 0
     Fated fate answer =
-        HasStepped observable history sync_out read_out read_of most before new (owing_with (Some a) st) names_ (changes_closed a.is_auto names_)
+        HasStepped meaning most before new (owing_with (Some a) st) names_ (changes_closed a.is_auto names_)
         (λ limit. IsLogged (log_limit limit) (cond a.is_auto (Logged (st.commits + 1)) ev.answer) answer × (◌≡◌ {A = List Victim} [] [])) (after_fate fate st st a call g ev) answer
 
     abbrev Up : Wrote → Type 0
     Up wrote =
-        HasStepped observable history sync_out read_out read_of most before new (owing_with (Some a) st) names_ [] (λ limit. IsLogged (log_limit limit) ev.answer (answer_for wrote ev.answer))
+        HasStepped meaning most before new (owing_with (Some a) st) names_ [] (λ limit. IsLogged (log_limit limit) ev.answer (answer_for wrote ev.answer))
         (after_wrote wrote st a call g ev) (answer_for wrote ev.answer)
 
     not_auto : (after : Bool → Standing) (answer : Answer) →
-        HasStepped observable history sync_out read_out read_of most before new (owing_with (Some a) st) names_ [] (λ limit. IsLogged (log_limit limit) ev.answer answer) (after false) answer → Autos after answer false
+        HasStepped meaning most before new (owing_with (Some a) st) names_ [] (λ limit. IsLogged (log_limit limit) ev.answer answer) (after false) answer → Autos after answer false
     not_auto after answer h = record {
       limit = h.limit;
       has_limit = h.has_limit;
@@ -477,13 +480,13 @@ module _ {D : Type 0} (observable : Bool) (history : D → History) (sync_out re
     fated Failed h well auto = let after : Bool → Standing = λ b. faulted st in subst (Autos after DiskFault) (sym auto) (not_auto after DiskFault h)
 
     evaluates : (wrote : Wrote) → (ev.changes ≡ [] → ⊥) → Up wrote → fate_of ev.answer ≡ Succeeds → a.is_auto ≡ false →
-        Evaluates observable history sync_out read_out read_of most before new st a call g (answer_for wrote ev.answer) a.is_auto ev
+        Evaluates meaning most before new st a call g (answer_for wrote ev.answer) a.is_auto ev
     evaluates wrote some h well auto = evaluates_some most before new st a call g (answer_for wrote ev.answer) a.is_auto ev ev.changes refl some (fated wrote h well auto)
 
   -- ---- before it is logged
 
   module _ (before e : Environment D) (most session : ℕ) (st : Standing) (a : Active) (call : Call) (g : Target) (answer : Answer) (changes : Own)
-      (up : IsTakenUp observable history most before e st session a call g answer changes) where
+      (up : IsTakenUp meaning most before e st session a call g answer changes) where
     abbrev outcome_ : Evaluated
     outcome_ = outcome_of st a call g
 
@@ -493,10 +496,10 @@ module _ {D : Type 0} (observable : Bool) (history : D → History) (sync_out re
     pub is_active_ : active_number st.actives a.txn.0 ≡ true
     is_active_ = is_under_way session a st.actives up.its
 
-    pub valid_now : IsValidAt observable history e st
+    pub valid_now : IsValidAt meaning e st
     valid_now =
-        subst (λ (w : Written). IsValidAt observable history (record { engine = e.engine; sessions = e.sessions; written = w }) st) (sym up.written)
-        (subst (λ (x : Engine D). IsValidAt observable history (record { engine = x; sessions = e.sessions; written = before.written }) st) (sym up.engine) (up.here.valid up.valid))
+        subst (λ (w : Written). IsValidAt meaning (record { engine = e.engine; sessions = e.sessions; written = w }) st) (sym up.written)
+        (subst (λ (x : Engine D). IsValidAt meaning (record { engine = x; sessions = e.sessions; written = before.written }) st) (sym up.engine) (up.here.valid up.valid))
 
     pub last_txn_now : e.engine.kept.last_txn ≡ st.last_txn
     last_txn_now = ap (λ (x : Engine D). x.kept.last_txn) up.engine ∙ up.here.last_txn
@@ -545,33 +548,33 @@ module _ {D : Type 0} (observable : Bool) (history : D → History) (sync_out re
     owes_now some = owing_pushed st a (with_numbers cs_) (some_now some) up.sound.numbers is_active_
 
     -- it was written, whose transaction goes on
-    pub steps_up : (mid : Environment D) (s : Sessions) (wrote : Wrote) → changes ≢ [] → (p : HasPushedAndLogged observable history sync_out read_out read_of e mid a (needs_in st a call g) st cs_ (Ok wrote)) →
+    pub steps_up : (mid : Environment D) (s : Sessions) (wrote : Wrote) → changes ≢ [] → (p : HasPushedAndLogged meaning e mid a (needs_in st a call g) st cs_ (Ok wrote)) →
         AreEndedBy wrote s a call outcome_.place (needs_in st a call g) p.more st →
-        HasStepped observable history sync_out read_out read_of most before (in_sessions s mid) (owing_with (Some a) st) (with_names cs_) [] (λ limit. IsLogged (log_limit limit) outcome_.answer (answer_for wrote outcome_.answer))
+        HasStepped meaning most before (in_sessions s mid) (owing_with (Some a) st) (with_names cs_) [] (λ limit. IsLogged (log_limit limit) outcome_.answer (answer_for wrote outcome_.answer))
         (standing_by st a call g outcome_.place cs_ wrote) (answer_for wrote outcome_.answer)
     steps_up mid s wrote some p stands =
         written_by most before mid s st a call g outcome_.answer outcome_.place cs_ (some_numbers cs_ (some_now some)) up.here up.valid wrote
         (writes_move e before mid st a.txn.0 cs_ (owing (with_own a.txn.0 (with_numbers cs_) st)) (Ok wrote) up.engine p.writes)
         (subst (λ (l : Own). AreEndedBy wrote s a call outcome_.place (needs_in st a call g) l st) p.is stands) (owes_now some) (calm_outcome st a call g up.records) (well_outcome st a call g up.records)
 
-    pub writes_up : (mid : Environment D) (s : Sessions) (wrote : Wrote) → changes ≢ [] → (p : HasPushedAndLogged observable history sync_out read_out read_of e mid a (needs_in st a call g) st cs_ (Ok wrote)) →
-        AreEndedBy wrote s a call outcome_.place (needs_in st a call g) p.more st → WritesUp observable history sync_out read_out read_of most before (in_sessions s mid) st a call g wrote
+    pub writes_up : (mid : Environment D) (s : Sessions) (wrote : Wrote) → changes ≢ [] → (p : HasPushedAndLogged meaning e mid a (needs_in st a call g) st cs_ (Ok wrote)) →
+        AreEndedBy wrote s a call outcome_.place (needs_in st a call g) p.more st → WritesUp meaning most before (in_sessions s mid) st a call g wrote
     writes_up mid s wrote some p stands =
-        subst (λ (after : Standing). HasStepped observable history sync_out read_out read_of most before (in_sessions s mid) (owing_with (Some a) st) (with_names cs_) []
+        subst (λ (after : Standing). HasStepped meaning most before (in_sessions s mid) (owing_with (Some a) st) (with_names cs_) []
         (λ limit. IsLogged (log_limit limit) outcome_.answer (answer_for wrote outcome_.answer)) after (answer_for wrote outcome_.answer)) (after_is st a call g wrote) (steps_up mid s wrote some p stands)
 
     pub some_evaluated : changes ≢ [] → (outcome_.changes ≡ [] → ⊥)
     some_evaluated some = some_changed st a g outcome_.changes (some_now some)
 
-    pub ends : (new : Environment D) (line : ℕ) (wrote : Wrote) (o : Outcome) → changes ≢ [] → a.is_auto ≡ false → WritesUp observable history sync_out read_out read_of most before new st a call g wrote →
-        o.answer ≡ answer_for wrote answer → o.victims ≡ [] → AccessesTo observable history sync_out read_out read_of most before new st a line call g (Ok o)
+    pub ends : (new : Environment D) (line : ℕ) (wrote : Wrote) (o : Outcome) → changes ≢ [] → a.is_auto ≡ false → WritesUp meaning most before new st a call g wrote →
+        o.answer ≡ answer_for wrote answer → o.victims ≡ [] → AccessesTo meaning most before new st a line call g (Ok o)
     ends new line wrote o some auto h told alone =
-        told_so (HasAccessed observable history sync_out read_out read_of most before new st a line call g) o (answer_for wrote outcome_.answer) (told ∙ ap (answer_for wrote) up.answer_is) alone
+        told_so (HasAccessed meaning most before new st a line call g) o (answer_for wrote outcome_.answer) (told ∙ ap (answer_for wrote) up.answer_is) alone
         (subst (TakesUp most before new st a line call g (answer_for wrote outcome_.answer)) (sym up.taken.free)
         (evaluates most before new st a call g outcome_ wrote (some_evaluated some) h (well_outcome st a call g up.records) auto))
 
-    pub not_ends : (mid : Environment D) (s : Sessions) (error : AllocError) → HasPushedAndLogged observable history sync_out read_out read_of e mid a (needs_in st a call g) st cs_ (Err error) → AreSessionsAt s st →
-        HasNotCome observable history sync_out read_out read_of most before (in_sessions s mid) st
+    pub not_ends : (mid : Environment D) (s : Sessions) (error : AllocError) → HasPushedAndLogged meaning e mid a (needs_in st a call g) st cs_ (Err error) → AreSessionsAt s st →
+        HasNotCome meaning most before (in_sessions s mid) st
     not_ends mid s error p stands =
         let w = writes_move e before mid st a.txn.0 cs_ (owing (with_own a.txn.0 (with_numbers cs_) st)) (Err error) up.engine p.writes in
         record {
@@ -626,19 +629,19 @@ module _ {D : Type 0} (observable : Bool) (history : D → History) (sync_out re
   pub stands_taken : (s : Sessions) (a : Active) (needs : List Need) (st : Standing) → HasTaken s true a needs st → AreSessionsAt s (record st { fault = None; locks = state_of s.locks.locks })
   stands_taken s a needs st taken = record { actives = taken.actives; own = taken.own; places = taken.places; waiting = taken.waiting; locks = refl }
 
-  pub rose_by : (faults : D → ℕ) (old new : Environment D) (txn : TxnId) (changes : List TreeChange) (names : List TreeName) (owed : ℕ) (result : Result Wrote AllocError) → has_failed old.engine.trees.log ≡ false →
-      WritesAll observable history sync_out read_out read_of faults old new txn changes names owed result →
-      IfOk result (λ wrote. wrote ≡ Failed → HasRisen (faults (disk_below old.engine.trees.log)) (faults (disk_below new.engine.trees.log)))
-  rose_by faults old new txn changes names owed (Ok Done) works w = λ is. absurd cc
-  rose_by faults old new txn changes names owed (Ok Full) works w = λ is. absurd cc
-  rose_by faults old new txn changes names owed (Ok NoNumbers) works w = λ is. absurd cc
-  rose_by faults old new txn changes names owed (Ok Failed) works w = λ is. w.0.tried.rose works
-  rose_by faults old new txn changes names owed (Err error) works w = tt
+  pub rose_by : (old new : Environment D) (txn : TxnId) (changes : List TreeChange) (names : List TreeName) (owed : ℕ) (result : Result Wrote AllocError) → has_failed old.engine.trees.log ≡ false →
+      WritesAll meaning old new txn changes names owed result →
+      IfOk result (λ wrote. wrote ≡ Failed → HasRisen (meaning.faults (disk_below old.engine.trees.log)) (meaning.faults (disk_below new.engine.trees.log)))
+  rose_by old new txn changes names owed (Ok Done) works w = λ is. absurd cc
+  rose_by old new txn changes names owed (Ok Full) works w = λ is. absurd cc
+  rose_by old new txn changes names owed (Ok NoNumbers) works w = λ is. absurd cc
+  rose_by old new txn changes names owed (Ok Failed) works w = λ is. w.0.tried.rose works
+  rose_by old new txn changes names owed (Err error) works w = tt
 
   -- what a call got with changes that are its transaction's own, where these are logged or not
   pub logged_then : (old mid new : Environment D) (a : Active) (txn : TxnId) (needs : List Need) (st : Standing) (cs : List Changed) (result : Result Wrote AllocError) → a.txn ≡ txn → mid.engine ≡ old.engine →
       new.sessions ≡ mid.sessions → HasTaken mid.sessions true a needs (with_own txn.0 (with_numbers cs) st) →
-      Writes mid new st txn.0 cs (owing (with_own txn.0 (with_numbers cs) st)) result → HasPushedAndLogged observable history sync_out read_out read_of old new a needs st cs result
+      Writes mid new st txn.0 cs (owing (with_own txn.0 (with_numbers cs) st)) result → HasPushedAndLogged meaning old new a needs st cs result
   logged_then old mid new a txn needs st cs result is same sessions taken writes = record {
     more = with_numbers cs;
     taken = subst (λ (s : Sessions). HasTaken s true a needs (with_own a.txn.0 (with_numbers cs) st)) (sym sessions)
@@ -652,13 +655,13 @@ module _ {D : Type 0} (observable : Bool) (history : D → History) (sync_out re
       if_ok (Ok wrote) = refl
       if_ok (Err error) = tt
 
-  pub none_pushed : (old : Environment D) (s : Sessions) (a : Active) (needs : List Need) (st : Standing) (cs : List Changed) (error : AllocError) → IsValidAt observable history old st → HasTaken s true a needs st →
-      HasPushedAndLogged observable history sync_out read_out read_of old (in_sessions s old) a needs st cs (Err error)
+  pub none_pushed : (old : Environment D) (s : Sessions) (a : Active) (needs : List Need) (st : Standing) (cs : List Changed) (error : AllocError) → IsValidAt meaning old st → HasTaken s true a needs st →
+      HasPushedAndLogged meaning old (in_sessions s old) a needs st cs (Err error)
   none_pushed old s a needs st cs error valid taken = record {
     more = [];
     taken = record {
       actives = taken.actives;
-      own = taken.own ∙ same_own a.txn.0 st.own;
+      own = subst (AreCounted s.txns.own.entries) (same_own a.txn.0 st.own) taken.own;
       places = taken.places;
       waiting = taken.waiting;
       free = taken.free;
@@ -671,7 +674,7 @@ module _ {D : Type 0} (observable : Bool) (history : D → History) (sync_out re
     writes = (valid, record { log = same_buffer old.engine.trees.log; kept = refl; end = refl });
   }
 
-  -- how many own changes there were
-  pub has_pushed : (s : Sessions) (a : Active) (txn : TxnId) (needs : List Need) (more : Own) (len : ℕ) (st : Standing) → a.txn ≡ txn → len ≡ length (st.own txn.0) → HasTaken s true a needs (with_own a.txn.0 more st) →
-      HasPushed s a needs txn.0 more len st
-  has_pushed s a txn needs more len st is len_is taken = record { len_is = len_is; taken = subst (λ (t : TxnId). HasTaken s true a needs (with_own t.0 more st)) is taken }
+  -- how much it had changed before
+  pub has_pushed : (s : Sessions) (a : Active) (txn : TxnId) (needs : List Need) (more : Own) (counts : OwnCounts) (st : Standing) → a.txn ≡ txn → counts ≡ counted (st.own txn.0) → HasTaken s true a needs (with_own a.txn.0 more st) →
+      HasPushed s a needs txn.0 more counts st
+  has_pushed s a txn needs more counts st is counts_are taken = record { counts_are = counts_are; taken = subst (λ (t : TxnId). HasTaken s true a needs (with_own t.0 more st)) is taken }

@@ -1,7 +1,8 @@
 -- A call on records in a transaction.
 use Rattle.std.proofs.Common.{◌≡◌, ◌∙◌, ℕ, ◌≤◌, ◌+◌, Bool, true, false, cond, List, [], Option, None, Some, Result, Ok, Err, OnErr, refl, ap, sym, subst, arith, inl}
 use Rattle.std.specs.declared.alloc.AllocError.{AllocError}
-use Rattle.je_disk.specs.Moments.{History, now}
+use Rattle.je_disk.specs.DiskMeaning.{DiskMeaning}
+use Rattle.je_disk.specs.Moments.{now}
 use Rattle.store_model.specs.declared.answer.Answer.{Answer}
 use Rattle.store_model.specs.declared.call.Call.{Call}
 use Rattle.store_model.specs.declared.call.Call.TheVariants.{Get, GetBoth, Put, Delete, Count, Cur, CPutCur, CDel, CPut}
@@ -64,15 +65,15 @@ use Rattle.environment.proofs.EarlyLaws.{same_buffer}
 use Rattle.environment.proofs.BesideLaws.{db_there}
 use Rattle.environment.proofs.PlanLaws.{on_db}
 
-module _ {D : Type 0} (observable : Bool) (history : D → History) (sync_out read_out : D → Option ℕ) (read_of : D → ℕ) where
+module _ {D : Type 0} (meaning : DiskMeaning D) where
   -- what a call came to in its session's transaction is what it came to
   module _ (most : ℕ) (old new : Environment D) (st : Standing) (session line : ℕ) (db : List ℕ) (answer : Answer) (victims : List Victim) where
     Performed : Call → Type 0
-    Performed call = HasStepped observable history sync_out read_out read_of most old new (owing_after st session) (written_performed call st session) (changes_performed call st session)
+    Performed call = HasStepped meaning most old new (owing_after st session) (written_performed call st session) (changes_performed call st session)
         (λ limit. IsPerformed call limit st session line answer victims) (after_performed call st session line answer victims) answer
 
     Run : Call → Option Active → Type 0
-    Run call o = HasStepped observable history sync_out read_out read_of most old new (owing_with o st) (written_run o st session call) (changes_run o st session call)
+    Run call o = HasStepped meaning most old new (owing_with o st) (written_run o st session call) (changes_run o st session call)
         (λ limit. IsRun o limit st session line call answer victims) (after_run o st session line call answer victims) answer
 
     performed : (call : Call) → MayWait call → Run call (active_of session st.actives) → Performed call
@@ -89,23 +90,23 @@ module _ {D : Type 0} (observable : Bool) (history : D → History) (sync_out re
     performed call is run = absurd is
 
     pub accessed_comes : (call : Call) (f : FoundDb) (at : Option Name) (g : Target) (a : Active) → IsFoundFor st session call db f at g → MayWait call → active_of session st.actives ≡ Some a →
-        HasAccessed observable history sync_out read_out read_of most old new st a line call g answer victims → HasCome observable history sync_out read_out read_of most old new st session line call answer victims
+        HasAccessed meaning most old new st a line call g answer victims → HasCome meaning most old new st session line call answer victims
     unfolding Performed Run
     accessed_comes call f at g a found is its accessed =
-        let on : (t : Option Target) → Type 0 = λ t. HasStepped observable history sync_out read_out read_of most old new (owing_with (Some a) st) (written_on t st a call) (changes_in t st a call)
+        let on : (t : Option Target) → Type 0 = λ t. HasStepped meaning most old new (owing_with (Some a) st) (written_on t st a call) (changes_in t st a call)
         (λ limit. IsOn t limit st a line call answer victims) (after_on t st st a line call answer victims) answer in
-        subst (λ (late : Option Answer). HasStepped observable history sync_out read_out read_of most old new (owing_after st session) (written_evaluated late st session call) (changes_evaluated late st session call)
+        subst (λ (late : Option Answer). HasStepped meaning most old new (owing_after st session) (written_evaluated late st session call) (changes_evaluated late st session call)
         (λ limit. IsEvaluated late limit st session line call answer victims) (after_evaluated late st session line call answer victims) answer) (sym found.late)
         (performed call is (subst (Run call) (sym its) (subst on (sym found.target) accessed)))
 
   pub accesses_come : (most : ℕ) (old new : Environment D) (st : Standing) (session line : ℕ) (db : List ℕ) (call : Call) (f : FoundDb) (at : Option Name) (g : Target) (a : Active) → IsFoundFor st session call db f at g → MayWait call →
-      active_of session st.actives ≡ Some a → (result : Result Outcome AllocError) → AccessesTo observable history sync_out read_out read_of most old new st a line call g result →
-      ComesTo observable history sync_out read_out read_of most old new st session line call result
+      active_of session st.actives ≡ Some a → (result : Result Outcome AllocError) → AccessesTo meaning most old new st a line call g result →
+      ComesTo meaning most old new st session line call result
   accesses_come most old new st session line db call f at g a found is its (Ok o) accessed = accessed_comes most old new st session line db o.answer o.victims call f at g a found is its accessed
   accesses_come most old new st session line db call f at g a found is its (Err error) accessed = accessed
 
   -- sessions that stand where others stood
-  pub stands_with : (most : ℕ) (e : Environment D) (s : Sessions) (st : Standing) → StandsAt most observable history e st → AreSessionsAt s st → StandsAt most observable history (record e { sessions = s }) st
+  pub stands_with : (most : ℕ) (e : Environment D) (s : Sessions) (st : Standing) → StandsAt most meaning e st → AreSessionsAt s st → StandsAt most meaning (record e { sessions = s }) st
   stands_with most e s st here at = record {
     file_max = here.file_max;
     fault = here.fault;
@@ -131,8 +132,8 @@ module _ {D : Type 0} (observable : Bool) (history : D → History) (sync_out re
       by_failed false same = omega (arith, same)
 
   -- there was no memory for its locks
-  pub not_taken : (most : ℕ) (e : Environment D) (s : Sessions) (st : Standing) → StandsAt most observable history e st → AreSessionsAt s st →
-      HasNotCome observable history sync_out read_out read_of most e (record e { sessions = s }) st
+  pub not_taken : (most : ℕ) (e : Environment D) (s : Sessions) (st : Standing) → StandsAt most meaning e st → AreSessionsAt s st →
+      HasNotCome meaning most e (record e { sessions = s }) st
   not_taken most e s st here at = record { here = stands_with most e s st here at; log = same_buffer e.engine.trees.log; near = reach_with e s st here.sessions_at at }
 
 -- ---- a call that was stopped
@@ -160,10 +161,10 @@ stop_apart : (w : Bool) (st : Standing) (a : Active) (line : ℕ) (call : Call) 
 stop_apart false st a line call g n vs apart others = apart
 stop_apart true st a line call g n vs apart others = victims_apart st a line call g n vs apart others
 
-module _ {D : Type 0} (observable : Bool) (history : D → History) (sync_out read_out : D → Option ℕ) (read_of : D → ℕ) where
+module _ {D : Type 0} (meaning : DiskMeaning D) where
   -- sessions moved, and nothing else
-  pub moved_stands : (most : ℕ) (e : Environment D) (s : Sessions) (st after : Standing) → LeavesSame st after → HaveOwnWaits after.waiting → AreSessionsAt s after → StandsAt most observable history e st →
-      StandsAt most observable history (record e { sessions = s }) after
+  pub moved_stands : (most : ℕ) (e : Environment D) (s : Sessions) (st after : Standing) → LeavesSame st after → HaveOwnWaits after.waiting → AreSessionsAt s after → StandsAt most meaning e st →
+      StandsAt most meaning (record e { sessions = s }) after
   moved_stands most e s st after same apart at here = record {
     file_max = here.file_max;
     fault = here.fault ∙ sym same.fault;
@@ -175,7 +176,7 @@ module _ {D : Type 0} (observable : Bool) (history : D → History) (sync_out re
     apart = apart;
     checkpoint = here.checkpoint ∙ sym same.checkpoint;
     databases = λ none. known_leaves st after e.engine.kept same (here.databases (sym same.fault ∙ none));
-    valid = λ none. valid_leaves observable (now (history (disk_below e.engine.trees.log))) e.engine.trees.log (cells_of e.engine.trees) (has_tree_of e.engine.trees) (fitting e.engine.trees) e.engine.kept.since e.written.by_txn.entries st after same
+    valid = λ none. valid_leaves meaning.observable (now (meaning.history (disk_below e.engine.trees.log))) e.engine.trees.log (cells_of e.engine.trees) (has_tree_of e.engine.trees) (fitting e.engine.trees) e.engine.kept.since e.written.by_txn.entries st after same
         (here.valid (sym same.fault ∙ none));
   }
 
@@ -192,14 +193,14 @@ module _ {D : Type 0} (observable : Bool) (history : D → History) (sync_out re
 
   -- a call that was stopped
   pub stopped_accesses : (most : ℕ) (e : Environment D) (s : Sessions) (st : Standing) (a : Active) (line : ℕ) (call : Call) (g : Target) (answer : Answer) (victims : List Victim) → st.fault ≡ None → AreBare st →
-      AllByRecursion (λ v. (v.session == a.session) ≡ false) st.waiting → StandsAt most observable history e st → HasStopped s st a line call g answer victims →
-      HasAccessed observable history sync_out read_out read_of most e (record e { sessions = s }) st a line call g answer victims
+      AllByRecursion (λ v. (v.session == a.session) ≡ false) st.waiting → StandsAt most meaning e st → HasStopped s st a line call g answer victims →
+      HasAccessed meaning most e (record e { sessions = s }) st a line call g answer victims
   stopped_accesses most e s st a line call g answer victims none bare others here stop =
       let after : Standing = after_stop a.waits st a line call g stop.need victims in
       let same : LeavesSame st after = stop_leaves a.waits st a line call g stop.need victims bare in
       let calm : IsCalm answer = any_stopped_calm (owner_before a.txn stop.need (queues_before st a call g)) st a line call g stop.need answer victims stop.answers in
       let new : Environment D = record e { sessions = s } in
-      subst (λ (need : Option Need). HasStepped observable history sync_out read_out read_of most e new (owing_with (Some a) st) (written_taken need st a call g) (changes_taken need st a call g)
+      subst (λ (need : Option Need). HasStepped meaning most e new (owing_with (Some a) st) (written_taken need st a call g) (changes_taken need st a call g)
       (λ limit. IsTaken need limit st a line call g answer victims) (after_taking need st st a line call g answer victims) answer) (sym stop.first) (record {
         limit = None;
         has_limit = refl;
@@ -207,7 +208,7 @@ module _ {D : Type 0} (observable : Bool) (history : D → History) (sync_out re
         here = moved_stands most e s st after same (stop_apart a.waits st a line call g stop.need victims here.apart others) stop.stands here;
         numbered = unnumbered answer after.commits calm;
         fault = same.fault ∙ none ∙ ap (λ (b : Bool). cond b (Some Disk) None) (sym (faultless answer calm));
-        logged = subst (λ (b : Bool). IsCallStep observable history sync_out read_out read_of b e.engine e.engine.trees.log [] []) (sym (faultless answer calm)) (inl (same_buffer e.engine.trees.log, refl, refl));
+        logged = subst (λ (b : Bool). IsCallStep meaning b e.engine e.engine.trees.log [] []) (sym (faultless answer calm)) (inl (same_buffer e.engine.trees.log, refl, refl));
         near = within_more e new [] (moved_reach e s st after here.sessions_at stop.stands same.owing);
       })
 
@@ -215,10 +216,10 @@ module _ {D : Type 0} (observable : Bool) (history : D → History) (sync_out re
   stopped_cause before after o st a line call g same s stop =
       calm_cause before after o o.answer refl (any_stopped_calm (owner_before a.txn stop.need (queues_before st a call g)) st a line call g stop.need o.answer o.victims stop.answers) same
 
-module _ {D : Type 0} (observable : Bool) (history : D → History) (sync_out read_out : D → Option ℕ) (read_of : D → ℕ) where
+module _ {D : Type 0} (meaning : DiskMeaning D) where
   -- where there was no memory it reaches no farther
   pub accesses_near : (most : ℕ) (old new : Environment D) (st : Standing) (line : ℕ) (call : Call) (g : Target) (a : Active) (result : Result Outcome AllocError) →
-      AccessesTo observable history sync_out read_out read_of most old new st a line call g result → OnErr result (IsWithin (reach_of new) (reach_of old))
+      AccessesTo meaning most old new st a line call g result → OnErr result (IsWithin (reach_of new) (reach_of old))
   accesses_near most old new st line call g a (Ok o) accessed = tt
   accesses_near most old new st line call g a (Err error) accessed = accessed.near
 
@@ -239,11 +240,11 @@ not_refused_there st session call db f at g found =
 
 -- ---- what was taken
 
-module _ {D : Type 0} (observable : Bool) (history : D → History) (sync_out read_out : D → Option ℕ) (read_of : D → ℕ) where
+module _ {D : Type 0} (meaning : DiskMeaning D) where
   -- a call that was planned, and got its locks
   pub taken_up : (most : ℕ) (e : Environment D) (s : Sessions) (st : Standing) (session : ℕ) (a : Active) (call : Call) (db : List ℕ) (f : FoundDb) (at : Option Name) (g : Target) (p : TargetPlan) →
-      StandsAt most observable history e st → AreSound st → st.fault ≡ None → IsFoundFor st session call db f at g → active_of session st.actives ≡ Some a → MayWait call →
-      IsPlanIn st a call g p → HasTaken s true a p.needs.items st → IsTakenUp observable history most e (record e { sessions = s }) st session a call g p.answer p.changes.items
+      StandsAt most meaning e st → AreSound st → st.fault ≡ None → IsFoundFor st session call db f at g → active_of session st.actives ≡ Some a → MayWait call →
+      IsPlanIn st a call g p → HasTaken s true a p.needs.items st → IsTakenUp meaning most e (record e { sessions = s }) st session a call g p.answer p.changes.items
   taken_up most e s st session a call db f at g p here sound none found its may planned taken = record {
     here = here;
     sound = sound;

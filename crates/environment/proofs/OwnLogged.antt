@@ -13,8 +13,9 @@ use Rattle.std.specs.declared.alloc.AllocError.{AllocError}
 use Rattle.std.specs.List.{AllByRecursion}
 use Rattle.std.proofs.lemmas.Bool.{cond-true}
 use Rattle.std.proofs.lemmas.List.{length-map}
+use Rattle.je_disk.specs.DiskMeaning.{DiskMeaning}
 use Rattle.je_disk.specs.States.{State}
-use Rattle.je_disk.specs.Moments.{History, now}
+use Rattle.je_disk.specs.Moments.{now}
 use Rattle.je_order.specs.declared.txn_id.TxnId.{TxnId}
 use Rattle.je_order.proofs.TxnIds.{same_either}
 use Rattle.record_map.specs.Cells.{value_at}
@@ -76,9 +77,9 @@ use Rattle.environment.proofs.ChangeLaws.{Changed, all_there, makes_none, may_co
 use Rattle.environment.proofs.WritingLaws.{had_own, names_append, names_free, planned_free, planned_same, rows_stay}
 use Rattle.environment.proofs.Firsts.{changes_no_commit, fewer_same, firsts_written, waiting_none}
 
-module _ {D : Type 0} (observable : Bool) (history : D → History) (sync_out read_out : D → Option ℕ) (read_of : D → ℕ) (faults : D → ℕ) where
+module _ {D : Type 0} (meaning : DiskMeaning D) where
   abbrev state_of : Environment D → State
-  state_of e = now (history (disk_below e.engine.trees.log))
+  state_of e = now (meaning.history (disk_below e.engine.trees.log))
 
   abbrev planned_of : List Changed → List TreeChange
   planned_of cs = map tree_of (with_numbers cs)
@@ -91,29 +92,29 @@ module _ {D : Type 0} (observable : Bool) (history : D → History) (sync_out re
 
   -- ---- before
 
-  abbrev LogAt : (old : Environment D) (st : Standing) → IsValidAt observable history old st → Type 0
-  LogAt old st v = IsLogAt observable history old.engine.trees.log v.log (rows_in old) (active_number st.actives) st
+  abbrev LogAt : (old : Environment D) (st : Standing) → IsValidAt meaning old st → Type 0
+  LogAt old st v = IsLogAt meaning old.engine.trees.log v.log (rows_in old) (active_number st.actives) st
 
-  unfoldable log_at : (old : Environment D) (st : Standing) (v : IsValidAt observable history old st) → LogAt old st v
+  unfoldable log_at : (old : Environment D) (st : Standing) (v : IsValidAt meaning old st) → LogAt old st v
   log_at old st v = record { given = record { has = v.has; gives = v.gives }; makes = v.makes; may = v.may }
 
   may_add : (st : Standing) (txn : TxnId) (cs : List Changed) → MayWrite st txn.0 cs → active_number st.actives txn.0 ≡ true →
       MayAddChanges st.last_txn (active_number st.actives) st.own txn (planned_of cs)
   may_add st txn cs m active = record { active = active; drawn = m.drawn; free = names_free (active_number st.actives) txn.0 (with_numbers cs) st.own m.free }
 
-  pub trees_there : (old : Environment D) (st : Standing) (txn : TxnId) (cs : List Changed) → IsValidAt observable history old st → MayWrite st txn.0 cs →
+  pub trees_there : (old : Environment D) (st : Standing) (txn : TxnId) (cs : List Changed) → IsValidAt meaning old st → MayWrite st txn.0 cs →
       AllByRecursion (λ c. has_tree_of old.engine.trees c.db ≡ true) (planned_of cs)
   trees_there old st txn cs v m =
       all_weaker (λ (c : TreeChange). has_number (numbers_of (rows_in old)) c.db ≡ true) (λ c. has_tree_of old.engine.trees c.db ≡ true) (λ c there. v.made c.db ∙ there) (planned_of cs)
       (all_there (rows_in old) st.last_db st v.makes cs m.each)
 
-  pub free_there : (old : Environment D) (st : Standing) (txn : TxnId) (cs : List Changed) → IsValidAt observable history old st → MayWrite st txn.0 cs →
+  pub free_there : (old : Environment D) (st : Standing) (txn : TxnId) (cs : List Changed) → IsValidAt meaning old st → MayWrite st txn.0 cs →
       AllByRecursion (λ c. IsFreeFor txn (write_in (value_at c.name (cells_of old.engine.trees c.db)))) (planned_of cs)
   free_there old st txn cs v m = planned_free txn (with_numbers cs) st.own (cells_of old.engine.trees) v.writes m.free
 
   -- ---- the limit
 
-  limit_for : (old : Environment D) (st : Standing) (txn : TxnId) (cs : List Changed) (owed : ℕ) (limit : Option Answer) → old.engine.kept.last_db ≡ st.last_db → IsValidAt observable history old st → MayWrite st txn.0 cs →
+  limit_for : (old : Environment D) (st : Standing) (txn : TxnId) (cs : List Changed) (owed : ℕ) (limit : Option Answer) → old.engine.kept.last_db ≡ st.last_db → IsValidAt meaning old st → MayWrite st txn.0 cs →
       limit ≡ limit_by (limit_in old.engine.trees (planned_of cs) owed) old.engine.kept.last_node (length (planned_of cs)) → HasLimit old owed (with_names cs) limit
   limit_for old st txn [] owed limit last v m is = absurd (m.some refl)
   limit_for old st txn (c ∷ cs) owed limit last v m is = record {
@@ -132,7 +133,7 @@ module _ {D : Type 0} (observable : Bool) (history : D → History) (sync_out re
 
   -- ---- nothing was written
 
-  pub left_valid : (old new : Environment D) (st : Standing) → HasWrittenNone old new → IsValidAt observable history old st → IsValidAt observable history new st
+  pub left_valid : (old new : Environment D) (st : Standing) → HasWrittenNone old new → IsValidAt meaning old st → IsValidAt meaning new st
   left_valid old new st h v =
       let same : cells_of new.engine.trees ≡ cells_of old.engine.trees = fun_ext h.trees.cells in
       let log = h.trees.log in
@@ -145,8 +146,8 @@ module _ {D : Type 0} (observable : Bool) (history : D → History) (sync_out re
       (ap pos_lsn log.kept.end) (fewer_same old.written.by_txn.entries new.written.by_txn.entries h.written.names h.written.firsts)) in
       record {
         log = v.log;
-        has = subst (λ (d : D). HasLog observable (now (history d)) new.engine.trees.log v.log) (sym log.disk)
-            (log_kept observable (state_of old) old.engine.trees.log new.engine.trees.log v.log log.kept v.has);
+        has = subst (λ (d : D). HasLog meaning.observable (now (meaning.history d)) new.engine.trees.log v.log) (sym log.disk)
+            (log_kept meaning.observable (state_of old) old.engine.trees.log new.engine.trees.log v.log log.kept v.has);
         works = log.failed ∙ v.works;
         gives = subst (λ (e : LogPos). GivesRecordsWith v.log e (rows_in new) st.last_txn st.last_db (active_number st.actives) st.own) (sym log.kept.end)
             (subst (λ (c : AllCells). GivesRecordsWith v.log (end_of old.engine.trees.log) (committed c) st.last_txn st.last_db (active_number st.actives) st.own) (sym same) v.gives);
@@ -174,7 +175,7 @@ module _ {D : Type 0} (observable : Bool) (history : D → History) (sync_out re
 
   -- ---- changes were written
 
-  module _ (old new : Environment D) (txn : TxnId) (st : Standing) (cs : List Changed) (owed : ℕ) (v : IsValidAt observable history old st) (m : MayWrite st txn.0 cs)
+  module _ (old new : Environment D) (txn : TxnId) (st : Standing) (cs : List Changed) (owed : ℕ) (v : IsValidAt meaning old st) (m : MayWrite st txn.0 cs)
       (active : active_number st.actives txn.0 ≡ true) (last : old.engine.kept.last_db ≡ st.last_db) where
     abbrev planned_ : List TreeChange
     planned_ = planned_of cs
@@ -189,20 +190,20 @@ module _ {D : Type 0} (observable : Bool) (history : D → History) (sync_out re
     after_ = with_own txn.0 own_ st
 
     abbrev Written : Type 0
-    Written = HasWrittenOwn observable history sync_out read_out read_of faults old new txn planned_ (own_names own_) owed
+    Written = HasWrittenOwn meaning old new txn planned_ (own_names own_) owed
 
     abbrev Added : Type 0
-    Added = HasAdded observable history sync_out read_out read_of old.engine.trees.log new.engine.trees.log (LogsChanges txn planned_)
+    Added = HasAdded meaning old.engine.trees.log new.engine.trees.log (LogsChanges txn planned_)
 
     may_own : AllByRecursion (MayBeCommitted rows_) own_
     may_own = may_commit rows_ st.last_db st v.makes cs m.each
 
-    given : HasGiven observable history old.engine.trees.log v.log rows_ st.last_txn st.last_db (active_number st.actives) st.own
+    given : HasGiven meaning old.engine.trees.log v.log rows_ st.last_txn st.last_db (active_number st.actives) st.own
     given = record { has = v.has; gives = v.gives }
 
-    unfoldable log_on : (a : Added) → IsLogAt observable history new.engine.trees.log (longer old.engine.trees.log a.entries v.log) rows_ (active_number st.actives) after_
+    unfoldable log_on : (a : Added) → IsLogAt meaning new.engine.trees.log (longer old.engine.trees.log a.entries v.log) rows_ (active_number st.actives) after_
     log_on a =
-        changes_leave_log observable history sync_out read_out read_of old.engine.trees.log new.engine.trees.log v.log rows_ (active_number st.actives) st after_ txn planned_
+        changes_leave_log meaning old.engine.trees.log new.engine.trees.log v.log rows_ (active_number st.actives) st after_ txn planned_
         (log_at old st v) (may_add st txn cs m active) (subst (AllByRecursion (MayBeCommitted rows_)) (sym (own_are_trees own_)) may_own) a refl refl refl refl
         (λ u. ap (λ (l : List (ℕ × RecordChange)). with_at txn.0 (st.own txn.0 ++ l) st.own u) (sym (own_are_trees own_)))
 
@@ -217,7 +218,7 @@ module _ {D : Type 0} (observable : Bool) (history : D → History) (sync_out re
     base_on : (a : Added) → (log_on a).given.gives.base ≡ v.gives.base
     unfolding log_on log_at
     base_on a =
-        changes_leave_base observable history sync_out read_out read_of old.engine.trees.log new.engine.trees.log v.log rows_ (active_number st.actives) st after_ txn planned_
+        changes_leave_base meaning old.engine.trees.log new.engine.trees.log v.log rows_ (active_number st.actives) st after_ txn planned_
         (log_at old st v) (may_add st txn cs m active) (subst (AllByRecursion (MayBeCommitted rows_)) (sym (own_are_trees own_)) may_own) a refl refl refl refl
         (λ u. ap (λ (l : List (ℕ × RecordChange)). with_at txn.0 (st.own txn.0 ++ l) st.own u) (sym (own_are_trees own_)))
 
@@ -255,15 +256,15 @@ module _ {D : Type 0} (observable : Bool) (history : D → History) (sync_out re
         AreFirstsOf new.written.by_txn.entries (waiting_in (longer old.engine.trees.log a.entries v.log) v.gives.base) (pos_lsn (end_of new.engine.trees.log))
     firsts_on w a first_is firsts =
         firsts_written old.written.by_txn.entries new.written.by_txn.entries (waiting_in (longer old.engine.trees.log a.entries v.log) v.gives.base) (pos_lsn (end_of new.engine.trees.log)) w.first txn (own_names own_)
-        (λ none named. first_stands observable history sync_out read_out read_of old.engine.trees.log new.engine.trees.log v.log v.gives.base w.first txn planned_ a.entries v.has a.grew
+        (λ none named. first_stands meaning old.engine.trees.log new.engine.trees.log v.log v.gives.base w.first txn planned_ a.entries v.has a.grew
         (begun_with v.log (end_of old.engine.trees.log) rows_ st.last_txn st.last_db (active_number st.actives) st.own v.gives) some_planned a.logs
         (waiting_none v.log (end_of old.engine.trees.log) rows_ st.last_txn st.last_db (active_number st.actives) st.own v.gives old.written.by_txn.entries txn.0 v.names active none) first_is)
         w.names w.firsts firsts
 
     done_valid : (w : Written) → (a : Added) → w.first ≡ unwrap_or (first_in old.engine.trees.log a.entries) 0 →
-        ((log : Log) (base : ℕ) → HasLog observable (now (history (disk_below old.engine.trees.log))) old.engine.trees.log log → base ≤ pos_lsn (end_of old.engine.trees.log) → fitting old.engine.trees (placed log) base →
+        ((log : Log) (base : ℕ) → HasLog meaning.observable (now (meaning.history (disk_below old.engine.trees.log))) old.engine.trees.log log → base ≤ pos_lsn (end_of old.engine.trees.log) → fitting old.engine.trees (placed log) base →
         fitting new.engine.trees (placed (longer old.engine.trees.log a.entries log)) base) →
-        owed ≡ owing after_ → IsValidAt observable history new after_
+        owed ≡ owing after_ → IsValidAt meaning new after_
     done_valid w a first_is carries owes =
         let same : rows_in new ≡ rows_ = rows_stay txn planned_ (cells_of old.engine.trees) (cells_of new.engine.trees) w.was_rising w.rising w.writes in
         let on = log_on a in
@@ -271,7 +272,7 @@ module _ {D : Type 0} (observable : Bool) (history : D → History) (sync_out re
         (sym (same_under (λ (r : Rows). GivesRecordsWith (longer old.engine.trees.log a.entries v.log) (end_of new.engine.trees.log) r st.last_txn st.last_db (active_number st.actives) after_.own) (λ r g. g.base) (sym same) on.given.gives
         ∙ base_on a))
         (lives_with
-        (lives_on observable history sync_out read_out read_of old.engine.trees.log new.engine.trees.log v.log a.entries (fitting new.engine.trees) new.engine.kept.since v.gives.base old.written.by_txn.entries v.has a.grew
+        (lives_on meaning old.engine.trees.log new.engine.trees.log v.log a.entries (fitting new.engine.trees) new.engine.kept.since v.gives.base old.written.by_txn.entries v.has a.grew
         (changes_no_ends txn planned_ a.entries a.logs)
         (carries v.log v.gives.base v.has (begun_with v.log (end_of old.engine.trees.log) rows_ st.last_txn st.last_db (active_number st.actives) st.own v.gives) v.fits)
         (subst (λ (k : Kept). EndsFrom v.log v.gives.base k.since) (sym w.kept) v.from) (λ t named. changes_no_commit t txn planned_ a.entries a.logs) v.firsts)) in
@@ -285,7 +286,7 @@ module _ {D : Type 0} (observable : Bool) (history : D → History) (sync_out re
             opening = v.recovers.opening;
             base = v.recovers.base;
             transactions = v.recovers.transactions;
-            recovers = changes_are_recovered observable history sync_out read_out read_of old.engine.trees.log new.engine.trees.log v.log rows_ st.last_txn st.last_db (active_number st.actives) st.own txn planned_
+            recovers = changes_are_recovered meaning old.engine.trees.log new.engine.trees.log v.log rows_ st.last_txn st.last_db (active_number st.actives) st.own txn planned_
                 v.recovers.first v.recovers.opening v.recovers.base v.recovers.transactions given (may_add st txn cs m active) a v.recovers.recovers;
             made = v.recovers.made;
           };
@@ -320,14 +321,14 @@ module _ {D : Type 0} (observable : Bool) (history : D → History) (sync_out re
         file_within (has_failed old.engine.trees.log) (has_failed new.engine.trees.log) ((end_of old.engine.trees.log).file + waits_of old.engine.trees) ((end_of new.engine.trees.log).file + waits_of new.engine.trees)
         (most_entries (length cs)) grown.failed (omega (arith, ends, files, mapped, few, count))
 
-    pub done : Written → owed ≡ owing after_ → WritesOwn observable history sync_out read_out read_of old new st txn.0 cs owed (Ok Done)
+    pub done : Written → owed ≡ owing after_ → WritesOwn meaning old new st txn.0 cs owed (Ok Done)
     done w owes = (
       done_valid w (add_ w) w.logged.first_is w.logged.fits owes,
       record {
         grown = record {
           entries = (add_ w).entries;
           grew = (add_ w).grew;
-          recovers = changes_recovered_in observable history sync_out read_out read_of v.log old.engine.trees.log new.engine.trees.log rows_ st.last_txn st.last_db (active_number st.actives) st.own txn planned_ given
+          recovers = changes_recovered_in meaning v.log old.engine.trees.log new.engine.trees.log rows_ st.last_txn st.last_db (active_number st.actives) st.own txn planned_ given
               (may_add st txn cs m active) (add_ w);
         };
         planned = planned_;
@@ -340,13 +341,13 @@ module _ {D : Type 0} (observable : Bool) (history : D → History) (sync_out re
       near w,
     )
 
-    pub tried : WritesAll observable history sync_out read_out read_of faults old new txn planned_ (own_names own_) owed (Ok Failed) →
-        WritesOwn observable history sync_out read_out read_of old new st txn.0 cs owed (Ok Failed)
+    pub tried : WritesAll meaning old new txn planned_ (own_names own_) owed (Ok Failed) →
+        WritesOwn meaning old new st txn.0 cs owed (Ok Failed)
     tried t = (
       record {
         front = f.front;
         tried = f.tried;
-        recovers = inl (tried_changes_recovered_in observable history sync_out read_out read_of v.log old.engine.trees.log new.engine.trees.log rows_ st.last_txn st.last_db (active_number st.actives) st.own txn planned_
+        recovers = inl (tried_changes_recovered_in meaning v.log old.engine.trees.log new.engine.trees.log rows_ st.last_txn st.last_db (active_number st.actives) st.own txn planned_
             given (may_add st txn cs m active) f);
       },
       limit_for old st txn cs owed None last v m (sym (no_limit (limit_in old.engine.trees planned_ owed) old.engine.kept.last_node (length planned_) t.1 t.2)),
@@ -354,11 +355,11 @@ module _ {D : Type 0} (observable : Bool) (history : D → History) (sync_out re
       t.3,
       cond-true (has_failed new.engine.trees.log) 0 ((end_of new.engine.trees.log).file + waits_of new.engine.trees) f.tried.failed,
     ) where
-      f : HasFailed observable history sync_out read_out read_of old.engine.trees.log new.engine.trees.log (LogsChanges txn planned_)
-      f = failed observable history sync_out read_out read_of faults old.engine.trees.log new.engine.trees.log (LogsChanges txn planned_) t.0.entries t.0.front t.0.logs t.0.is_front t.0.tried
+      f : HasFailed meaning old.engine.trees.log new.engine.trees.log (LogsChanges txn planned_)
+      f = failed meaning old.engine.trees.log new.engine.trees.log (LogsChanges txn planned_) t.0.entries t.0.front t.0.logs t.0.is_front t.0.tried
 
-    pub writes_own : (result : Result Wrote AllocError) → owed ≡ owing after_ → WritesAll observable history sync_out read_out read_of faults old new txn planned_ (own_names own_) owed result →
-        WritesOwn observable history sync_out read_out read_of old new st txn.0 cs owed result
+    pub writes_own : (result : Result Wrote AllocError) → owed ≡ owing after_ → WritesAll meaning old new txn planned_ (own_names own_) owed result →
+        WritesOwn meaning old new st txn.0 cs owed result
     writes_own (Ok Done) owes w = done w owes
     writes_own (Ok Full) owes w = (
       left_valid old new st w.0 v,

@@ -1,7 +1,7 @@
 -- A call by its kind.
-use Rattle.std.proofs.Common.{◌∙◌, ℕ, Bool, Option, Result, Ok, Err, arith, sym}
+use Rattle.std.proofs.Common.{◌∙◌, ℕ, Bool, Result, Ok, Err, arith, sym}
 use Rattle.std.specs.declared.alloc.AllocError.{AllocError}
-use Rattle.je_disk.specs.Moments.{History}
+use Rattle.je_disk.specs.DiskMeaning.{DiskMeaning}
 use Rattle.store_model.specs.declared.answer.Answer.{Answer}
 use Rattle.store_model.specs.declared.call.Call.{Call}
 use Rattle.environment.specs.declared.environment.Environment.{Environment}
@@ -10,13 +10,13 @@ use Rattle.environment.specs.Steps.{HasCome, IsOnly, Performs, PerformsAnswer}
 use Rattle.environment.specs.Whole.{CanGoOn}
 use Rattle.environment.proofs.EarlyLaws.{same_buffer, same_reach, told_so}
 
-module _ {D : Type 0} (observable : Bool) (history : D → History) (sync_out read_out : D → Option ℕ) (read_of faults : D → ℕ) where
+module _ {D : Type 0} (meaning : DiskMeaning D) where
   -- a call that has no victims
   pub performs_only : (old new : Environment D) (session line : ℕ) (call : Call) (resumed : Bool) (answered : Result Answer AllocError) (result : Result Outcome AllocError) → IsOnly answered result →
-      PerformsAnswer observable history sync_out read_out read_of faults old new session call answered → Performs observable history sync_out read_out read_of faults old new session line call resumed result
+      PerformsAnswer meaning old new session call answered → Performs meaning old new session line call resumed result
   performs_only old new session line call resumed (Ok answer) (Ok o) only p = record {
     comes = λ most st here sound early may.
-        told_so (λ a victims. HasCome observable history sync_out read_out read_of most old new st session line call a victims) o answer only.0 only.1 (p.comes most st line here sound early);
+        told_so (λ a victims. HasCome meaning most old new st session line call a victims) o answer only.0 only.1 (p.comes most st line here sound early);
     near = tt;
     bounds = p.bounds;
     cause = record { never_falls = p.cause.never_falls; fault = λ is. p.cause.fault (sym only.0 ∙ is) };
@@ -31,7 +31,7 @@ module _ {D : Type 0} (observable : Bool) (history : D → History) (sync_out re
   performs_only old new session line call resumed (Err error) (Ok o) only p = absurd only
 
   -- there is no memory for it
-  pub none_made : (e : Environment D) (session line : ℕ) (call : Call) (resumed : Bool) (error : AllocError) → CanGoOn e → Performs observable history sync_out read_out read_of faults e e session line call resumed (Err error)
+  pub none_made : (e : Environment D) (session line : ℕ) (call : Call) (resumed : Bool) (error : AllocError) → CanGoOn e → Performs meaning e e session line call resumed (Err error)
   none_made e session line call resumed error bounds = record {
     comes = λ most st here sound early may. record { here = here; log = same_buffer e.engine.trees.log; near = same_reach e };
     near = same_reach e;

@@ -1,5 +1,5 @@
 -- What a transaction sees of the database that a call is on.
-use Rattle.std.proofs.Common.{◌≡◌, ◌≢◌, ◌≤◌, ◌∙◌, ◌⊎◌, inl, inr, ℕ, Bool, true, List, [], ◌∷◌, Option, None, Some, IfSome, map, option_map, is_eq, refl, ap, sym, subst, rules}
+use Rattle.std.proofs.Common.{◌≡◌, ◌≢◌, ◌≤◌, ◌∙◌, ◌⊎◌, inl, inr, ℕ, true, List, [], ◌∷◌, Option, None, Some, IfSome, map, option_map, is_eq, refl, ap, sym, subst, rules}
 use Rattle.std.proofs.lemmas.Option.{same_Some}
 use Rattle.std.specs.List.{AllByRecursion}
 use Rattle.je_order.specs.Order.{name_cmp}
@@ -46,7 +46,7 @@ use Rattle.store_model.specs.Store.{change_in, proper}
 use Rattle.engine.proofs.PlannedRows.{apart_named}
 use Rattle.txn_views.specs.Seen.{IsProperChange}
 use Rattle.environment.proofs.LateLaws.{same_is}
-use Rattle.je_disk.specs.Moments.{History}
+use Rattle.je_disk.specs.DiskMeaning.{DiskMeaning}
 use Rattle.je_order.specs.declared.txn_id.TxnId.{TxnId}
 use Rattle.store_model.specs.declared.isolation.Isolation.{Isolation}
 use Rattle.txn_views.proofs.ViewLaws.{views-are_seen}
@@ -231,19 +231,19 @@ module _ {D : Type 0} (trees : LogTrees D) (st : Standing) (sound : AreSound st)
 -- so the plan of a call is the model's
 module _ {D : Type 0} (trees : LogTrees D) (txn : TxnId) (level : Isolation) (db : List ℕ) (f : FoundDb) (call : Call) (at : Option Name) (rising : (d : ℕ) → IsRising (cells_of trees d)) where
   -- the databases of a call can be read
-  pub readable_by : (observable : Bool) (history : D → History) (e : Environment D) → e.engine.trees ≡ trees → (on : FoundTarget) → IsTargetBy e.engine.kept.indexes f on →
-      (st : Standing) (a : Active) (g : Target) → IsValidAt observable history e st → KnowsDatabases st e.engine.kept → AreSound st → IsOnDb st db f g → a.txn ≡ txn → a.level ≡ level → AreReadable level txn (cells_of trees) on
-  readable_by observable history e same on on_is st a g v knows sound found is_txn is_level =
+  pub readable_by : (meaning : DiskMeaning D) (e : Environment D) → e.engine.trees ≡ trees → (on : FoundTarget) → IsTargetBy e.engine.kept.indexes f on →
+      (st : Standing) (a : Active) (g : Target) → IsValidAt meaning e st → KnowsDatabases st e.engine.kept → AreSound st → IsOnDb st db f g → a.txn ≡ txn → a.level ≡ level → AreReadable level txn (cells_of trees) on
+  readable_by meaning e same on on_is st a g v knows sound found is_txn is_level =
       let makes = subst (λ (t : LogTrees D). MakesStore (committed (cells_of t)) st.last_db st) same v.makes in
       let writes = subst (λ (t : LogTrees D). HasWrites (cells_of t) st.own) same v.writes in
       let may = subst (λ (t : LogTrees D). (u : ℕ) → AllByRecursion (MayBeCommitted (committed (cells_of t))) (st.own u)) same v.may in
       readable_target trees st sound makes writes may rising a txn level is_txn is_level g on (db_there (committed (cells_of trees)) st makes e.engine.kept knows db f g found)
       (found_target (committed (cells_of trees)) st makes e.engine.kept knows db f g found on on_is)
 
-  pub planned_by : (observable : Bool) (history : D → History) (e : Environment D) → e.engine.trees ≡ trees → (on : FoundTarget) → IsTargetBy e.engine.kept.indexes f on →
+  pub planned_by : (meaning : DiskMeaning D) (e : Environment D) → e.engine.trees ≡ trees → (on : FoundTarget) → IsTargetBy e.engine.kept.indexes f on →
       (p : CallPlan) → map as_beside p.others ≡ beside_of (name_in e.engine.kept.names) on.over on.indexes.now → IsTargetPlan level txn (cells_of trees) on call at p.target →
-      (st : Standing) (a : Active) (g : Target) → IsValidAt observable history e st → KnowsDatabases st e.engine.kept → AreSound st → IsOnDb st db f g → g.at ≡ at → a.txn ≡ txn → a.level ≡ level → IsPlannedFor st a call g p
-  planned_by observable history e same on on_is p others plan st a g v knows sound found stands is_txn is_level =
+      (st : Standing) (a : Active) (g : Target) → IsValidAt meaning e st → KnowsDatabases st e.engine.kept → AreSound st → IsOnDb st db f g → g.at ≡ at → a.txn ≡ txn → a.level ≡ level → IsPlannedFor st a call g p
+  planned_by meaning e same on on_is p others plan st a g v knows sound found stands is_txn is_level =
       let makes = subst (λ (t : LogTrees D). MakesStore (committed (cells_of t)) st.last_db st) same v.makes in
       let writes = subst (λ (t : LogTrees D). HasWrites (cells_of t) st.own) same v.writes in
       let may = subst (λ (t : LogTrees D). (u : ℕ) → AllByRecursion (MayBeCommitted (committed (cells_of t))) (st.own u)) same v.may in
@@ -257,10 +257,10 @@ module _ {D : Type 0} (trees : LogTrees D) (txn : TxnId) (level : Isolation) (db
       }
 
   -- and one without locks
-  pub outcome_by : (observable : Bool) (history : D → History) (e : Environment D) → e.engine.trees ≡ trees → (on : FoundTarget) → IsTargetBy e.engine.kept.indexes f on →
+  pub outcome_by : (meaning : DiskMeaning D) (e : Environment D) → e.engine.trees ≡ trees → (on : FoundTarget) → IsTargetBy e.engine.kept.indexes f on →
       (p : OutcomePlan) → IsOutcomePlan level txn (cells_of trees) on call p →
-      (st : Standing) (a : Active) (g : Target) → IsValidAt observable history e st → KnowsDatabases st e.engine.kept → AreSound st → IsOnDb st db f g → g.at ≡ None → a.txn ≡ txn → a.level ≡ level → IsOutcomeIn st a call g p
-  outcome_by observable history e same on on_is p plan st a g v knows sound found stands is_txn is_level =
+      (st : Standing) (a : Active) (g : Target) → IsValidAt meaning e st → KnowsDatabases st e.engine.kept → AreSound st → IsOnDb st db f g → g.at ≡ None → a.txn ≡ txn → a.level ≡ level → IsOutcomeIn st a call g p
+  outcome_by meaning e same on on_is p plan st a g v knows sound found stands is_txn is_level =
       let makes = subst (λ (t : LogTrees D). MakesStore (committed (cells_of t)) st.last_db st) same v.makes in
       let writes = subst (λ (t : LogTrees D). HasWrites (cells_of t) st.own) same v.writes in
       let may = subst (λ (t : LogTrees D). (u : ℕ) → AllByRecursion (MayBeCommitted (committed (cells_of t))) (st.own u)) same v.may in

@@ -8,7 +8,8 @@ use Rattle.std.specs.List.{AllByRecursion}
 use Rattle.std.specs.declared.alloc.AllocError.{AllocError}
 use Rattle.std.proofs.lemmas.Bool.{cond-true, cond-false, eqb-true}
 use Rattle.std.proofs.lemmas.Option.{none-some, same_Some}
-use Rattle.je_disk.specs.Moments.{History, now}
+use Rattle.je_disk.specs.DiskMeaning.{DiskMeaning}
+use Rattle.je_disk.specs.Moments.{now}
 use Rattle.je_order.specs.declared.txn_id.TxnId.{TxnId}
 use Rattle.je_order.specs.Transactions.{is_same_txn}
 use Rattle.je_order.proofs.TxnIds.{same_itself}
@@ -178,13 +179,13 @@ module _ {D : Type 0} where
   }
 
   -- there was no memory for the call, and its session was ended
-  pub gone_again : (observable : Bool) (history : D → History) (sync_out read_out : D → Option ℕ) (read_of : D → ℕ) (most : ℕ) (old between new : Environment D) (st : Standing) (session : ℕ) (w : Wait) → MayGoOn st session w →
-      HasNotCome observable history sync_out read_out read_of most old between (resumed st w) →
-      ((m : ℕ) (x : Standing) → StandsAt m observable history between x → (x.fault ≡ None → AreNumbered x.last_txn x.actives) → StandsAt m observable history new (after_session session x)) →
+  pub gone_again : (meaning : DiskMeaning D) (most : ℕ) (old between new : Environment D) (st : Standing) (session : ℕ) (w : Wait) → MayGoOn st session w →
+      HasNotCome meaning most old between (resumed st w) →
+      ((m : ℕ) (x : Standing) → StandsAt m meaning between x → (x.fault ≡ None → AreNumbered x.last_txn x.actives) → StandsAt m meaning new (after_session session x)) →
       IsUnchanged between.engine.trees.log new.engine.trees.log → ((x : Standing) → AreSessionsAt between.sessions x → IsWithin (reach_of new) (reach_of between)) →
-      HasNotCome observable history sync_out read_out read_of most old new (after_session session st)
-  gone_again observable history sync_out read_out read_of most old between new st session w may h stands log near = record {
-    here = subst (λ (x : Standing). StandsAt most observable history new x) (left_resumed st session w may) (stands most (resumed st w) h.here (λ none. (sound_again st session w may).numbers));
+      HasNotCome meaning most old new (after_session session st)
+  gone_again meaning most old between new st session w may h stands log near = record {
+    here = subst (λ (x : Standing). StandsAt most meaning new x) (left_resumed st session w may) (stands most (resumed st w) h.here (λ none. (sound_again st session w may).numbers));
     log = then_unchanged old.engine.trees.log between.engine.trees.log new.engine.trees.log h.log log;
     near = within_then old between new h.near (near (resumed st w) h.here.sessions_at);
   }
@@ -193,9 +194,9 @@ module _ {D : Type 0} where
   abbrev pub mid : Environment D → Sessions → Environment D
   mid e s = record { engine = e.engine; sessions = s; written = e.written }
 
-  pub resumed_at : (most : ℕ) (observable : Bool) (history : D → History) (e : Environment D) (s : Sessions) (st : Standing) (w : Wait) → StandsAt most observable history e st → AreSessionsAt s (resumed st w) →
-      StandsAt most observable history (mid e s) (resumed st w)
-  resumed_at most observable history e s st w at now_ = record {
+  pub resumed_at : (most : ℕ) (meaning : DiskMeaning D) (e : Environment D) (s : Sessions) (st : Standing) (w : Wait) → StandsAt most meaning e st → AreSessionsAt s (resumed st w) →
+      StandsAt most meaning (mid e s) (resumed st w)
+  resumed_at most meaning e s st w at now_ = record {
     file_max = at.file_max;
     fault = at.fault;
     last_txn = at.last_txn;
@@ -206,7 +207,7 @@ module _ {D : Type 0} where
     apart = own_waits_left (λ (v : Wait). not (v.session == w.session)) st.waiting at.apart;
     checkpoint = at.checkpoint;
     databases = at.databases;
-    valid = λ none. valid_waiting observable (now (history (disk_below e.engine.trees.log))) e.engine.trees.log (cells_of e.engine.trees) (has_tree_of e.engine.trees) (fitting e.engine.trees) e.engine.kept.since e.written.by_txn.entries st
+    valid = λ none. valid_waiting meaning.observable (now (meaning.history (disk_below e.engine.trees.log))) e.engine.trees.log (cells_of e.engine.trees) (has_tree_of e.engine.trees) (fitting e.engine.trees) e.engine.kept.since e.written.by_txn.entries st
         (without_wait w.session st.waiting) (forgotten w.txn st.locks) (at.valid none);
   }
 
@@ -217,7 +218,7 @@ module _ {D : Type 0} where
   limit_mid e s owed [] limit h = h
   limit_mid e s owed (change ∷ changes) limit h = record { planned = h.planned; rows = h.rows; makes = h.makes; is = h.is }
 
-  module _ (observable : Bool) (history : D → History) (sync_out read_out : D → Option ℕ) (read_of : D → ℕ) (old new : Environment D) (s : Sessions) (session : ℕ) (valid : old.engine.kept.fault ≡ None)
+  module _ (meaning : DiskMeaning D) (old new : Environment D) (s : Sessions) (session : ℕ) (valid : old.engine.kept.fault ≡ None)
       (stands : (st : Standing) (w : Wait) → wait_of session st.waiting ≡ Some w → IsReady st.fault st w.txn → AreSessionsAt old.sessions st → AreSessionsAt s (resumed st w)) where
     -- what is known of an environment whose session's call may go on
     record IsGoing (most : ℕ) (st : Standing) (line : ℕ) (w : Wait) : Type 0 where
@@ -225,10 +226,10 @@ module _ {D : Type 0} where
       may : MayGoOn st session w
       line_is : line ≡ w.line
       now_ : AreSessionsAt s (resumed st w)
-      at_mid : StandsAt most observable history (mid old s) (resumed st w)
+      at_mid : StandsAt most meaning (mid old s) (resumed st w)
       near : IsWithin (reach_of (mid old s)) (reach_of old)
 
-    going : (most : ℕ) (st : Standing) (line : ℕ) → IsAt most observable (now (history (disk_of old))) old st → (m : MayResume st session line) → IsGoing most st line m.wait
+    going : (most : ℕ) (st : Standing) (line : ℕ) → IsAt most meaning.observable (now (meaning.history (disk_of old))) old st → (m : MayResume st session line) → IsGoing most st line m.wait
     going most st line here m =
         let calm = sym here.at.fault ∙ valid in
         let sessions_now = stands st m.wait m.its m.ready here.at.sessions_at in
@@ -237,23 +238,23 @@ module _ {D : Type 0} where
           may = record { right = here.right calm; bare = here.bare calm; its = m.its; granted = subst (λ (f : Option Fault). IsReady f st m.wait.txn) calm m.ready };
           line_is = sym m.line_is;
           now_ = sessions_now;
-          at_mid = resumed_at most observable history old s st m.wait here.at sessions_now;
+          at_mid = resumed_at most meaning old s st m.wait here.at sessions_now;
           near = near_mid old s st m.wait here.at.sessions_at sessions_now;
         }
 
     abbrev Called : ℕ → Standing → Wait → Outcome → Type 0
-    Called most st w o = HasCalled observable history sync_out read_out read_of most (mid old s) new (resumed st w) session w.line w.call o.answer o.victims
+    Called most st w o = HasCalled meaning most (mid old s) new (resumed st w) session w.line w.call o.answer o.victims
 
-    pub near_of : (most : ℕ) (st : Standing) (line : ℕ) → IsAt most observable (now (history (disk_of old))) old st → MayResume st session line → IsWithin (reach_of (mid old s)) (reach_of old)
+    pub near_of : (most : ℕ) (st : Standing) (line : ℕ) → IsAt most meaning.observable (now (meaning.history (disk_of old))) old st → MayResume st session line → IsWithin (reach_of (mid old s)) (reach_of old)
     near_of most st line here m = (going most st line here m).near
 
     -- what the call asks that goes on
-    pub resumes_of : (most : ℕ) (st : Standing) (line : ℕ) → IsAt most observable (now (history (disk_of old))) old st → (m : MayResume st session line) → (w : Wait) → Some w ≡ wait_of session st.waiting →
-        (x : ℕ) × (y : Standing) × StandsAt x observable history (mid old s) (resumed y w) × MayGoOn y session w
+    pub resumes_of : (most : ℕ) (st : Standing) (line : ℕ) → IsAt most meaning.observable (now (meaning.history (disk_of old))) old st → (m : MayResume st session line) → (w : Wait) → Some w ≡ wait_of session st.waiting →
+        (x : ℕ) × (y : Standing) × StandsAt x meaning (mid old s) (resumed y w) × MayGoOn y session w
     resumes_of most st line here m w is =
         let g = going most st line here m in
         let same : Some m.wait ≡ Some w = sym m.its ∙ sym is in
-        (most, st, for_wait (λ v. StandsAt most observable history (mid old s) (resumed st v)) m.wait w same g.at_mid, for_wait (λ v. MayGoOn st session v) m.wait w same g.may)
+        (most, st, for_wait (λ v. StandsAt most meaning (mid old s) (resumed st v)) m.wait w same g.at_mid, for_wait (λ v. MayGoOn st session v) m.wait w same g.may)
 
     -- the event
     answered : (most : ℕ) (st : Standing) (line : ℕ) (m : MayResume st session line) (o : Outcome) → IsGoing most st line m.wait → (has : Called most st m.wait o) → IsAnswered has.limit st (resumed_by session line o)
@@ -283,8 +284,8 @@ module _ {D : Type 0} where
         subst (λ (cs : List Change). IsWithin (reach_of new) (reach_after (reach_of old) cs)) (sym (written_is st line m))
         (let f1 = first.file in let f2 = next.file in let n1 = first.node in let n2 = next.node in record { file = omega (arith, f1, f2); node = omega (arith, n1, n2) })
 
-    done : (most : ℕ) (st : Standing) (line : ℕ) (o : Outcome) → IsAt most observable (now (history (disk_of old))) old st → (m : MayResume st session line) → IsGoing most st line m.wait → Called most st m.wait o →
-        HasDone most observable (now (history (disk_of new))) old new st (resumed_by session line o)
+    done : (most : ℕ) (st : Standing) (line : ℕ) (o : Outcome) → IsAt most meaning.observable (now (meaning.history (disk_of old))) old st → (m : MayResume st session line) → IsGoing most st line m.wait → Called most st m.wait o →
+        HasDone most meaning.observable (now (meaning.history (disk_of new))) old new st (resumed_by session line o)
     done most st line o here m g has =
         let owed = owed_is old.sessions st here.at.sessions_at in
         let with_ = owed_with (active_of session st.actives) st in
@@ -294,7 +295,7 @@ module _ {D : Type 0} where
           bounded = bounded old (owing_after st session) (written_resumed (wait_of session st.waiting) st session) has.limit (omega (arith, owed, with_)) (has_limit most st line m o has);
           answered = said;
           here = record {
-            at = subst (λ (x : Standing). StandsAt most observable history new x) (sym (after_is most st line m o g)) has.here;
+            at = subst (λ (x : Standing). StandsAt most meaning new x) (sym (after_is most st line m o g)) has.here;
             right = λ after. standings_stay-right has.limit st (resumed_by session line o) g.none (here.right g.none) said;
             bare = λ after. standings_stay-bare has.limit st (resumed_by session line o) g.none (here.right g.none) (here.bare g.none) said;
             reached = reached_goes-on has.limit st (resumed_by session line o) here.reached said;
@@ -305,8 +306,8 @@ module _ {D : Type 0} where
         attempt_of st (resumed_by session line o) ≡ tried (changes_of (early_refusal (resumed st m.wait) session m.wait.call) (resumed st m.wait) session m.wait.call) (fate_of o.answer)
     attempts st line m o = ap (λ (x : Option Wait). tried (changes_resumed x st session) (fate_of o.answer)) m.its
 
-    session_end : (most : ℕ) (st : Standing) → IsAt most observable (now (history (disk_of old))) old st → StandsAt most observable history new (after_session session st) → st.fault ≡ None →
-        IsAt most observable (now (history (disk_of new))) new (after_event st (End session))
+    session_end : (most : ℕ) (st : Standing) → IsAt most meaning.observable (now (meaning.history (disk_of old))) old st → StandsAt most meaning new (after_session session st) → st.fault ≡ None →
+        IsAt most meaning.observable (now (meaning.history (disk_of new))) new (after_event st (End session))
     session_end most st here left none = record {
       at = left;
       right = λ after. standings_stay-right None st (End session) none (here.right none) tt;
@@ -315,8 +316,8 @@ module _ {D : Type 0} where
     }
 
     pub resumes_call : (result : Result Outcome AllocError) →
-        ((most : ℕ) (st : Standing) (w : Wait) → AreSessionsAt old.sessions st → StandsAt most observable history (mid old s) (resumed st w) → MayGoOn st session w → GoesAgain observable history sync_out read_out read_of most (mid old s) new st w session result) →
-        IsWithin (reach_of (mid old s)) (reach_of old) → OnErr result (IsWithin (reach_of new) (reach_of (mid old s))) → ResumesCall observable history sync_out read_out read_of old new session result
+        ((most : ℕ) (st : Standing) (w : Wait) → AreSessionsAt old.sessions st → StandsAt most meaning (mid old s) (resumed st w) → MayGoOn st session w → GoesAgain meaning most (mid old s) new st w session result) →
+        IsWithin (reach_of (mid old s)) (reach_of old) → OnErr result (IsWithin (reach_of new) (reach_of (mid old s))) → ResumesCall meaning old new session result
     resumes_call (Ok o) again before_ near = record {
       goes_on = λ most st line here m. let g = going most st line here m in done most st line o here m g (again most st m.wait here.at.sessions_at g.at_mid g.may);
       exact = λ most st line here m.
@@ -329,12 +330,12 @@ module _ {D : Type 0} where
       crash = λ observed most st start journal line here m is.
           let before = after_events st journal in
           let g = going most before line here m in let has = again most before m.wait here.at.sessions_at g.at_mid g.may in
-          guarded_step observable history sync_out read_out read_of st start old.engine.trees.log new.engine.trees.log journal (resumed_by session line o) _ is.0 observed refl (log_step observable history sync_out read_out read_of (is_disk_fault o.answer) old.engine new.engine.trees.log _ _ has.logged) (attempts before line m o) refl g.none
+          guarded_step meaning st start old.engine.trees.log new.engine.trees.log journal (resumed_by session line o) _ is.0 observed refl (log_step meaning (is_disk_fault o.answer) old.engine new.engine.trees.log _ _ has.logged) (attempts before line m o) refl g.none
           (ap (λ (x : Standing). x.fault) (after_is most before line m o g) ∙ has.fault) is.1;
       appends = λ most st line here m.
           let g = going most st line here m in let has = again most st m.wait here.at.sessions_at g.at_mid g.may in
-          subst (λ (cs : List Change). Appends observable history sync_out read_out read_of old new cs (attempt_of st (resumed_by session line o)) o.answer) (sym (written_is st line m))
-          (subst (λ (ts : List (List Change)). Appends observable history sync_out read_out read_of old new (written_call (resumed st m.wait) session m.wait.call) ts o.answer) (sym (attempts st line m o)) has.logged);
+          subst (λ (cs : List Change). Appends meaning old new cs (attempt_of st (resumed_by session line o)) o.answer) (sym (written_is st line m))
+          (subst (λ (ts : List (List Change)). Appends meaning old new (written_call (resumed st m.wait) session m.wait.call) ts o.answer) (sym (attempts st line m o)) has.logged);
       stays = tt;
       settles = λ most st line here m.
           let g = going most st line here m in let has = again most st m.wait here.at.sessions_at g.at_mid g.may in
@@ -349,7 +350,7 @@ module _ {D : Type 0} where
       crash = λ observed most st start journal line here m is.
           let before = after_events st journal in
           let g = going most before line here m in let left = again most before m.wait here.at.sessions_at g.at_mid g.may in
-          (is.0, ended_safely history st is.0 start old.engine.trees.log new.engine.trees.log journal session left.log is.1);
+          (is.0, ended_safely meaning.history st is.0 start old.engine.trees.log new.engine.trees.log journal session left.log is.1);
       appends = λ most st line here m. tt;
       stays = within_then old (mid old s) new before_ near;
       settles = λ most st line here m. ends-settle st session (ap is_some m.its);
@@ -357,7 +358,7 @@ module _ {D : Type 0} where
 
 -- ---- after a fault
 
-module _ {D : Type 0} (observable : Bool) (history : D → History) (sync_out read_out : D → Option ℕ) (read_of : D → ℕ) (old : Environment D) (s : Sessions) (session : ℕ) (first : Fault) (fault : old.engine.kept.fault ≡ Some first)
+module _ {D : Type 0} (meaning : DiskMeaning D) (old : Environment D) (s : Sessions) (session : ℕ) (first : Fault) (fault : old.engine.kept.fault ≡ Some first)
     (stands : (st : Standing) (w : Wait) → wait_of session st.waiting ≡ Some w → IsReady st.fault st w.txn → AreSessionsAt old.sessions st → AreSessionsAt s (resumed st w)) where
   abbrev after_ : Environment D
   after_ = mid old s
@@ -370,7 +371,7 @@ module _ {D : Type 0} (observable : Bool) (history : D → History) (sync_out re
     attempt : attempt_of st (Resume session line (Invalid first) []) ≡ []
     answered : IsAnswered None st (Resume session line (Invalid first) [])
 
-  faulted_is : (most : ℕ) (st : Standing) (line : ℕ) → IsAt most observable (now (history (disk_of old))) old st → (m : MayResume st session line) → IsFaulted st line m.wait
+  faulted_is : (most : ℕ) (st : Standing) (line : ℕ) → IsAt most meaning.observable (now (meaning.history (disk_of old))) old st → (m : MayResume st session line) → IsFaulted st line m.wait
   faulted_is most st line here m =
       let w = m.wait in
       let is_failed = sym here.at.fault ∙ fault in
@@ -394,10 +395,10 @@ module _ {D : Type 0} (observable : Bool) (history : D → History) (sync_out re
   not_none : (st : Standing) → st.fault ≡ Some first → st.fault ≡ None → ⊥
   not_none st failed none = absurd (none-some first (sym none ∙ failed))
 
-  at_faulted : (most : ℕ) (st : Standing) (line : ℕ) → IsAt most observable (now (history (disk_of old))) old st → (m : MayResume st session line) → IsFaulted st line m.wait →
-      IsAt most observable (now (history (disk_of old))) after_ (after_event st (Resume session line (Invalid first) []))
-  at_faulted most st line here m i = subst (λ (x : Standing). IsAt most observable (now (history (disk_of old))) after_ x) (sym i.after) (record {
-    at = resumed_at most observable history old s st m.wait here.at (stands st m.wait m.its m.ready here.at.sessions_at);
+  at_faulted : (most : ℕ) (st : Standing) (line : ℕ) → IsAt most meaning.observable (now (meaning.history (disk_of old))) old st → (m : MayResume st session line) → IsFaulted st line m.wait →
+      IsAt most meaning.observable (now (meaning.history (disk_of old))) after_ (after_event st (Resume session line (Invalid first) []))
+  at_faulted most st line here m i = subst (λ (x : Standing). IsAt most meaning.observable (now (meaning.history (disk_of old))) after_ x) (sym i.after) (record {
+    at = resumed_at most meaning old s st m.wait here.at (stands st m.wait m.its m.ready here.at.sessions_at);
     right = λ none. absurd (not_none st i.failed none);
     bare = λ none. absurd (not_none st i.failed none);
     reached = subst IsReached i.after (reached_goes-on None st (Resume session line (Invalid first) []) here.reached i.answered);
@@ -406,16 +407,16 @@ module _ {D : Type 0} (observable : Bool) (history : D → History) (sync_out re
   limit_none : (changes : List Change) (owed : ℕ) → changes ≡ [] → HasLimit old owed changes None
   limit_none changes owed none = subst (λ (cs : List Change). HasLimit old owed cs None) (sym none) refl
 
-  within_written : (most : ℕ) (st : Standing) (line : ℕ) → IsAt most observable (now (history (disk_of old))) old st → (m : MayResume st session line) →
+  within_written : (most : ℕ) (st : Standing) (line : ℕ) → IsAt most meaning.observable (now (meaning.history (disk_of old))) old st → (m : MayResume st session line) →
       IsWithin (reach_of after_) (reach_after (reach_of old) (written_resumed (wait_of session st.waiting) st session))
   within_written most st line here m =
       let near = near_mid old s st m.wait here.at.sessions_at (stands st m.wait m.its m.ready here.at.sessions_at) in
       let n1 = near.file in let n2 = near.node in record { file = omega (arith, n1); node = omega (arith, n2) }
 
-  at_result : (answer : Answer) (victims : List Victim) → answer ≡ Invalid first → victims ≡ [] → ResumesCall observable history sync_out read_out read_of old after_ session (Ok (record { answer = answer; victims = victims }))
+  at_result : (answer : Answer) (victims : List Victim) → answer ≡ Invalid first → victims ≡ [] → ResumesCall meaning old after_ session (Ok (record { answer = answer; victims = victims }))
   at_result answer victims is none =
-      subst (λ (a : Answer). ResumesCall observable history sync_out read_out read_of old after_ session (Ok (record { answer = a; victims = victims }))) (sym is)
-      (subst (λ (vs : List Victim). ResumesCall observable history sync_out read_out read_of old after_ session (Ok (record { answer = Invalid first; victims = vs }))) (sym none) (record {
+      subst (λ (a : Answer). ResumesCall meaning old after_ session (Ok (record { answer = a; victims = victims }))) (sym is)
+      (subst (λ (vs : List Victim). ResumesCall meaning old after_ session (Ok (record { answer = Invalid first; victims = vs }))) (sym none) (record {
         goes_on = λ most st line here m.
             let i = faulted_is most st line here m in
             record { limit = None; bounded = inl refl; answered = i.answered; here = at_faulted most st line here m i };
@@ -424,7 +425,7 @@ module _ {D : Type 0} (observable : Bool) (history : D → History) (sync_out re
         grows = λ most st line here m. within_written most st line here m;
         crash = λ observed most st start journal line here m is_.
             let i = faulted_is most (after_events st journal) line here m in
-            (is_.0, guarded_quiet st is_.0 start (history (disk_of old)) old.engine.trees.log journal (Resume session line (Invalid first) []) refl i.attempt refl refl (ap (λ (x : Standing). x.fault) i.after) is_.1);
+            (is_.0, guarded_quiet st is_.0 start (meaning.history (disk_of old)) old.engine.trees.log journal (Resume session line (Invalid first) []) refl i.attempt refl refl (ap (λ (x : Standing). x.fault) i.after) is_.1);
         appends = λ most st line here m.
             let i = faulted_is most st line here m in inl (same_buffer old.engine.trees.log, i.attempt, ap (λ (cs : List Change). tried cs (fate_of (Invalid first))) i.written);
         stays = tt;
@@ -433,5 +434,5 @@ module _ {D : Type 0} (observable : Bool) (history : D → History) (sync_out re
             resumes-settle None st session line (Invalid first) [] (inr (first, i.failed)) i.answered;
       }))
 
-  pub resumes_invalid : (o : Outcome) → o.answer ≡ Invalid first → o.victims ≡ [] → ResumesCall observable history sync_out read_out read_of old after_ session (Ok o)
+  pub resumes_invalid : (o : Outcome) → o.answer ≡ Invalid first → o.victims ≡ [] → ResumesCall meaning old after_ session (Ok o)
   resumes_invalid o is none = at_result o.answer o.victims is none

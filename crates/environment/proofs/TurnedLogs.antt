@@ -2,8 +2,9 @@
 use Rattle.std.proofs.Common.{◌≡◌, ◌≢◌, ℕ, suc, ◌≤◌, Bool, true, List, [], ◌∷◌, ◌++◌, Option, None, Some, refl, sym, ◌∙◌, subst, arith}
 use Rattle.std.specs.Option.{option_map_or}
 use Rattle.std.proofs.lemmas.List.{append-nil}
+use Rattle.je_disk.specs.DiskMeaning.{DiskMeaning}
 use Rattle.je_disk.specs.States.{State}
-use Rattle.je_disk.specs.Moments.{History, now}
+use Rattle.je_disk.specs.Moments.{now}
 use Rattle.je_order.specs.declared.txn_id.TxnId.{TxnId}
 use Rattle.lock_table.specs.Table.{at_txn}
 use Rattle.store_model.specs.declared.change.Change.{Change}
@@ -74,22 +75,22 @@ at_least : (o : Option ℕ) (start redo first : ℕ) → redo ≤ earlier_of sta
 at_least None start redo first low most = absurd most
 at_least (Some least) start redo first low most = grind arith
 
-module _ {D : Type 0} (observable : Bool) (history : D → History) (sync_out read_out : D → Option ℕ) (read_of : D → ℕ) (faults : D → ℕ) where
+module _ {D : Type 0} (meaning : DiskMeaning D) where
   abbrev state_of : LogBuffer D → State
-  state_of buffer = now (history (disk_of buffer))
+  state_of buffer = now (meaning.history (disk_of buffer))
 
   module _ (old new : LogBuffer D) (cells : AllCells) (has_tree : ℕ → Bool) (forest : Forest) (since : ℕ) (written : List (TxnId × OwnNames)) (st : Standing)
-      (v : IsValidWith observable (state_of old) old cells has_tree forest since written st) where
+      (v : IsValidWith meaning.observable (state_of old) old cells has_tree forest since written st) where
     abbrev Given : LogBuffer D → Log → Type 0
-    Given buffer log = HasGiven observable history buffer log (committed cells) st.last_txn st.last_db (active_number st.actives) st.own
+    Given buffer log = HasGiven meaning buffer log (committed cells) st.last_txn st.last_db (active_number st.actives) st.own
 
     abbrev given : Given old v.log
     given = record { has = v.has; gives = v.gives }
 
     -- what holds of the log that gives the records holds of each that the buffer has
-    on_log : observable ≡ true → (P : Log → Type 0) → P v.log → (log : Log) → HasLog observable (state_of old) old log → P log
+    on_log : meaning.observable ≡ true → (P : Log → Type 0) → P v.log → (log : Log) → HasLog meaning.observable (state_of old) old log → P log
     on_log observed P its log has =
-        subst P (one_log (state_of old) old v.log log (of_observed observable (state_of old) old v.log observed v.has) (of_observed observable (state_of old) old log observed has)) its
+        subst P (one_log (state_of old) old v.log log (of_observed meaning.observable (state_of old) old v.log observed v.has) (of_observed meaning.observable (state_of old) old log observed has)) its
 
     -- ---- the longer log
 
@@ -98,10 +99,10 @@ module _ {D : Type 0} (observable : Bool) (history : D → History) (sync_out re
       long = longer old entries v.log
 
       -- where the log got entries that leave what it gives and recovers, the environment is valid
-      valid_longer : (later_since : ℕ) (g : Given new long) → g.gives.base ≡ v.gives.base → GrewFitting observable history sync_out read_out read_of faults old new entries →
+      valid_longer : (later_since : ℕ) (g : Given new long) → g.gives.base ≡ v.gives.base → GrewFitting meaning old new entries →
           Lives later long later_since (pos_lsn (end_of new)) written v.gives.base → RecoversLog v.recovers.first v.recovers.opening v.recovers.base v.recovers.transactions long →
           ((n : ℕ) → owing st ≡ suc n → HasRoomFor new (commit_sizes (suc n))) →
-          IsValidWith observable (state_of new) new cells has_tree later later_since written (record st { in_checkpoint = begun })
+          IsValidWith meaning.observable (state_of new) new cells has_tree later later_since written (record st { in_checkpoint = begun })
       valid_longer later_since g base grew lives recovers room =
           let moved : Lives later long later_since (pos_lsn (end_of new)) written g.gives.base = subst (Lives later long later_since (pos_lsn (end_of new)) written) (sym base) lives in
           record {
@@ -138,15 +139,15 @@ module _ {D : Type 0} (observable : Bool) (history : D → History) (sync_out re
     -- ---- entries that change nothing
 
     abbrev Grew : List Entry → Type 0
-    Grew entries = GrewFitting observable history sync_out read_out read_of faults old new entries
+    Grew entries = GrewFitting meaning old new entries
 
     abbrev Tried : List Entry → Type 0
-    Tried front = TriedFitting observable history sync_out read_out read_of faults old new front
+    Tried front = TriedFitting meaning old new front
 
-    abbrev added : (entries : List Entry) (Logs : List Entry → Type 0) → Logs entries → Grew entries → HasAdded observable history sync_out read_out read_of old new Logs
+    abbrev added : (entries : List Entry) (Logs : List Entry → Type 0) → Logs entries → Grew entries → HasAdded meaning old new Logs
     added entries Logs logs grew = record { entries = entries; logs = logs; grew = grew.grew; room = record { max = old.max; entries_are = grew.fits.entries_are; room = grew.fits.room } }
 
-    abbrev failed : (entries front : List Entry) (Logs : List Entry → Type 0) → Logs entries → IsFront front entries → Tried front → HasFailed observable history sync_out read_out read_of old new Logs
+    abbrev failed : (entries front : List Entry) (Logs : List Entry → Type 0) → Logs entries → IsFront front entries → Tried front → HasFailed meaning old new Logs
     failed entries front Logs logs is_front tried =
         record { entries = entries; front = front; logs = logs; is_front = is_front; tried = tried.tried; room = record { max = old.max; entries_are = tried.fits.entries_are; room = tried.fits.room } }
 
@@ -156,27 +157,27 @@ module _ {D : Type 0} (observable : Bool) (history : D → History) (sync_out re
     none_more entries first opening base transactions log is = subst (λ (l : List (List Change)). RecoversLog first opening base l (longer old entries log)) (sym (append-nil transactions)) is
 
     pub valid_neutral : (entries : List Entry) (later : Forest) (begun : Bool) → AreNeutral entries → Grew entries → (forest (placed v.log) v.gives.base → later (placed (longer old entries v.log)) v.gives.base) →
-        ((n : ℕ) → owing st ≡ suc n → HasRoomFor new (commit_sizes (suc n))) → IsValidWith observable (state_of new) new cells has_tree later since written (record st { in_checkpoint = begun })
+        ((n : ℕ) → owing st ≡ suc n → HasRoomFor new (commit_sizes (suc n))) → IsValidWith meaning.observable (state_of new) new cells has_tree later since written (record st { in_checkpoint = begun })
     valid_neutral entries later begun neutral grew carries room =
         valid_longer entries later begun since
-        (neutrals_are_given observable history sync_out read_out read_of old new v.log (committed cells) st.last_txn st.last_db (active_number st.actives) st.own given (added entries AreNeutral neutral grew))
-        (neutrals_leave_base observable history sync_out read_out read_of old new v.log (committed cells) st.last_txn st.last_db (active_number st.actives) st.own given (added entries AreNeutral neutral grew))
-        grew (lives_on observable history sync_out read_out read_of old new v.log entries later since v.gives.base written v.has grew.grew (no_ends entries neutral) (carries v.fits) v.from (λ t named. neutral_no_commit t entries neutral) v.firsts)
-        (neutrals_are_recovered observable history sync_out read_out read_of old new v.log (committed cells) st.last_txn st.last_db (active_number st.actives) st.own v.recovers.first v.recovers.opening v.recovers.base
+        (neutrals_are_given meaning old new v.log (committed cells) st.last_txn st.last_db (active_number st.actives) st.own given (added entries AreNeutral neutral grew))
+        (neutrals_leave_base meaning old new v.log (committed cells) st.last_txn st.last_db (active_number st.actives) st.own given (added entries AreNeutral neutral grew))
+        grew (lives_on meaning old new v.log entries later since v.gives.base written v.has grew.grew (no_ends entries neutral) (carries v.fits) v.from (λ t named. neutral_no_commit t entries neutral) v.firsts)
+        (neutrals_are_recovered meaning old new v.log (committed cells) st.last_txn st.last_db (active_number st.actives) st.own v.recovers.first v.recovers.opening v.recovers.base
         v.recovers.transactions given (added entries AreNeutral neutral grew) v.recovers.recovers) room
 
-    pub recovers_neutral : (entries : List Entry) → AreNeutral entries → Grew entries → RecoversWith observable history sync_out read_out read_of old entries []
+    pub recovers_neutral : (entries : List Entry) → AreNeutral entries → Grew entries → RecoversWith meaning old entries []
     recovers_neutral entries neutral grew observed log has first opening base transactions =
         on_log observed (λ l. RecoversLog first opening base transactions l → RecoversLog first opening base (transactions ++ []) (longer old entries l))
         (λ is. none_more entries first opening base transactions v.log
-        (neutrals_are_recovered observable history sync_out read_out read_of old new v.log (committed cells) st.last_txn st.last_db (active_number st.actives) st.own first opening base transactions given
+        (neutrals_are_recovered meaning old new v.log (committed cells) st.last_txn st.last_db (active_number st.actives) st.own first opening base transactions given
         (added entries AreNeutral neutral grew) is)) log has
 
-    pub tries_neutral : (entries front : List Entry) → AreNeutral entries → IsFront front entries → Tried front → RecoversWith observable history sync_out read_out read_of old front []
+    pub tries_neutral : (entries front : List Entry) → AreNeutral entries → IsFront front entries → Tried front → RecoversWith meaning old front []
     tries_neutral entries front neutral is_front tried observed log has first opening base transactions =
         on_log observed (λ l. RecoversLog first opening base transactions l → RecoversLog first opening base (transactions ++ []) (longer old front l))
         (λ is. none_more front first opening base transactions v.log
-        (tried_neutrals_are_recovered observable history sync_out read_out read_of old new v.log (committed cells) st.last_txn st.last_db (active_number st.actives) st.own first opening base transactions given
+        (tried_neutrals_are_recovered meaning old new v.log (committed cells) st.last_txn st.last_db (active_number st.actives) st.own first opening base transactions given
         (failed entries front AreNeutral neutral is_front tried) is)) log has
 
     -- ---- the end of a checkpoint
@@ -199,7 +200,7 @@ module _ {D : Type 0} (observable : Bool) (history : D → History) (sync_out re
       abbrev ends : List Entry
       ends = end_entry p None ∷ []
 
-      has_redo : HasRedo observable history old v.log (committed cells) st.last_txn st.last_db (active_number st.actives) st.own given since p.redo last trees p.roots
+      has_redo : HasRedo meaning old v.log (committed cells) st.last_txn st.last_db (active_number st.actives) st.own given since p.redo last trees p.roots
       has_redo = record {
         from = v.from;
         since_low = since_low;
@@ -211,43 +212,43 @@ module _ {D : Type 0} (observable : Bool) (history : D → History) (sync_out re
       }
 
       abbrev EndMay : ℕ → Type 0
-      EndMay from = MayGetEnd observable history old v.log (committed cells) st.last_txn st.last_db (active_number st.actives) st.own v.gives.base from p None
+      EndMay from = MayGetEnd meaning old v.log (committed cells) st.last_txn st.last_db (active_number st.actives) st.own v.gives.base from p None
 
       may_end : (from : ℕ) (opening : Store) (base : ℕ) (transactions : List (List Change)) → RecoversLog from opening base transactions v.log → EndMay from
       may_end from opening base transactions is =
-          ends_may_stand observable history old v.log (committed cells) st.last_txn st.last_db (active_number st.actives) st.own from opening base transactions p None since last trees given is has_redo
+          ends_may_stand meaning old v.log (committed cells) st.last_txn st.last_db (active_number st.actives) st.own from opening base transactions p None since last trees given is has_redo
 
-      pub recovers_end : Grew ends → RecoversWith observable history sync_out read_out read_of old ends []
+      pub recovers_end : Grew ends → RecoversWith meaning old ends []
       recovers_end grew observed log has from opening base transactions =
           on_log observed (λ l. RecoversLog from opening base transactions l → RecoversLog from opening base (transactions ++ []) (longer old ends l))
           (λ is. (let m = may_end from opening base transactions is in
           none_more ends from opening base transactions v.log
-          (end_is_recovered observable history sync_out read_out read_of old new v.log (committed cells) st.last_txn st.last_db (active_number st.actives) st.own from opening base transactions p None m.given m.may
+          (end_is_recovered meaning old new v.log (committed cells) st.last_txn st.last_db (active_number st.actives) st.own from opening base transactions p None m.given m.may
           (added ends (IsEndOf p None) refl grew) is))) log has
 
-      pub tries_end : (front : List Entry) → IsFront front ends → Tried front → RecoversWith observable history sync_out read_out read_of old front []
+      pub tries_end : (front : List Entry) → IsFront front ends → Tried front → RecoversWith meaning old front []
       tries_end front is_front tried observed log has from opening base transactions =
           on_log observed (λ l. RecoversLog from opening base transactions l → RecoversLog from opening base (transactions ++ []) (longer old front l))
           (λ is. (let m = may_end from opening base transactions is in
           none_more front from opening base transactions v.log
-          (tried_end_is_recovered observable history sync_out read_out read_of old new v.log (committed cells) st.last_txn st.last_db (active_number st.actives) st.own from opening base transactions p None m.given m.may
+          (tried_end_is_recovered meaning old new v.log (committed cells) st.last_txn st.last_db (active_number st.actives) st.own from opening base transactions p None m.given m.may
           (failed ends front (IsEndOf p None) refl is_front tried) is))) log has
 
       pub valid_end : (later : Forest) (begun : Bool) → Grew ends → (forest (placed v.log) v.gives.base → later (placed (longer old ends v.log)) v.gives.base) →
-          ((n : ℕ) → owing st ≡ suc n → HasRoomFor new (commit_sizes (suc n))) → IsValidWith observable (state_of new) new cells has_tree later p.redo written (record st { in_checkpoint = begun })
+          ((n : ℕ) → owing st ≡ suc n → HasRoomFor new (commit_sizes (suc n))) → IsValidWith meaning.observable (state_of new) new cells has_tree later p.redo written (record st { in_checkpoint = begun })
       valid_end later begun grew carries room =
           let m : EndMay v.recovers.first = may_end v.recovers.first v.recovers.opening v.recovers.base v.recovers.transactions v.recovers.recovers in
           valid_longer ends later begun p.redo
-          (end_is_given observable history sync_out read_out read_of old new v.log (committed cells) st.last_txn st.last_db (active_number st.actives) st.own v.recovers.first v.recovers.opening v.recovers.base
+          (end_is_given meaning old new v.log (committed cells) st.last_txn st.last_db (active_number st.actives) st.own v.recovers.first v.recovers.opening v.recovers.base
           v.recovers.transactions p None m.given v.recovers.recovers m.may (added ends (IsEndOf p None) refl grew))
-          (end_leaves_base observable history sync_out read_out read_of old new v.log (committed cells) st.last_txn st.last_db (active_number st.actives) st.own v.recovers.first v.recovers.opening v.recovers.base
+          (end_leaves_base meaning old new v.log (committed cells) st.last_txn st.last_db (active_number st.actives) st.own v.recovers.first v.recovers.opening v.recovers.base
           v.recovers.transactions p None m.given v.recovers.recovers m.may (added ends (IsEndOf p None) refl grew) ∙ m.same)
           grew
           (record {
             fits = carries v.fits;
-            from = ends_from_end observable history old v.log p None v.gives.base since v.has since_low v.from;
-            firsts = firsts_grow observable history old v.log ends v.gives.base (pos_lsn (end_of new)) written v.has (grew.grew.log v.log v.has).is_log
-                (ends_later observable history sync_out read_out read_of old new v.log ends v.has grew.grew) (λ t named. (tt, tt)) v.firsts;
+            from = ends_from_end meaning old v.log p None v.gives.base since v.has since_low v.from;
+            firsts = firsts_grow meaning old v.log ends v.gives.base (pos_lsn (end_of new)) written v.has (grew.grew.log v.log v.has).is_log
+                (ends_later meaning old new v.log ends v.has grew.grew) (λ t named. (tt, tt)) v.firsts;
           })
-          (end_is_recovered observable history sync_out read_out read_of old new v.log (committed cells) st.last_txn st.last_db (active_number st.actives) st.own v.recovers.first v.recovers.opening v.recovers.base
+          (end_is_recovered meaning old new v.log (committed cells) st.last_txn st.last_db (active_number st.actives) st.own v.recovers.first v.recovers.opening v.recovers.base
           v.recovers.transactions p None m.given m.may (added ends (IsEndOf p None) refl grew) v.recovers.recovers) room

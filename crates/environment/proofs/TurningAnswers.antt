@@ -1,7 +1,7 @@
 -- What a step of maintenance comes to, by what the checkpointer says.
-use Rattle.std.proofs.Common.{◌≡◌, ℕ, Bool, true, Option, None, Some, is_some, Result, Ok, Err, OnOk, refl, ap, sym, ◌∙◌, subst}
+use Rattle.std.proofs.Common.{◌≡◌, ℕ, true, Option, None, Some, is_some, Result, Ok, Err, OnOk, refl, ap, sym, ◌∙◌, subst}
 use Rattle.std.specs.declared.alloc.AllocError.{AllocError}
-use Rattle.je_disk.specs.Moments.{History}
+use Rattle.je_disk.specs.DiskMeaning.{DiskMeaning}
 use Rattle.store_model.specs.declared.answer.Answer.{Answer}
 use Rattle.record_tree.specs.declared.tree_err.TreeErr.{TreeErr}
 use Rattle.record_tree.specs.declared.tree_err.TreeErr.TheVariants.{Fault, Full, IdsEnded, Memory}
@@ -25,7 +25,7 @@ err_not : (error : TreeErr) (redo : ℕ) → ◌≡◌ {A = Result Ended TreeErr
 err_not error redo e = cc
 
 module _ {D : Type 0} where
-  module _ (observable : Bool) (history : D → History) (sync_out read_out : D → Option ℕ) (read_of : D → ℕ) (faults : D → ℕ) where
+  module _ (meaning : DiskMeaning D) where
     -- what an environment is whose step was not logged
     pub record IsNotLogged (old new : Environment D) (error : TreeErr) (result : Result Answer AllocError) : Type 0 where
       pub answer : IsAnswerTo error result
@@ -39,27 +39,27 @@ module _ {D : Type 0} where
     none_ok P (Err error) none each = each error
 
     pub not_flushed : (owed : ℕ) (old new : Environment D) (error : TreeErr) (result : Result Answer AllocError) → IsNotLogged old new error result → is_some old.engine.kept.checkpoints.under_way ≡ true →
-        FlushesTrees observable history sync_out read_out read_of faults owed old.engine.trees new.engine.trees (Err error) → FlushesTo observable history sync_out read_out read_of faults owed old new result
+        FlushesTrees meaning owed old.engine.trees new.engine.trees (Err error) → FlushesTo meaning owed old new result
     not_flushed owed old new Fault result is some flushes =
-        subst (FlushesTo observable history sync_out read_out read_of faults owed old new) (sym is.answer) ((some, flushes), record { fault = is.fault; under_way = is.under_way })
+        subst (FlushesTo meaning owed old new) (sym is.answer) ((some, flushes), record { fault = is.fault; under_way = is.under_way })
     not_flushed owed old new Full result is some flushes =
-        subst (FlushesTo observable history sync_out read_out read_of faults owed old new) (sym is.answer) ((some, flushes), record { fault = is.fault; since = is.since; under_way = is.under_way })
+        subst (FlushesTo meaning owed old new) (sym is.answer) ((some, flushes), record { fault = is.fault; since = is.since; under_way = is.under_way })
     not_flushed owed old new IdsEnded result is some flushes = absurd flushes
     not_flushed owed old new Memory result is some flushes =
-        none_ok (FlushesTo observable history sync_out read_out read_of faults owed old new) result is.answer (λ error. (flushes, record { fault = is.fault; since = is.since; under_way = is.under_way }))
+        none_ok (FlushesTo meaning owed old new) result is.answer (λ error. (flushes, record { fault = is.fault; since = is.since; under_way = is.under_way }))
 
     pub not_finished : (owed : ℕ) (old new : Environment D) (f : Finish) (w : UnderWay) (error : TreeErr) (result : Result Answer AllocError) → IsNotLogged old new error result → IsFinishOf old owed f →
-        old.engine.kept.checkpoints.under_way ≡ Some w → FinishesTrees observable history sync_out read_out read_of faults f w old.engine.trees new.engine.trees (Err error) →
-        FinishesTo observable history sync_out read_out read_of faults owed old new result
+        old.engine.kept.checkpoints.under_way ≡ Some w → FinishesTrees meaning f w old.engine.trees new.engine.trees (Err error) →
+        FinishesTo meaning owed old new result
     not_finished owed old new f w Fault result is is_finish some finishes =
-        subst (FinishesTo observable history sync_out read_out read_of faults owed old new) (sym is.answer)
+        subst (FinishesTo meaning owed old new) (sym is.answer)
         (record { finish = f; checkpoint = w; is_finish = is_finish; is_under_way = some; finishes = finishes }, record { fault = is.fault; under_way = is.under_way })
     not_finished owed old new f w Full result is is_finish some finishes =
-        subst (FinishesTo observable history sync_out read_out read_of faults owed old new) (sym is.answer)
+        subst (FinishesTo meaning owed old new) (sym is.answer)
         (record { finish = f; checkpoint = w; is_finish = is_finish; is_under_way = some; finishes = finishes }, record { fault = is.fault; since = is.since; under_way = is.under_way })
     not_finished owed old new f w IdsEnded result is is_finish some finishes = absurd finishes
     not_finished owed old new f w Memory result is is_finish some finishes =
-        none_ok (FinishesTo observable history sync_out read_out read_of faults owed old new) result is.answer (λ error. (finishes, record { fault = is.fault; since = is.since; under_way = is.under_way }))
+        none_ok (FinishesTo meaning owed old new) result is.answer (λ error. (finishes, record { fault = is.fault; since = is.since; under_way = is.under_way }))
 
     -- ---- with other trees and checkpoints
 
@@ -77,23 +77,23 @@ module _ {D : Type 0} where
     -- ---- a flush
 
     module _ (old : Environment D) (trees : LogTrees D) (owed owes : ℕ) (result : Result (Option ℕ) TreeErr) (some : is_some old.engine.kept.checkpoints.under_way ≡ true) (same : owed ≡ owes)
-        (flushes : FlushesTrees observable history sync_out read_out read_of faults owed old.engine.trees trees result) where
-      flushes_as : (came : Result (Option ℕ) TreeErr) → result ≡ came → FlushesTrees observable history sync_out read_out read_of faults owes old.engine.trees trees came
+        (flushes : FlushesTrees meaning owed old.engine.trees trees result) where
+      flushes_as : (came : Result (Option ℕ) TreeErr) → result ≡ came → FlushesTrees meaning owes old.engine.trees trees came
       flushes_as came is =
-          subst (λ (r : Result (Option ℕ) TreeErr). FlushesTrees observable history sync_out read_out read_of faults owes old.engine.trees trees r) is
-          (subst (λ (n : ℕ). FlushesTrees observable history sync_out read_out read_of faults n old.engine.trees trees result) same flushes)
+          subst (λ (r : Result (Option ℕ) TreeErr). FlushesTrees meaning owes old.engine.trees trees r) is
+          (subst (λ (n : ℕ). FlushesTrees meaning n old.engine.trees trees result) same flushes)
 
       pub flush_ok : (node : Option ℕ) (answer : Answer) → result ≡ Ok node → answer ≡ flushed_answer node →
-          FlushesTo observable history sync_out read_out read_of faults owes old (with_trees old trees old.engine.kept) (Ok answer)
+          FlushesTo meaning owes old (with_trees old trees old.engine.kept) (Ok answer)
       flush_ok (Some node) answer is answers =
-          subst (λ (a : Answer). FlushesTo observable history sync_out read_out read_of faults owes old (with_trees old trees old.engine.kept) (Ok a)) (sym answers)
+          subst (λ (a : Answer). FlushesTo meaning owes old (with_trees old trees old.engine.kept) (Ok a)) (sym answers)
           ((some, flushes_as (Ok (Some node)) is), record { fault = refl; since = refl; under_way = refl })
       flush_ok None answer is answers =
-          subst (λ (a : Answer). FlushesTo observable history sync_out read_out read_of faults owes old (with_trees old trees old.engine.kept) (Ok a)) (sym answers)
+          subst (λ (a : Answer). FlushesTo meaning owes old (with_trees old trees old.engine.kept) (Ok a)) (sym answers)
           ((some, flushes_as (Ok None) is), record { fault = refl; since = refl; under_way = refl })
 
       pub flush_err : (error : TreeErr) (answer : Result Answer AllocError) (kept : Kept) → result ≡ Err error → IsAnswerTo error answer → kept ≡ record old.engine.kept { fault = fault_by error old.engine.kept.fault } →
-          FlushesTo observable history sync_out read_out read_of faults owes old (with_trees old trees kept) answer
+          FlushesTo meaning owes old (with_trees old trees kept) answer
       flush_err error answer kept is answers kept_is =
           not_flushed owes old (with_trees old trees kept) error answer
           (record {
@@ -116,23 +116,23 @@ module _ {D : Type 0} where
     }
 
     module _ (old : Environment D) (trees : LogTrees D) (checkpoints : Checkpointer) (f : Finish) (owes : ℕ) (result : Result Ended TreeErr) (some : is_some old.engine.kept.checkpoints.under_way ≡ true) (is_f : IsFinishOf old owes f)
-        (finishes : (w : UnderWay) → old.engine.kept.checkpoints.under_way ≡ Some w → FinishesTrees observable history sync_out read_out read_of faults f w old.engine.trees trees result)
+        (finishes : (w : UnderWay) → old.engine.kept.checkpoints.under_way ≡ Some w → FinishesTrees meaning f w old.engine.trees trees result)
         (done : (redo : ℕ) → result ≡ Ok (Logged redo) → checkpoints.under_way ≡ None)
         (stays : ((redo : ℕ) → result ≡ Ok (Logged redo) → ⊥) → checkpoints.under_way ≡ old.engine.kept.checkpoints.under_way) where
       finishes_as : (came : Result Ended TreeErr) → result ≡ came → (w : UnderWay) → old.engine.kept.checkpoints.under_way ≡ Some w →
-          FinishesTrees observable history sync_out read_out read_of faults f w old.engine.trees trees came
-      finishes_as came is w its = subst (λ (r : Result Ended TreeErr). FinishesTrees observable history sync_out read_out read_of faults f w old.engine.trees trees r) is (finishes w its)
+          FinishesTrees meaning f w old.engine.trees trees came
+      finishes_as came is w its = subst (λ (r : Result Ended TreeErr). FinishesTrees meaning f w old.engine.trees trees r) is (finishes w its)
 
-      finish_by : (kept : Kept) (came : Result Ended TreeErr) → result ≡ came → FinishesBy observable history sync_out read_out read_of faults owes old (with_trees old trees kept) came
+      finish_by : (kept : Kept) (came : Result Ended TreeErr) → result ≡ came → FinishesBy meaning owes old (with_trees old trees kept) came
       finish_by kept came is =
-          by_checkpoint (FinishesBy observable history sync_out read_out read_of faults owes old (with_trees old trees kept) came) old.engine.kept.checkpoints.under_way some
+          by_checkpoint (FinishesBy meaning owes old (with_trees old trees kept) came) old.engine.kept.checkpoints.under_way some
           (λ w its. record { finish = f; checkpoint = w; is_finish = is_f; is_under_way = its; finishes = finishes_as came is w its })
 
       pub finish_ok : (ended : Ended) (answer : Answer) (kept : Kept) → result ≡ Ok ended → answer ≡ ended_answer ended →
           kept ≡ record (with_checkpoints old.engine.kept checkpoints) { since = ended_since ended old.engine.kept.since } →
-          FinishesTo observable history sync_out read_out read_of faults owes old (with_trees old trees kept) (Ok answer)
+          FinishesTo meaning owes old (with_trees old trees kept) (Ok answer)
       finish_ok (Logged redo) answer kept is answers kept_is =
-          subst (λ (a : Answer). FinishesTo observable history sync_out read_out read_of faults owes old (with_trees old trees kept) (Ok a)) (sym answers)
+          subst (λ (a : Answer). FinishesTo meaning owes old (with_trees old trees kept) (Ok a)) (sym answers)
           (record {
             redo = redo;
             by = finish_by kept (Ok (Logged redo)) is;
@@ -143,7 +143,7 @@ module _ {D : Type 0} where
             ended = ap (λ (k : Kept). is_some k.checkpoints.under_way) kept_is ∙ ap (λ (o : Option UnderWay). is_some o) (done redo is);
           })
       finish_ok (Left count) answer kept is answers kept_is =
-          subst (λ (a : Answer). FinishesTo observable history sync_out read_out read_of faults owes old (with_trees old trees kept) (Ok a)) (sym answers) (
+          subst (λ (a : Answer). FinishesTo meaning owes old (with_trees old trees kept) (Ok a)) (sym answers) (
             finish_by kept (Ok (Left count)) is,
             record {
               fault = ap (λ (k : Kept). k.fault) kept_is;
@@ -154,9 +154,9 @@ module _ {D : Type 0} where
 
       pub finish_err : (error : TreeErr) (answer : Result Answer AllocError) (kept : Kept) → result ≡ Err error → IsAnswerTo error answer →
           kept ≡ record (with_checkpoints old.engine.kept checkpoints) { fault = fault_by error old.engine.kept.fault } →
-          FinishesTo observable history sync_out read_out read_of faults owes old (with_trees old trees kept) answer
+          FinishesTo meaning owes old (with_trees old trees kept) answer
       finish_err error answer kept is answers kept_is =
-          by_checkpoint (FinishesTo observable history sync_out read_out read_of faults owes old (with_trees old trees kept) answer) old.engine.kept.checkpoints.under_way some
+          by_checkpoint (FinishesTo meaning owes old (with_trees old trees kept) answer) old.engine.kept.checkpoints.under_way some
           (λ w its. not_finished owes old (with_trees old trees kept) f w error answer
           (record {
             answer = answers;

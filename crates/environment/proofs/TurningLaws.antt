@@ -4,6 +4,7 @@ use Rattle.std.proofs.Common.{◌≡◌, inl, inr, ℕ, zero, suc, ◌+◌, ◌�
 use Rattle.std.specs.declared.alloc.AllocError.{AllocError}
 use Rattle.std.proofs.lemmas.List.{length-map}
 use Rattle.std.proofs.lemmas.Option.{none-some}
+use Rattle.je_disk.specs.DiskMeaning.{DiskMeaning}
 use Rattle.je_disk.specs.States.{State}
 use Rattle.je_disk.specs.Moments.{History, now}
 use Rattle.je_order.specs.Counts.{HasRisen}
@@ -63,20 +64,20 @@ commits_many : (owed : ℕ) → length (commit_sizes owed) ≡ owed
 commits_many zero = refl
 commits_many (suc n) = let rest = commits_many n in omega (arith, rest)
 
-module _ {D : Type 0} (observable : Bool) (history : D → History) (sync_out read_out : D → Option ℕ) (read_of : D → ℕ) (faults : D → ℕ) where
+module _ {D : Type 0} (meaning : DiskMeaning D) where
   abbrev state_of : Environment D → State
-  state_of e = now (history (disk_below e.engine.trees.log))
+  state_of e = now (meaning.history (disk_below e.engine.trees.log))
 
   abbrev ValidAt : Environment D → Standing → Type 0
   ValidAt e st =
-      IsValidWith observable (state_of e) e.engine.trees.log (cells_of e.engine.trees) (has_tree_of e.engine.trees) (fitting e.engine.trees) e.engine.kept.since e.written.by_txn.entries st
+      IsValidWith meaning.observable (state_of e) e.engine.trees.log (cells_of e.engine.trees) (has_tree_of e.engine.trees) (fitting e.engine.trees) e.engine.kept.since e.written.by_txn.entries st
 
   -- the log got an entry at most, and the environment is valid still; a log with it recovers no transaction more
   pub record HasAppended (old new : Environment D) (st : Standing) (begun : Bool) : Type 0 where
     pub entries : List Entry
     pub few : length entries ≤ 1
-    pub grew : Grew observable history sync_out read_out read_of faults old.engine.trees new.engine.trees entries
-    pub recovers : RecoversWith observable history sync_out read_out read_of old.engine.trees.log entries []
+    pub grew : Grew meaning old.engine.trees new.engine.trees entries
+    pub recovers : RecoversWith meaning old.engine.trees.log entries []
     pub valid : ValidAt new (record st { in_checkpoint = begun })
     pub fault : new.engine.kept.fault ≡ old.engine.kept.fault
     pub under_way : is_some new.engine.kept.checkpoints.under_way ≡ begun
@@ -84,28 +85,28 @@ module _ {D : Type 0} (observable : Bool) (history : D → History) (sync_out re
   -- the disk failed while it was appended
   pub record HasNotAppended (old new : Environment D) : Type 0 where
     pub front : List Entry
-    pub tried : TriedFitting observable history sync_out read_out read_of faults old.engine.trees.log new.engine.trees.log front
-    pub recovers : RecoversWith observable history sync_out read_out read_of old.engine.trees.log front []
+    pub tried : TriedFitting meaning old.engine.trees.log new.engine.trees.log front
+    pub recovers : RecoversWith meaning old.engine.trees.log front []
     pub fault : new.engine.kept.fault ≡ Some Disk
     pub under_way : is_some new.engine.kept.checkpoints.under_way ≡ is_some old.engine.kept.checkpoints.under_way
 
   module _ (old new : Environment D) (stays : HasStayed old new) where
     -- an environment with other parts, none of which changed
     pub valid_moved : (st : Standing) →
-        IsValidWith observable (state_of new) new.engine.trees.log (cells_of old.engine.trees) (has_tree_of old.engine.trees) (fitting new.engine.trees) new.engine.kept.since old.written.by_txn.entries st → ValidAt new st
+        IsValidWith meaning.observable (state_of new) new.engine.trees.log (cells_of old.engine.trees) (has_tree_of old.engine.trees) (fitting new.engine.trees) new.engine.kept.since old.written.by_txn.entries st → ValidAt new st
     valid_moved st v =
-        subst (λ (c : AllCells). IsValidWith observable (state_of new) new.engine.trees.log c (has_tree_of new.engine.trees) (fitting new.engine.trees) new.engine.kept.since new.written.by_txn.entries st) (sym (fun_ext stays.cells))
-        (subst (λ (h : ℕ → Bool). IsValidWith observable (state_of new) new.engine.trees.log (cells_of old.engine.trees) h (fitting new.engine.trees) new.engine.kept.since new.written.by_txn.entries st) (sym (fun_ext stays.trees))
-        (subst (λ (l : List (TxnId × OwnNames)). IsValidWith observable (state_of new) new.engine.trees.log (cells_of old.engine.trees) (has_tree_of old.engine.trees) (fitting new.engine.trees) new.engine.kept.since l st)
+        subst (λ (c : AllCells). IsValidWith meaning.observable (state_of new) new.engine.trees.log c (has_tree_of new.engine.trees) (fitting new.engine.trees) new.engine.kept.since new.written.by_txn.entries st) (sym (fun_ext stays.cells))
+        (subst (λ (h : ℕ → Bool). IsValidWith meaning.observable (state_of new) new.engine.trees.log (cells_of old.engine.trees) h (fitting new.engine.trees) new.engine.kept.since new.written.by_txn.entries st) (sym (fun_ext stays.trees))
+        (subst (λ (l : List (TxnId × OwnNames)). IsValidWith meaning.observable (state_of new) new.engine.trees.log (cells_of old.engine.trees) (has_tree_of old.engine.trees) (fitting new.engine.trees) new.engine.kept.since l st)
         (sym (ap (λ (w : Written). w.by_txn.entries) stays.written)) v))
 
-    module _ (most : ℕ) (st : Standing) (at : StandsAt most observable history old st) (none : st.fault ≡ None) where
+    module _ (most : ℕ) (st : Standing) (at : StandsAt most meaning old st) (none : st.fault ≡ None) where
       works : has_failed old.engine.trees.log ≡ false
       works = (at.valid none).works
 
       -- ---- where it stands
 
-      at_appended : (begun : Bool) → HasAppended old new st begun → StandsAt most observable history new (record st { in_checkpoint = begun })
+      at_appended : (begun : Bool) → HasAppended old new st begun → StandsAt most meaning new (record st { in_checkpoint = begun })
       at_appended begun h = record {
         file_max = h.grew.fitting.grew.max ∙ at.file_max;
         fault = h.fault ∙ at.fault;
@@ -120,7 +121,7 @@ module _ {D : Type 0} (observable : Bool) (history : D → History) (sync_out re
         valid = λ calm. h.valid;
       }
 
-      at_fault : HasNotAppended old new → StandsAt most observable history new (faulted st)
+      at_fault : HasNotAppended old new → StandsAt most meaning new (faulted st)
       at_fault h = record {
         file_max = h.tried.tried.max ∙ at.file_max;
         fault = h.fault;
@@ -184,62 +185,62 @@ module _ {D : Type 0} (observable : Bool) (history : D → History) (sync_out re
 
       pub done_appended : (limit : Option Answer) (line : ℕ) (step : Step) (answer : Answer) (begun : Bool) → AreRight st → AreBare st → IsReached st → IsBoundedAt (reach_of old) st (Turn line step answer) limit →
           IsLimited (log_limit limit) step st.in_checkpoint answer → after_turn step st answer ≡ record st { in_checkpoint = begun } → HasAppended old new st begun →
-          HasDone most observable (state_of new) old new st (Turn line step answer)
+          HasDone most meaning.observable (state_of new) old new st (Turn line step answer)
       done_appended limit line step answer begun right bare reached bounded answers path h = record {
         limit = limit;
         bounded = bounded;
         answered = turned limit step answer answers;
-        here = subst (IsAt most observable (state_of new) new) (sym path) (record { at = at_appended begun h; right = λ calm. right_marked st begun right; bare = λ calm. bare; reached = subst IsReached path (reached_goes-on limit st (Turn line step answer) reached (turned limit step answer answers)) });
+        here = subst (IsAt most meaning.observable (state_of new) new) (sym path) (record { at = at_appended begun h; right = λ calm. right_marked st begun right; bare = λ calm. bare; reached = subst IsReached path (reached_goes-on limit st (Turn line step answer) reached (turned limit step answer answers)) });
       }
 
       pub done_fault : (line : ℕ) (step : Step) → IsReached st → IsLimited (log_limit None) step st.in_checkpoint DiskFault → after_turn step st DiskFault ≡ faulted st → HasNotAppended old new →
-          HasDone most observable (state_of new) old new st (Turn line step DiskFault)
+          HasDone most meaning.observable (state_of new) old new st (Turn line step DiskFault)
       done_fault line step reached answers path h = record {
         limit = None;
         bounded = unless_none (is_idle_step st (Turn line step DiskFault)) (reach_behind (reach_of old) st (Turn line step DiskFault));
         answered = turned None step DiskFault answers;
-        here = subst (IsAt most observable (state_of new) new) (sym path) (record { at = at_fault h; right = λ calm. absurd (none-some Disk (sym calm)); bare = λ calm. absurd (none-some Disk (sym calm)); reached = subst IsReached path (reached_goes-on None st (Turn line step DiskFault) reached (turned None step DiskFault answers)) });
+        here = subst (IsAt most meaning.observable (state_of new) new) (sym path) (record { at = at_fault h; right = λ calm. absurd (none-some Disk (sym calm)); bare = λ calm. absurd (none-some Disk (sym calm)); reached = subst IsReached path (reached_goes-on None st (Turn line step DiskFault) reached (turned None step DiskFault answers)) });
       }
 
       -- there was no memory
-      pub left_appended : AreRight st → AreBare st → IsReached st → HasAppended old new st st.in_checkpoint → IsAt most observable (state_of new) new st
+      pub left_appended : AreRight st → AreBare st → IsReached st → HasAppended old new st st.in_checkpoint → IsAt most meaning.observable (state_of new) new st
       left_appended right bare reached h = record { at = at_appended st.in_checkpoint h; right = λ calm. right; bare = λ calm. bare; reached = reached }
 
-    pub log_appended : (st : Standing) (begun : Bool) → HasAppended old new st begun → IsLogStep observable history sync_out read_out read_of false old.engine.trees.log new.engine.trees.log []
+    pub log_appended : (st : Standing) (begun : Bool) → HasAppended old new st begun → IsLogStep meaning false old.engine.trees.log new.engine.trees.log []
     log_appended st begun h = inr (record { entries = h.entries; grew = h.grew.fitting.grew; recovers = h.recovers })
 
-    pub log_fault : HasNotAppended old new → IsLogStep observable history sync_out read_out read_of true old.engine.trees.log new.engine.trees.log []
+    pub log_fault : HasNotAppended old new → IsLogStep meaning true old.engine.trees.log new.engine.trees.log []
     log_fault h = record { front = h.front; tried = h.tried.tried; recovers = inl h.recovers }
 
   -- ---- all that a step comes to
 
   -- the model may have it, the environment goes on and so does its log; the disk counted a fault where it failed
   pub record HasTurned (most : ℕ) (old new : Environment D) (st : Standing) (line : ℕ) (step : Step) (answer : Answer) : Type 0 where
-    pub done : HasDone most observable (state_of new) old new st (Turn line step answer)
+    pub done : HasDone most meaning.observable (state_of new) old new st (Turn line step answer)
     pub near : IsWithin (reach_of new) (reach_behind (reach_of old) st (Turn line step answer))
-    pub log : IsLogStep observable history sync_out read_out read_of (is_disk_fault answer) old.engine.trees.log new.engine.trees.log []
+    pub log : IsLogStep meaning (is_disk_fault answer) old.engine.trees.log new.engine.trees.log []
     pub fault : (after_turn step st answer).fault ≡ cond (is_disk_fault answer) (Some Disk) None
-    pub never_falls : faults (disk_below old.engine.trees.log) ≤ faults (disk_below new.engine.trees.log)
-    pub rose : answer ≡ DiskFault → HasRisen (faults (disk_below old.engine.trees.log)) (faults (disk_below new.engine.trees.log))
+    pub never_falls : meaning.faults (disk_below old.engine.trees.log) ≤ meaning.faults (disk_below new.engine.trees.log)
+    pub rose : answer ≡ DiskFault → HasRisen (meaning.faults (disk_below old.engine.trees.log)) (meaning.faults (disk_below new.engine.trees.log))
 
   -- there was no memory, and the environment is where it was
   pub record HasNotTurned (most : ℕ) (old new : Environment D) (st : Standing) : Type 0 where
-    pub left : IsAt most observable (state_of new) new st
+    pub left : IsAt most meaning.observable (state_of new) new st
     pub near : IsWithin (reach_of new) (reach_of old)
     pub log : IsUnchanged old.engine.trees.log new.engine.trees.log
-    pub never_falls : faults (disk_below old.engine.trees.log) ≤ faults (disk_below new.engine.trees.log)
+    pub never_falls : meaning.faults (disk_below old.engine.trees.log) ≤ meaning.faults (disk_below new.engine.trees.log)
 
   abbrev pub Turned : ℕ → Environment D → Environment D → Standing → ℕ → Step → Result Answer AllocError → Type 0
   Turned most old new st line step (Ok answer) = HasTurned most old new st line step answer
   Turned most old new st line step (Err error) = HasNotTurned most old new st
 
-  module _ (most : ℕ) (old new : Environment D) (stays : HasStayed old new) (st : Standing) (at : StandsAt most observable history old st) (none : st.fault ≡ None) (right : AreRight st) (bare : AreBare st) (reached : IsReached st) (line : ℕ) where
+  module _ (most : ℕ) (old new : Environment D) (stays : HasStayed old new) (st : Standing) (at : StandsAt most meaning old st) (none : st.fault ≡ None) (right : AreRight st) (bare : AreBare st) (reached : IsReached st) (line : ℕ) where
     pub turned_appended : (limit : Option Answer) (step : Step) (answer : Answer) (begun : Bool) → is_disk_fault answer ≡ false → IsBoundedAt (reach_of old) st (Turn line step answer) limit →
         IsLimited (log_limit limit) step st.in_checkpoint answer → after_turn step st answer ≡ record st { in_checkpoint = begun } → HasAppended old new st begun → HasTurned most old new st line step answer
     turned_appended limit step answer begun quiet bounded answers path h = record {
       done = done_appended old new stays most st at none limit line step answer begun right bare reached bounded answers path h;
       near = near old new stays most st at none begun line step answer h;
-      log = subst (λ (b : Bool). IsLogStep observable history sync_out read_out read_of b old.engine.trees.log new.engine.trees.log []) (sym quiet) (log_appended old new stays st begun h);
+      log = subst (λ (b : Bool). IsLogStep meaning b old.engine.trees.log new.engine.trees.log []) (sym quiet) (log_appended old new stays st begun h);
       fault = ap (λ (s : Standing). s.fault) path ∙ none ∙ sym (ap (λ (b : Bool). cond b (Some Disk) None) quiet);
       never_falls = h.grew.fitting.never_falls;
       rose = λ is. absurd (true≢false (sym (ap is_disk_fault is) ∙ quiet));
@@ -265,16 +266,16 @@ module _ {D : Type 0} (observable : Bool) (history : D → History) (sync_out re
 
   -- ---- a guarded run goes on
 
-  pub guarded_turn : (most : ℕ) (old new : Environment D) (st : Standing) (start : History) (journal : List Event) (line : ℕ) (step : Step) (result : Result Answer AllocError) → observable ≡ true →
-      (after_events st journal).fault ≡ None → Turned most old new (after_events st journal) line step result → IsGuarded most st start (history (disk_of old)) old journal →
-      TurnsSafely most st start (history (disk_of new)) new journal line step result
+  pub guarded_turn : (most : ℕ) (old new : Environment D) (st : Standing) (start : History) (journal : List Event) (line : ℕ) (step : Step) (result : Result Answer AllocError) → meaning.observable ≡ true →
+      (after_events st journal).fault ≡ None → Turned most old new (after_events st journal) line step result → IsGuarded most st start (meaning.history (disk_of old)) old journal →
+      TurnsSafely most st start (meaning.history (disk_of new)) new journal line step result
   guarded_turn most old new st start journal line step (Ok answer) observed none h is =
-      guarded_step observable history sync_out read_out read_of st start old.engine.trees.log new.engine.trees.log journal (Turn line step answer) [] is.0 observed refl h.log refl refl none h.fault is.1
+      guarded_step meaning st start old.engine.trees.log new.engine.trees.log journal (Turn line step answer) [] is.0 observed refl h.log refl refl none h.fault is.1
   guarded_turn most old new st start journal line step (Err error) observed none h is =
-      (is.0, guarded_along history st is.0 start old.engine.trees.log new.engine.trees.log journal h.log is.1 none)
+      (is.0, guarded_along meaning.history st is.0 start old.engine.trees.log new.engine.trees.log journal h.log is.1 none)
 
   pub turns_to : (most : ℕ) (old new : Environment D) (st : Standing) (line : ℕ) (step : Step) (result : Result Answer AllocError) → Turned most old new st line step result →
-      TurnsTo most observable (state_of new) old new st line step result
+      TurnsTo most meaning.observable (state_of new) old new st line step result
   turns_to most old new st line step (Ok answer) h = h.done
   turns_to most old new st line step (Err error) h = h.left
 
@@ -287,12 +288,12 @@ module _ {D : Type 0} (observable : Bool) (history : D → History) (sync_out re
   turn_stays_near most old new st line step (Ok answer) h = tt
   turn_stays_near most old new st line step (Err error) h = h.near
 
-  pub turn_never_falls : (most : ℕ) (old new : Environment D) (st : Standing) (line : ℕ) (step : Step) (result : Result Answer AllocError) → Turned most old new st line step result → faults (disk_of old) ≤ faults (disk_of new)
+  pub turn_never_falls : (most : ℕ) (old new : Environment D) (st : Standing) (line : ℕ) (step : Step) (result : Result Answer AllocError) → Turned most old new st line step result → meaning.faults (disk_of old) ≤ meaning.faults (disk_of new)
   turn_never_falls most old new st line step (Ok answer) h = h.never_falls
   turn_never_falls most old new st line step (Err error) h = h.never_falls
 
   pub turn_rose : (most : ℕ) (old new : Environment D) (st : Standing) (line : ℕ) (step : Step) (result : Result Answer AllocError) → Turned most old new st line step result → result ≡ Ok DiskFault →
-      HasRisen (faults (disk_of old)) (faults (disk_of new))
+      HasRisen (meaning.faults (disk_of old)) (meaning.faults (disk_of new))
   turn_rose most old new st line step (Ok answer) h is = h.rose (cc)
   turn_rose most old new st line step (Err error) h is = cc
 

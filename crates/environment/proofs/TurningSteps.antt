@@ -1,6 +1,7 @@
 -- What each step of maintenance comes to.
 use Rattle.std.proofs.Common.{◌≡◌, ◌⊎◌, inl, inr, ℕ, suc, ◌≤◌, Bool, true, false, List, [], ◌∷◌, ◌++◌, length, Option, None, Some, is_some, Result, Ok, Err, refl, ap, sym, ◌∙◌, subst, arith}
 use Rattle.std.specs.declared.alloc.AllocError.{AllocError}
+use Rattle.je_disk.specs.DiskMeaning.{DiskMeaning}
 use Rattle.je_disk.specs.Moments.{History, now}
 use Rattle.store_model.specs.declared.answer.Answer.{Answer}
 use Rattle.store_model.specs.declared.answer.Answer.TheVariants.{Done, Flushed, Nothing, InCheckpoint, NoCheckpoint, NodesLeft, LogFull, DiskFault, Invalid}
@@ -47,8 +48,8 @@ use Rattle.environment.proofs.EndingLaws.{room_unchanged}
 use Rattle.environment.proofs.TurnedLogs.{image_neutral, recovers_end, recovers_neutral, tries_end, tries_neutral, valid_end, valid_neutral}
 use Rattle.environment.proofs.TurningLaws.{HasAppended, HasNotAppended, Turned, full_is_bounded, turned_appended, turned_fault, turned_not, unless_none, valid_moved}
 
-module _ {D : Type 0} (observable : Bool) (history : D → History) (sync_out read_out : D → Option ℕ) (read_of : D → ℕ) (faults : D → ℕ) where
-  module _ (most : ℕ) (old new : Environment D) (stays : HasStayed old new) (st : Standing) (at : StandsAt most observable history old st) (none : st.fault ≡ None) (right : AreRight st) (bare : AreBare st) (reached : IsReached st) (line : ℕ) where
+module _ {D : Type 0} (meaning : DiskMeaning D) where
+  module _ (most : ℕ) (old new : Environment D) (stays : HasStayed old new) (st : Standing) (at : StandsAt most meaning old st) (none : st.fault ≡ None) (right : AreRight st) (bare : AreBare st) (reached : IsReached st) (line : ℕ) where
     abbrev log_old : LogBuffer D
     log_old = old.engine.trees.log
 
@@ -56,22 +57,22 @@ module _ {D : Type 0} (observable : Bool) (history : D → History) (sync_out re
     log_new = new.engine.trees.log
 
     abbrev Valid : Type 0
-    Valid = IsValidWith observable (now (history (disk_below log_old))) log_old (cells_of old.engine.trees) (has_tree_of old.engine.trees) (fitting old.engine.trees) old.engine.kept.since old.written.by_txn.entries st
+    Valid = IsValidWith meaning.observable (now (meaning.history (disk_below log_old))) log_old (cells_of old.engine.trees) (has_tree_of old.engine.trees) (fitting old.engine.trees) old.engine.kept.since old.written.by_txn.entries st
 
     v : Valid
     v = at.valid none
 
     abbrev Appended : Bool → Type 0
-    Appended begun = HasAppended observable history sync_out read_out read_of faults old new st begun
+    Appended begun = HasAppended meaning old new st begun
 
     abbrev NotAppended : Type 0
-    NotAppended = HasNotAppended observable history sync_out read_out read_of faults old new
+    NotAppended = HasNotAppended meaning old new
 
     abbrev Got : List Entry → Type 0
-    Got entries = Grew observable history sync_out read_out read_of faults old.engine.trees new.engine.trees entries
+    Got entries = Grew meaning old.engine.trees new.engine.trees entries
 
     abbrev Tried : List Entry → Type 0
-    Tried front = TriedFitting observable history sync_out read_out read_of faults log_old log_new front
+    Tried front = TriedFitting meaning log_old log_new front
 
     -- ---- what the log got
 
@@ -91,12 +92,12 @@ module _ {D : Type 0} (observable : Bool) (history : D → History) (sync_out re
       few = few;
       grew = grew;
       recovers =
-          recovers_neutral observable history sync_out read_out read_of faults log_old log_new (cells_of old.engine.trees) (has_tree_of old.engine.trees) (fitting old.engine.trees) old.engine.kept.since
+          recovers_neutral meaning log_old log_new (cells_of old.engine.trees) (has_tree_of old.engine.trees) (fitting old.engine.trees) old.engine.kept.since
           old.written.by_txn.entries st v entries neutral grew.fitting;
-      valid = valid_moved observable history sync_out read_out read_of faults old new stays (record st { in_checkpoint = begun })
-          (subst (λ (n : ℕ). IsValidWith observable (now (history (disk_below log_new))) log_new (cells_of old.engine.trees) (has_tree_of old.engine.trees) (fitting new.engine.trees) n old.written.by_txn.entries
+      valid = valid_moved meaning old new stays (record st { in_checkpoint = begun })
+          (subst (λ (n : ℕ). IsValidWith meaning.observable (now (meaning.history (disk_below log_new))) log_new (cells_of old.engine.trees) (has_tree_of old.engine.trees) (fitting new.engine.trees) n old.written.by_txn.entries
           (record st { in_checkpoint = begun })) (sym since)
-          (valid_neutral observable history sync_out read_out read_of faults log_old log_new (cells_of old.engine.trees) (has_tree_of old.engine.trees) (fitting old.engine.trees) old.engine.kept.since
+          (valid_neutral meaning log_old log_new (cells_of old.engine.trees) (has_tree_of old.engine.trees) (fitting old.engine.trees) old.engine.kept.since
           old.written.by_txn.entries st v entries (fitting new.engine.trees) begun neutral grew.fitting (λ fits. grew.fits v.log v.gives.base v.has begins_at fits) (room_then entries grew room)));
       fault = fault;
       under_way = under_way;
@@ -117,7 +118,7 @@ module _ {D : Type 0} (observable : Bool) (history : D → History) (sync_out re
 
     same_trees : new.engine.trees ≡ old.engine.trees → Got []
     same_trees is =
-        subst (λ (t : LogTrees D). Grew observable history sync_out read_out read_of faults old.engine.trees t []) (sym is) (grew_none observable history sync_out read_out read_of faults old.engine.trees)
+        subst (λ (t : LogTrees D). Grew meaning old.engine.trees t []) (sym is) (grew_none meaning old.engine.trees)
 
     idle_appended : new ≡ old → Appended st.in_checkpoint
     idle_appended is = none_appended (same_trees (ap (λ (e : Environment D). e.engine.trees) is)) (same_still is)
@@ -127,7 +128,7 @@ module _ {D : Type 0} (observable : Bool) (history : D → History) (sync_out re
       front = front;
       tried = tried;
       recovers =
-          tries_neutral observable history sync_out read_out read_of faults log_old log_new (cells_of old.engine.trees) (has_tree_of old.engine.trees) (fitting old.engine.trees) old.engine.kept.since
+          tries_neutral meaning log_old log_new (cells_of old.engine.trees) (has_tree_of old.engine.trees) (fitting old.engine.trees) old.engine.kept.since
           old.written.by_txn.entries st v (entry ∷ []) front (neutral, tt) is_front tried;
       fault = stopped.fault;
       under_way = stopped.under_way;
@@ -142,15 +143,15 @@ module _ {D : Type 0} (observable : Bool) (history : D → History) (sync_out re
     some_under_way w is = ap (λ (o : Option UnderWay). is_some o) is
 
     abbrev To : Step → Result Answer AllocError → Type 0
-    To step result = Turned observable history sync_out read_out read_of faults most old new st line step result
+    To step result = Turned meaning most old new st line step result
 
     ok : (limit : Option Answer) (step : Step) (answer : Answer) (begun : Bool) → is_disk_fault answer ≡ false → IsBoundedAt (reach_of old) st (Turn line step answer) limit →
         IsLimited (log_limit limit) step st.in_checkpoint answer → after_turn step st answer ≡ record st { in_checkpoint = begun } → Appended begun → To step (Ok answer)
     ok limit step answer begun quiet bounded answers path h =
-        turned_appended observable history sync_out read_out read_of faults most old new stays st at none right bare reached line limit step answer begun quiet bounded answers path h
+        turned_appended meaning most old new stays st at none right bare reached line limit step answer begun quiet bounded answers path h
 
     fault : (step : Step) → IsLimited (log_limit None) step st.in_checkpoint DiskFault → after_turn step st DiskFault ≡ faulted st → NotAppended → To step (Ok DiskFault)
-    fault step answers path h = turned_fault observable history sync_out read_out read_of faults most old new stays st at none right bare reached line step answers path h
+    fault step answers path h = turned_fault meaning most old new stays st at none right bare reached line step answers path h
 
     -- no limit was met; or the log has no room, for a step that logs an entry
     free : (step : Step) (answer : Answer) → IsBoundedAt (reach_of old) st (Turn line step answer) None
@@ -159,16 +160,16 @@ module _ {D : Type 0} (observable : Bool) (history : D → History) (sync_out re
     bounded : (step : Step) (entry : Entry) → appends_nothing step st.in_checkpoint ≡ false → IsFullFor log_old (entry ∷ []) (owing st) → IsBoundedAt (reach_of old) st (Turn line step LogFull) (Some LogFull)
     bounded step entry logs full =
         subst (λ (idle : Bool). IsBoundedUnless idle (reach_behind (reach_of old) st (Turn line step LogFull)) (Some LogFull)) (sym logs)
-        (full_is_bounded observable history sync_out read_out read_of faults old new stays most st at none line step entry full)
+        (full_is_bounded meaning old new stays most st at none line step entry full)
 
     -- where there was no memory
     not_done : (step : Step) (error : AllocError) → Got [] × IsStill old new → To step (Err error)
     unfolding none_appended still_appended appended
-    not_done step error h = turned_not observable history sync_out read_out read_of faults most old new stays st at none right bare reached line (none_appended h.0 h.1) refl
+    not_done step error h = turned_not meaning most old new stays st at none right bare reached line (none_appended h.0 h.1) refl
 
     -- ---- a beginning
 
-    begun : (answer : Answer) → BeginsTo observable history sync_out read_out read_of faults (owing st) old new (Ok answer) → To Begin (Ok answer)
+    begun : (answer : Answer) → BeginsTo meaning (owing st) old new (Ok answer) → To Begin (Ok answer)
     begun Done h = ok None Begin Done true refl (free Begin Done) (by_under_way (λ b. IsStepped Begin b Done) false h.none_before (inl refl)) refl
         (appended (start_entry old ∷ []) true (refl, tt) (omega arith) h.grew (inr h.room) h.fault h.since h.under_way)
     begun InCheckpoint h = ok None Begin InCheckpoint st.in_checkpoint refl (free Begin InCheckpoint) (by_under_way (λ b. IsStepped Begin b InCheckpoint) true h.0 refl) refl (idle_appended h.1)
@@ -176,13 +177,13 @@ module _ {D : Type 0} (observable : Bool) (history : D → History) (sync_out re
     begun DiskFault h = fault Begin (by_under_way (λ b. IsStepped Begin b DiskFault) false h.1 (inr refl)) refl (neutral_failed (start_entry old) h.0.0 refl h.0.1 h.0.2 h.2)
     begun answer h = absurd h
 
-    begins : (result : Result Answer AllocError) → BeginsTo observable history sync_out read_out read_of faults (owing st) old new result → To Begin result
+    begins : (result : Result Answer AllocError) → BeginsTo meaning (owing st) old new result → To Begin result
     begins (Ok answer) h = begun answer h
     begins (Err error) h = not_done Begin error h
 
     -- ---- a flush
 
-    flushed : (answer : Answer) → FlushesTo observable history sync_out read_out read_of faults (owing st) old new (Ok answer) → To Flush (Ok answer)
+    flushed : (answer : Answer) → FlushesTo meaning (owing st) old new (Ok answer) → To Flush (Ok answer)
     flushed (Flushed node) h = let has = h.0.1 in ok None Flush (Flushed node) st.in_checkpoint refl (free Flush (Flushed node)) (by_under_way (λ b. IsStepped Flush b (Flushed node)) true h.0.0 (inl (node, refl))) refl
         (still_appended (has.image ∷ []) (image_neutral has.image has.is_image, tt) (omega arith) has.grew (inr has.room) h.1)
     flushed Nothing h = ok None Flush Nothing st.in_checkpoint refl (free Flush Nothing) (by_under_way (λ b. IsStepped Flush b Nothing) true h.0.0 (inr (inl refl))) refl
@@ -193,7 +194,7 @@ module _ {D : Type 0} (observable : Bool) (history : D → History) (sync_out re
         fault Flush (by_under_way (λ b. IsStepped Flush b DiskFault) true h.0.0 (inr (inr refl))) refl (neutral_failed has.0 has.1 (image_neutral has.0 has.2) has.3 has.4 h.1)
     flushed answer h = absurd h
 
-    flushes : (result : Result Answer AllocError) → FlushesTo observable history sync_out read_out read_of faults (owing st) old new result → To Flush result
+    flushes : (result : Result Answer AllocError) → FlushesTo meaning (owing st) old new result → To Flush result
     flushes (Ok answer) h = flushed answer h
     flushes (Err error) h = not_done Flush error h
 
@@ -216,12 +217,12 @@ module _ {D : Type 0} (observable : Bool) (history : D → History) (sync_out re
       few = omega arith;
       grew = got;
       recovers =
-          recovers_end observable history sync_out read_out read_of faults log_old log_new (cells_of old.engine.trees) (has_tree_of old.engine.trees) (fitting old.engine.trees) old.engine.kept.since
+          recovers_end meaning log_old log_new (cells_of old.engine.trees) (has_tree_of old.engine.trees) (fitting old.engine.trees) old.engine.kept.since
           old.written.by_txn.entries st v p (last_node_of old.engine.trees) (trees_of old.engine.trees) f.first w.start refl refl since_low ends.0.upto is.first ends.0.may got.fitting;
-      valid = valid_moved observable history sync_out read_out read_of faults old new stays (record st { in_checkpoint = begun })
-          (subst (λ (n : ℕ). IsValidWith observable (now (history (disk_below log_new))) log_new (cells_of old.engine.trees) (has_tree_of old.engine.trees) (fitting new.engine.trees) n old.written.by_txn.entries
+      valid = valid_moved meaning old new stays (record st { in_checkpoint = begun })
+          (subst (λ (n : ℕ). IsValidWith meaning.observable (now (meaning.history (disk_below log_new))) log_new (cells_of old.engine.trees) (has_tree_of old.engine.trees) (fitting new.engine.trees) n old.written.by_txn.entries
           (record st { in_checkpoint = begun })) (sym since)
-          (valid_end observable history sync_out read_out read_of faults log_old log_new (cells_of old.engine.trees) (has_tree_of old.engine.trees) (fitting old.engine.trees) old.engine.kept.since
+          (valid_end meaning log_old log_new (cells_of old.engine.trees) (has_tree_of old.engine.trees) (fitting old.engine.trees) old.engine.kept.since
           old.written.by_txn.entries st v p (last_node_of old.engine.trees) (trees_of old.engine.trees) f.first w.start refl refl since_low ends.0.upto is.first ends.0.may (fitting new.engine.trees) begun got.fitting
           (λ fits. got.fits v.log v.gives.base v.has begins_at fits) (room_then entries got (inr (subst (λ (k : ℕ). HasRoomFor log_new (commit_sizes k)) is.owed_is room)))));
       fault = fault;
@@ -244,14 +245,14 @@ module _ {D : Type 0} (observable : Bool) (history : D → History) (sync_out re
       front = front;
       tried = tried;
       recovers =
-          tries_end observable history sync_out read_out read_of faults log_old log_new (cells_of old.engine.trees) (has_tree_of old.engine.trees) (fitting old.engine.trees) old.engine.kept.since
+          tries_end meaning log_old log_new (cells_of old.engine.trees) (has_tree_of old.engine.trees) (fitting old.engine.trees) old.engine.kept.since
           old.written.by_txn.entries st v (parts_of f w redo ends.0.roots) (last_node_of old.engine.trees) (trees_of old.engine.trees) f.first w.start refl refl (subst (λ (n : ℕ). n ≤ redo) is.since ends.1)
           ends.0.upto is.first ends.0.may front (subst (λ (e : Entry). IsFront front (e ∷ [])) ends.0.entry_is is_front) tried;
       fault = stopped.fault;
       under_way = stopped.under_way;
     }
 
-    finished : (answer : Answer) → FinishesTo observable history sync_out read_out read_of faults (owing st) old new (Ok answer) → To FinishStep (Ok answer)
+    finished : (answer : Answer) → FinishesTo meaning (owing st) old new (Ok answer) → To FinishStep (Ok answer)
     finished Done h = let has = h.by.finishes in
         ok None FinishStep Done false refl (free FinishStep Done) (by_under_way (λ b. IsStepped FinishStep b Done) true (some_under_way h.by.checkpoint h.by.is_under_way) (inr (inl refl))) refl
         (end_appended h.by.finish h.by.checkpoint h.redo has.1.0 false h.by.is_finish has.1.1 has.1.2 has.2 h.fault h.since h.ended)
@@ -266,7 +267,7 @@ module _ {D : Type 0} (observable : Bool) (history : D → History) (sync_out re
         (end_failed h.0.finish h.0.checkpoint has.2.0 has.0 has.1 h.0.is_finish has.2.1 has.3 has.4 h.1)
     finished answer h = absurd h
 
-    finishes : (result : Result Answer AllocError) → FinishesTo observable history sync_out read_out read_of faults (owing st) old new result → To FinishStep result
+    finishes : (result : Result Answer AllocError) → FinishesTo meaning (owing st) old new result → To FinishStep result
     finishes (Ok answer) h = finished answer h
     finishes (Err error) h = not_done FinishStep error h
 
@@ -275,7 +276,7 @@ module _ {D : Type 0} (observable : Bool) (history : D → History) (sync_out re
     synced : (result : Result Answer AllocError) → (result ≡ Ok Done) × (new ≡ old) → To Sync result
     synced result h = subst (To Sync) (sym h.0) (ok None Sync Done st.in_checkpoint refl (free Sync Done) refl refl (idle_appended h.1))
 
-    pub step_turned : (step : Step) (result : Result Answer AllocError) → StepsTo observable history sync_out read_out read_of faults (owing st) old new step result → To step result
+    pub step_turned : (step : Step) (result : Result Answer AllocError) → StepsTo meaning (owing st) old new step result → To step result
     step_turned Begin result h = begins result h
     step_turned Flush result h = flushes result h
     step_turned FinishStep result h = finishes result h
@@ -283,8 +284,8 @@ module _ {D : Type 0} (observable : Bool) (history : D → History) (sync_out re
 
   -- a step where no fault came before
   pub take_turned : (old new : Environment D) (step : Step) (result : Result Answer AllocError) → HasStayed old new → old.engine.kept.fault ≡ None →
-      ((st : Standing) → AreSessionsAt old.sessions st → StepsTo observable history sync_out read_out read_of faults (owing st) old new step result) →
-      (most : ℕ) (st : Standing) (line : ℕ) → IsAt most observable (now (history (disk_of old))) old st → Turned observable history sync_out read_out read_of faults most old new st line step result
+      ((st : Standing) → AreSessionsAt old.sessions st → StepsTo meaning (owing st) old new step result) →
+      (most : ℕ) (st : Standing) (line : ℕ) → IsAt most meaning.observable (now (meaning.history (disk_of old))) old st → Turned meaning most old new st line step result
   take_turned old new step result stays valid steps most st line here =
       let none : st.fault ≡ None = sym here.at.fault ∙ valid in
       step_turned most old new stays st here.at none (here.right none) (here.bare none) here.reached line step result (steps st here.at.sessions_at)
@@ -297,24 +298,24 @@ module _ {D : Type 0} (observable : Bool) (history : D → History) (sync_out re
   invalid_stays FinishStep st first = refl
   invalid_stays Sync st first = refl
 
-  pub invalid_done : (e : Environment D) (first : Cause) → e.engine.kept.fault ≡ Some first → (most : ℕ) (st : Standing) (line : ℕ) (step : Step) → IsAt most observable (now (history (disk_of e))) e st →
-      HasDone most observable (now (history (disk_of e))) e e st (Turn line step (Invalid first))
+  pub invalid_done : (e : Environment D) (first : Cause) → e.engine.kept.fault ≡ Some first → (most : ℕ) (st : Standing) (line : ℕ) (step : Step) → IsAt most meaning.observable (now (meaning.history (disk_of e))) e st →
+      HasDone most meaning.observable (now (meaning.history (disk_of e))) e e st (Turn line step (Invalid first))
   invalid_done e first some most st line step here = record {
     limit = None;
     bounded = unless_none (appends_nothing step st.in_checkpoint) (reach_behind (reach_of e) st (Turn line step (Invalid first)));
     answered = subst (λ (f : Option Cause). IsTurned f None step st.in_checkpoint (Invalid first)) (sym (sym here.at.fault ∙ some)) refl;
-    here = subst (IsAt most observable (now (history (disk_of e))) e) (sym (invalid_stays step st first)) here;
+    here = subst (IsAt most meaning.observable (now (meaning.history (disk_of e))) e) (sym (invalid_stays step st first)) here;
   }
 
-  pub invalid_safely : (e : Environment D) (first : Cause) (most : ℕ) (st : Standing) (start : History) (journal : List Event) (line : ℕ) (step : Step) → IsGuarded most st start (history (disk_of e)) e journal →
-      IsGuarded most st start (history (disk_of e)) e (journal ++ Turn line step (Invalid first) ∷ [])
+  pub invalid_safely : (e : Environment D) (first : Cause) (most : ℕ) (st : Standing) (start : History) (journal : List Event) (line : ℕ) (step : Step) → IsGuarded most st start (meaning.history (disk_of e)) e journal →
+      IsGuarded most st start (meaning.history (disk_of e)) e (journal ++ Turn line step (Invalid first) ∷ [])
   invalid_safely e first most st start journal line step is = (
     is.0,
-    guarded_quiet st is.0 start (history (disk_of e)) e.engine.trees.log journal (Turn line step (Invalid first)) refl refl refl refl
+    guarded_quiet st is.0 start (meaning.history (disk_of e)) e.engine.trees.log journal (Turn line step (Invalid first)) refl refl refl refl
         (ap (λ (s : Standing). s.fault) (invalid_stays step (after_events st journal) first)) is.1,
   )
 
-module _ {D : Type 0} (observable : Bool) (history : D → History) where
+module _ {D : Type 0} (meaning : DiskMeaning D) where
   -- where none is kept, none came
-  pub fault_none : (e : Environment D) → e.engine.kept.fault ≡ None → (most : ℕ) (st : Standing) → IsAt most observable (now (history (disk_of e))) e st → st.fault ≡ None
+  pub fault_none : (e : Environment D) → e.engine.kept.fault ≡ None → (most : ℕ) (st : Standing) → IsAt most meaning.observable (now (meaning.history (disk_of e))) e st → st.fault ≡ None
   fault_none e valid most st here = sym here.at.fault ∙ valid

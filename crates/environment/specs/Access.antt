@@ -23,7 +23,7 @@ use Rattle.store_model.specs.declared.place.Place.{Place}
 use Rattle.db_catalog.specs.declared.found_db.FoundDb.{FoundDb}
 use Rattle.engine.proofs.CalmAnswers.{IsCalm}
 use Rattle.std.specs.declared.alloc.AllocError.{AllocError}
-use Rattle.je_disk.specs.Moments.{History}
+use Rattle.je_disk.specs.DiskMeaning.{DiskMeaning}
 use Rattle.store_model.specs.declared.victim.Victim.{Victim}
 use Rattle.store_model.specs.Refusals.{database_refuses, index_refusal, or_refusal}
 use Rattle.je_answers.specs.Locking.{first_blocked}
@@ -152,9 +152,9 @@ with_move a call place st = with_places a.session (moved call place (st.places a
 
 module _ {D : Type 0} where
   -- A call of a transaction, planned as it sees the records, got all the locks that it needs. Nothing else has changed since `before`.
-  pub record IsTakenUp (observable : Bool) (history : D → History) (most : ℕ) (before e : Environment D) (st : Standing) (session : ℕ) (a : Active) (call : Call) (g : Target)
+  pub record IsTakenUp (meaning : DiskMeaning D) (most : ℕ) (before e : Environment D) (st : Standing) (session : ℕ) (a : Active) (call : Call) (g : Target)
       (answer : Answer) (changes : List (ℕ × RecordChange)) : Type 0 where
-    pub here : StandsAt most observable history before st
+    pub here : StandsAt most meaning before st
     pub sound : AreSound st
     pub valid : st.fault ≡ None
     pub on : AreThere st g
@@ -168,14 +168,14 @@ module _ {D : Type 0} where
     pub answer_is : answer ≡ (outcome_of st a call g).answer
     pub changes_are : changes ≡ with_numbers (changes_with st a g (outcome_of st a call g).changes)
 
-  module _ (observable : Bool) (history : D → History) (sync_out read_out : D → Option ℕ) (read_of : D → ℕ) where
+  module _ (meaning : DiskMeaning D) where
     -- a call of a transaction under way came to this
     abbrev pub HasAccessed : ℕ → Environment D → Environment D → Standing → Active → ℕ → Call → Target → Answer → List Victim → Type 0
     HasAccessed most old new st a line call g answer victims =
         let need = first_blocked a.txn (needs_in st a call g) st.locks.at in
-        HasStepped observable history sync_out read_out read_of most old new (owing_with (Some a) st) (written_taken need st a call g) (changes_taken need st a call g)
+        HasStepped meaning most old new (owing_with (Some a) st) (written_taken need st a call g) (changes_taken need st a call g)
         (λ limit. IsTaken need limit st a line call g answer victims) (after_taking need st st a line call g answer victims) answer
 
     abbrev pub AccessesTo : ℕ → Environment D → Environment D → Standing → Active → ℕ → Call → Target → Result Outcome AllocError → Type 0
     AccessesTo most old new st a line call g (Ok o) = HasAccessed most old new st a line call g o.answer o.victims
-    AccessesTo most old new st a line call g (Err error) = HasNotCome observable history sync_out read_out read_of most old new st
+    AccessesTo most old new st a line call g (Err error) = HasNotCome meaning most old new st

@@ -1,6 +1,7 @@
 -- What a call of a session comes to, for all that an environment may stand at.
-use Rattle.std.specs.Prelude.{ℕ, ◌≡◌, List, Option, Bool, true, Result, IfOk, OnErr}
+use Rattle.std.specs.Prelude.{ℕ, ◌≡◌, List, Option, true, Result, IfOk, OnErr}
 use Rattle.std.specs.declared.alloc.AllocError.{AllocError}
+use Rattle.je_disk.specs.DiskMeaning.{DiskMeaning}
 use Rattle.je_disk.specs.Moments.{History, now}
 use Rattle.store_model.specs.declared.answer.Answer.{Answer}
 use Rattle.store_model.specs.declared.call.Call.{Call}
@@ -20,19 +21,19 @@ use Rattle.environment.specs.Whole.{GoesOn, GoesOnSafely, HasLimit, IsAt, IsGuar
 
 module _ {D : Type 0} where
   -- a call was answered, or there was no memory
-  pub record AnswersCall (observable : Bool) (history : D → History) (sync_out read_out : D → Option ℕ) (read_of : D → ℕ) (old new : Environment D) (session line : ℕ) (call : Call) (result : Result Outcome AllocError) : Type 0 where
-    pub goes_on : (most : ℕ) (st : Standing) → IsAt most observable (now (history (disk_of old))) old st
-        → GoesOn most observable (now (history (disk_of new))) old new st (called session line call) st result
-    pub exact : (most : ℕ) (st : Standing) → IsAt most observable (now (history (disk_of old))) old st
+  pub record AnswersCall (meaning : DiskMeaning D) (old new : Environment D) (session line : ℕ) (call : Call) (result : Result Outcome AllocError) : Type 0 where
+    pub goes_on : (most : ℕ) (st : Standing) → IsAt most meaning.observable (now (meaning.history (disk_of old))) old st
+        → GoesOn most meaning.observable (now (meaning.history (disk_of new))) old new st (called session line call) st result
+    pub exact : (most : ℕ) (st : Standing) → IsAt most meaning.observable (now (meaning.history (disk_of old))) old st
         → IfOk result (λ o. (limit : Option Answer) × HasLimit old (owing_after st session) (written_call st session call) limit × IsAnswered limit st (called session line call o))
-    pub numbered : (most : ℕ) (st : Standing) → IsAt most observable (now (history (disk_of old))) old st
+    pub numbered : (most : ℕ) (st : Standing) → IsAt most meaning.observable (now (meaning.history (disk_of old))) old st
         → IfOk result (λ o. IsNumbered o.answer (after_event st (called session line call o)).commits)
-    pub grows : (most : ℕ) (st : Standing) → IsAt most observable (now (history (disk_of old))) old st
+    pub grows : (most : ℕ) (st : Standing) → IsAt most meaning.observable (now (meaning.history (disk_of old))) old st
         → IsWithin (reach_of new) (reach_after (reach_of old) (written_call st session call))
-    pub crash : observable ≡ true → (most : ℕ) (st : Standing) (start : History) (journal : List Event)
-        → IsAt most observable (now (history (disk_of old))) old (after_events st journal)
-        → IsGuarded most st start (history (disk_of old)) old journal
-        → GoesOnSafely most st start (history (disk_of new)) new journal (called session line call) journal result
-    pub appends : (most : ℕ) (st : Standing) → IsAt most observable (now (history (disk_of old))) old st
-        → IfOk result (λ o. Appends observable history sync_out read_out read_of old new (written_call st session call) (attempt_of st (called session line call o)) o.answer)
+    pub crash : meaning.observable ≡ true → (most : ℕ) (st : Standing) (start : History) (journal : List Event)
+        → IsAt most meaning.observable (now (meaning.history (disk_of old))) old (after_events st journal)
+        → IsGuarded most st start (meaning.history (disk_of old)) old journal
+        → GoesOnSafely most st start (meaning.history (disk_of new)) new journal (called session line call) journal result
+    pub appends : (most : ℕ) (st : Standing) → IsAt most meaning.observable (now (meaning.history (disk_of old))) old st
+        → IfOk result (λ o. Appends meaning old new (written_call st session call) (attempt_of st (called session line call o)) o.answer)
     pub stays : OnErr result (IsWithin (reach_of new) (reach_of old))

@@ -1,6 +1,6 @@
 -- A call on records that is a transaction of its own, among others.
-use Rattle.std.specs.Prelude.{ℕ, ◌≡◌, ◌+◌, List, None, Some, Bool, true, map, count_by, nat_lt}
-use Rattle.je_disk.specs.Moments.{History}
+use Rattle.std.specs.Prelude.{ℕ, ◌≡◌, ◌+◌, List, None, Some, true, map, count_by, nat_lt}
+use Rattle.je_disk.specs.DiskMeaning.{DiskMeaning}
 use Rattle.store_model.specs.declared.call.Call.{Call}
 use Rattle.store_model.specs.declared.kind.Kind.{Kind}
 use Rattle.store_model.specs.declared.record_change.RecordChange.{RecordChange}
@@ -76,8 +76,8 @@ module _ {D : Type 0} where
   with_sessions s e = record { engine = e.engine; sessions = s; written = e.written }
 
   -- a call on records of a session without a transaction, which nothing refuses, and what it is on
-  pub record IsAutoAt (most : ℕ) (observable : Bool) (history : D → History) (e : Environment D) (st : Standing) (session : ℕ) (call : Call) (g : Target) : Type 0 where
-    pub at : StandsAt most observable history e st
+  pub record IsAutoAt (most : ℕ) (meaning : DiskMeaning D) (e : Environment D) (st : Standing) (session : ℕ) (call : Call) (g : Target) : Type 0 where
+    pub at : StandsAt most meaning e st
     pub sound : AreSound st
     pub valid : st.fault ≡ None
     pub bare : AreBare st

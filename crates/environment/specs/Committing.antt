@@ -1,5 +1,5 @@
 -- A transaction that commits its own changes.
-use Rattle.std.specs.Prelude.{ℕ, suc, ◌≡◌, ◌+◌, ◌∷◌, [], List, Option, Some, Bool, true, false, if◌then◌else◌, ◌≤◌}
+use Rattle.std.specs.Prelude.{ℕ, suc, ◌≡◌, ◌+◌, ◌∷◌, [], List, Some, true, false, if◌then◌else◌, ◌≤◌}
 use Rattle.log_trees.specs.Placed.{placed}
 use Rattle.environment.specs.Valid.{fitting}
 use Rattle.log_buffer.specs.Buffer.{disk_of as disk_below, end_of}
@@ -7,12 +7,11 @@ use Rattle.log_buffer.specs.Growth.{longer}
 use Rattle.log_buffer.specs.Flip.{pos_lsn}
 use Rattle.log_buffer.specs.Log.{HasLog}
 use Rattle.log_file.specs.Log.{Log}
-use Rattle.je_disk.specs.Moments.{History, now}
+use Rattle.je_disk.specs.DiskMeaning.{DiskMeaning}
+use Rattle.je_disk.specs.Moments.{now}
 use Rattle.je_order.specs.declared.txn_id.TxnId.{TxnId}
 use Rattle.je_order.specs.Transactions.{is_same_txn}
 use Rattle.store_model.specs.declared.answer.Fault.TheVariants.{Disk}
-use Rattle.store_model.specs.declared.record_change.RecordChange.{RecordChange}
-use Rattle.store_model.specs.declared.record_change.RecordChange.TheVariants.{Set, Unset}
 use Rattle.log_entry.specs.declared.entry.Entry.{Entry}
 use Rattle.log_entry.specs.declared.entry.Entry.TheVariants.{Commit}
 use Rattle.record_map.specs.Cells.{IsRising}
@@ -30,21 +29,16 @@ use Rattle.environment.specs.declared.environment.Environment.{Environment}
 use Rattle.environment.specs.declared.written.OwnNames.{OwnNames}
 use Rattle.environment.specs.Written.{first_at, names_at, had_at}
 
--- whether a change sets a name
-abbrev pub is_set : RecordChange → Bool
-is_set (Set at value) = true
-is_set (Unset at) = false
-
 -- what is kept, with one commit more, behind which the store has so many records
 abbrev pub kept_committed : Kept → ℕ → Kept
 kept_committed kept records = record kept { totals = record { databases = kept.totals.databases; records = records }; commits = kept.commits + 1 }
 
 module _ {D : Type 0} where
   -- a transaction has committed what it wrote: the log got its Commit, and the records have its changes
-  pub record HasCommittedOwn (observable : Bool) (history : D → History) (sync_out read_out : D → Option ℕ) (read_of faults : D → ℕ) (old new : Engine D) (was is : List (TxnId × OwnNames)) (txn : TxnId)
+  pub record HasCommittedOwn (meaning : DiskMeaning D) (old new : Engine D) (was is : List (TxnId × OwnNames)) (txn : TxnId)
       (records : ℕ) : Type 0 where
-    pub grew : GrewFitting observable history sync_out read_out read_of faults old.trees.log new.trees.log (Commit txn ∷ [])
-    pub fits : (log : Log) (base : ℕ) → HasLog observable (now (history (disk_below old.trees.log))) old.trees.log log → base ≤ pos_lsn (end_of old.trees.log) → fitting old.trees (placed log) base →
+    pub grew : GrewFitting meaning old.trees.log new.trees.log (Commit txn ∷ [])
+    pub fits : (log : Log) (base : ℕ) → HasLog meaning.observable (now (meaning.history (disk_below old.trees.log))) old.trees.log log → base ≤ pos_lsn (end_of old.trees.log) → fitting old.trees (placed log) base →
         fitting new.trees (placed (longer old.trees.log (Commit txn ∷ []) log)) base
     pub left : (owed : ℕ) → HasRoomFor old.trees.log (commit_sizes (suc owed)) → HasRoomFor new.trees.log (commit_sizes owed)
     pub kept : new.kept ≡ kept_committed old.kept records
@@ -58,15 +52,15 @@ module _ {D : Type 0} where
     pub firsts : (t : TxnId) → first_at t is ≡ (if is_same_txn txn t then 0 else first_at t was)
 
   -- a session's transaction has committed, and is at its end
-  pub record HasSettled (observable : Bool) (history : D → History) (sync_out read_out : D → Option ℕ) (read_of faults : D → ℕ) (old new : Environment D) (session : ℕ) (txn : TxnId)
+  pub record HasSettled (meaning : DiskMeaning D) (old new : Environment D) (session : ℕ) (txn : TxnId)
       (records : ℕ) : Type 0 where
-    pub committed : HasCommittedOwn observable history sync_out read_out read_of faults old.engine new.engine old.written.by_txn.entries new.written.by_txn.entries txn records
+    pub committed : HasCommittedOwn meaning old.engine new.engine old.written.by_txn.entries new.written.by_txn.entries txn records
     pub sessions : (st : Standing) (a : Active) → a.session ≡ session → a.txn ≡ txn → AreSessionsAt old.sessions st → AreSessionsAt new.sessions (ended a st)
 
   -- or the disk failed
-  pub record HasNotSettled (observable : Bool) (history : D → History) (sync_out read_out : D → Option ℕ) (read_of faults : D → ℕ) (old new : Environment D) (txn : TxnId) : Type 0 where
+  pub record HasNotSettled (meaning : DiskMeaning D) (old new : Environment D) (txn : TxnId) : Type 0 where
     pub front : List Entry
     pub is_front : IsFront front (Commit txn ∷ [])
-    pub tried : TriedFitting observable history sync_out read_out read_of faults old.engine.trees.log new.engine.trees.log front
+    pub tried : TriedFitting meaning old.engine.trees.log new.engine.trees.log front
     pub kept : new.engine.kept ≡ (record old.engine.kept { fault = Some Disk })
     pub sessions : new.sessions ≡ old.sessions

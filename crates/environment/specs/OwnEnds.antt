@@ -1,7 +1,7 @@
 -- How a call of a transaction ends that got its locks and changes something.
-use Rattle.std.specs.Prelude.{ℕ, ◌≡◌, [], Bool, true, List, Option, Some, Result, Ok, Err, IfOk, length}
+use Rattle.std.specs.Prelude.{ℕ, ◌≡◌, [], true, List, Option, Some, Result, Ok, Err, IfOk, length}
 use Rattle.std.specs.declared.alloc.AllocError.{AllocError}
-use Rattle.je_disk.specs.Moments.{History}
+use Rattle.je_disk.specs.DiskMeaning.{DiskMeaning}
 use Rattle.store_model.specs.declared.answer.Answer.{Answer}
 use Rattle.store_model.specs.declared.answer.Answer.TheVariants.{LogFull, IdsEnded, DiskFault}
 use Rattle.je_order.specs.declared.name.Name.{Name}
@@ -16,6 +16,8 @@ use Rattle.je_answers.specs.Views.{Target, changes_with, outcome_of, with_names,
 use Rattle.je_answers.specs.Locking.{all_got}
 use Rattle.je_answers.specs.Events.{IsLogged, log_limit}
 use Rattle.je_answers.specs.After.{answered, faulted, with_locks, with_outcome}
+use Rattle.active_txns.specs.declared.own_counts.OwnCounts.{OwnCounts}
+use Rattle.active_txns.specs.Own.{counted}
 use Rattle.sessions.specs.declared.all_sessions.Sessions.{Sessions}
 use Rattle.sessions.specs.AtStanding.{AreSessionsAt, owing, with_own}
 use Rattle.sessions.specs.Taking.{HasTaken}
@@ -49,25 +51,25 @@ AreEndedBy NoNumbers s a call place needs more st = AreSessionsAt s (with_locks 
 AreEndedBy Failed s a call place needs more st = AreSessionsAt s st
 
 -- a transaction has these changes more, with what its call got
-pub record HasPushed (s : Sessions) (a : Active) (needs : List Need) (n : ℕ) (more : List (ℕ × RecordChange)) (len : ℕ) (st : Standing) : Type 0 where
-  pub len_is : len ≡ length (st.own n)
+pub record HasPushed (s : Sessions) (a : Active) (needs : List Need) (n : ℕ) (more : List (ℕ × RecordChange)) (counts : OwnCounts) (st : Standing) : Type 0 where
+  pub counts_are : counts ≡ counted (st.own n)
   pub taken : HasTaken s true a needs (with_own n more st)
 
-module _ {D : Type 0} (observable : Bool) (history : D → History) (sync_out read_out : D → Option ℕ) (read_of : D → ℕ) where
+module _ {D : Type 0} (meaning : DiskMeaning D) where
   -- the changes of a call are its transaction's own, and are logged or not
   pub record HasPushedAndLogged (old new : Environment D) (a : Active) (needs : List Need) (st : Standing) (cs : List (Numbered × RecordChange)) (result : Result Wrote AllocError) : Type 0 where
     pub more : List (ℕ × RecordChange)
     pub taken : HasTaken new.sessions true a needs (with_own a.txn.0 more st)
     pub is : IfOk result (λ wrote. more ≡ with_numbers cs)
-    pub writes : WritesOwn observable history sync_out read_out read_of old new st a.txn.0 cs (owing (with_own a.txn.0 (with_numbers cs) st)) result
+    pub writes : WritesOwn meaning old new st a.txn.0 cs (owing (with_own a.txn.0 (with_numbers cs) st)) result
 
   -- so a call was written, whose transaction goes on
   abbrev pub WritesUp : ℕ → Environment D → Environment D → Standing → Active → Call → Target → Wrote → Type 0
   WritesUp most old new st a call g wrote =
       let ev : Evaluated = outcome_of st a call g in
-      HasStepped observable history sync_out read_out read_of most old new (owing_with (Some a) st) (with_names (changes_with st a g ev.changes)) []
+      HasStepped meaning most old new (owing_with (Some a) st) (with_names (changes_with st a g ev.changes)) []
       (λ limit. IsLogged (log_limit limit) ev.answer (answer_for wrote ev.answer)) (after_wrote wrote st a call g ev) (answer_for wrote ev.answer)
 
   abbrev pub ComesUp : ℕ → Environment D → Environment D → Standing → Active → Call → Target → Result Wrote AllocError → Type 0
   ComesUp most old new st a call g (Ok wrote) = WritesUp most old new st a call g wrote
-  ComesUp most old new st a call g (Err error) = HasNotCome observable history sync_out read_out read_of most old new st
+  ComesUp most old new st a call g (Err error) = HasNotCome meaning most old new st

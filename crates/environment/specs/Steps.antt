@@ -2,7 +2,8 @@
 use Rattle.std.specs.Prelude.{ℕ, ◌≡◌, ◌⊎◌, ◌==◌, ◌++◌, ◌∷◌, [], List, Option, None, Some, Bool, true, false, Result, Ok, Err, OnErr, if◌then◌else◌, map}
 use Rattle.std.specs.declared.alloc.AllocError.{AllocError}
 use Rattle.std.specs.List.{AllByRecursion}
-use Rattle.je_disk.specs.Moments.{History, now}
+use Rattle.je_disk.specs.DiskMeaning.{DiskMeaning}
+use Rattle.je_disk.specs.Moments.{now}
 use Rattle.store_model.specs.declared.answer.Answer.{Answer}
 use Rattle.store_model.specs.declared.answer.Fault.TheVariants.{Disk}
 use Rattle.store_model.specs.declared.call.Call.{Call}
@@ -66,27 +67,27 @@ IsOnly answered result = ⊥
 
 module _ {D : Type 0} where
   -- in the middle of an event too the environment is where the model stands
-  abbrev pub StandsAt : ℕ → Bool → (D → History) → Environment D → Standing → Type 0
-  StandsAt most observable history e st =
-      AreAt most observable (now (history (disk_below e.engine.trees.log))) e.engine.trees.log (cells_of e.engine.trees) (has_tree_of e.engine.trees) (fitting e.engine.trees) e.engine.kept e.sessions e.written.by_txn.entries st
+  abbrev pub StandsAt : ℕ → DiskMeaning D → Environment D → Standing → Type 0
+  StandsAt most meaning e st =
+      AreAt most meaning.observable (now (meaning.history (disk_below e.engine.trees.log))) e.engine.trees.log (cells_of e.engine.trees) (has_tree_of e.engine.trees) (fitting e.engine.trees) e.engine.kept e.sessions e.written.by_txn.entries st
 
-  module _ (observable : Bool) (history : D → History) (sync_out read_out : D → Option ℕ) (read_of : D → ℕ) where
+  module _ (meaning : DiskMeaning D) where
     -- a log that is longer by these entries recovers these transactions more
     abbrev pub RecoversWith : LogBuffer D → List Entry → List (List Change) → Type 0
     RecoversWith old entries more =
-        observable ≡ true → (log : Log) → HasLog observable (now (history (disk_below old))) old log → (first : ℕ) (opening : Store) (base : ℕ) (transactions : List (List Change)) →
+        meaning.observable ≡ true → (log : Log) → HasLog meaning.observable (now (meaning.history (disk_below old))) old log → (first : ℕ) (opening : Store) (base : ℕ) (transactions : List (List Change)) →
         RecoversLog first opening base transactions log → RecoversLog first opening base (transactions ++ more) (longer old entries log)
 
     -- the log got entries with which it recovers these transactions more
     pub record HasGrown (old new : LogBuffer D) (more : List (List Change)) : Type 0 where
       pub entries : List Entry
-      pub grew : Grew observable history sync_out read_out read_of old new entries
+      pub grew : Grew meaning old new entries
       pub recovers : RecoversWith old entries more
 
     -- it failed with some with which it recovers them, or none of them
     pub record HasFailedWith (old new : LogBuffer D) (more : List (List Change)) : Type 0 where
       pub front : List Entry
-      pub tried : Tried observable history sync_out read_out read_of old new front
+      pub tried : Tried meaning old new front
       pub recovers : RecoversWith old front [] ⊎ RecoversWith old front more
 
     -- what a call did to the log that was to commit these transactions, and that met a fault or not
@@ -117,7 +118,7 @@ module _ {D : Type 0} where
       pub limit : Option Answer
       pub has_limit : HasLimit old owed written limit
       pub answers : Answered limit
-      pub here : StandsAt most observable history new after
+      pub here : StandsAt most meaning new after
       pub numbered : IsNumbered answer after.commits
       pub fault : after.fault ≡ (if is_disk_fault answer then Some Disk else None)
       pub logged : Appends old new written (tried committed (fate_of answer)) answer
@@ -138,7 +139,7 @@ module _ {D : Type 0} where
 
     -- there was no memory, and all is as it was
     pub record HasNotCome (most : ℕ) (old new : Environment D) (st : Standing) : Type 0 where
-      pub here : StandsAt most observable history new st
+      pub here : StandsAt most meaning new st
       pub log : IsUnchanged old.engine.trees.log new.engine.trees.log
       pub near : IsWithin (reach_of new) (reach_of old)
 
@@ -151,19 +152,19 @@ module _ {D : Type 0} where
     ComesToAnswer most old new st session line call (Err error) = HasNotCome most old new st
 
     -- A call that nothing refuses early, of a session that may make it: what it comes to wherever the model stands. `resumed` says whether it had waited.
-    pub record Performs (faults : D → ℕ) (old new : Environment D) (session line : ℕ) (call : Call) (resumed : Bool) (result : Result Outcome AllocError) : Type 0 where
-      pub comes : (most : ℕ) (st : Standing) → StandsAt most observable history old st → AreSound st → early_refusal st session call ≡ None → MayCall st session resumed
+    pub record Performs (old new : Environment D) (session line : ℕ) (call : Call) (resumed : Bool) (result : Result Outcome AllocError) : Type 0 where
+      pub comes : (most : ℕ) (st : Standing) → StandsAt most meaning old st → AreSound st → early_refusal st session call ≡ None → MayCall st session resumed
           → ComesTo most old new st session line call result
       pub near : OnErr result (IsWithin (reach_of new) (reach_of old))
       pub bounds : CanGoOn new
-      pub cause : HasCause (faults (disk_of old)) (faults (disk_of new)) result
+      pub cause : HasCause (meaning.faults (disk_of old)) (meaning.faults (disk_of new)) result
 
     -- the same of a call that has no victims
-    pub record PerformsAnswer (faults : D → ℕ) (old new : Environment D) (session : ℕ) (call : Call) (result : Result Answer AllocError) : Type 0 where
-      pub comes : (most : ℕ) (st : Standing) (line : ℕ) → StandsAt most observable history old st → AreSound st → early_refusal st session call ≡ None → ComesToAnswer most old new st session line call result
+    pub record PerformsAnswer (old new : Environment D) (session : ℕ) (call : Call) (result : Result Answer AllocError) : Type 0 where
+      pub comes : (most : ℕ) (st : Standing) (line : ℕ) → StandsAt most meaning old st → AreSound st → early_refusal st session call ≡ None → ComesToAnswer most old new st session line call result
       pub near : OnErr result (IsWithin (reach_of new) (reach_of old))
       pub bounds : CanGoOn new
-      pub cause : HasStepCause (faults (disk_of old)) (faults (disk_of new)) result
+      pub cause : HasStepCause (meaning.faults (disk_of old)) (meaning.faults (disk_of new)) result
 
     abbrev pub CallsTo : ℕ → Environment D → Environment D → Standing → ℕ → ℕ → Call → Result Outcome AllocError → Type 0
     CallsTo most old new st session line call (Ok o) = HasCalled most old new st session line call o.answer o.victims

@@ -1,6 +1,7 @@
 -- What a step of maintenance does to an environment.
 use Rattle.std.specs.Prelude.{ℕ, ◌≡◌, ◌≢◌, ◌≤◌, ◌⊎◌, ◌++◌, ◌∷◌, [], List, Option, None, Some, is_some, Bool, true, false, Result, Ok, Err, OnOk, IfSome}
 use Rattle.std.specs.declared.alloc.AllocError.{AllocError}
+use Rattle.je_disk.specs.DiskMeaning.{DiskMeaning}
 use Rattle.je_disk.specs.States.{State}
 use Rattle.je_disk.specs.Moments.{History}
 use Rattle.je_order.specs.declared.txn_id.TxnId.{TxnId}
@@ -117,12 +118,12 @@ module _ {D : Type 0} where
   abbrev pub IsIdle : Bool → Environment D → Environment D → Type 0
   IsIdle under_way old new = (is_some old.engine.kept.checkpoints.under_way ≡ under_way) × (new ≡ old)
 
-  module _ (observable : Bool) (history : D → History) (sync_out read_out : D → Option ℕ) (read_of : D → ℕ) (faults : D → ℕ) where
+  module _ (meaning : DiskMeaning D) where
     abbrev pub Grew : LogTrees D → LogTrees D → List Entry → Type 0
-    Grew old new entries = GrewTrees observable history sync_out read_out read_of faults old new entries
+    Grew old new entries = GrewTrees meaning old new entries
 
     abbrev pub Tried : LogTrees D → LogTrees D → List Entry → Type 0
-    Tried old new front = TriedFitting observable history sync_out read_out read_of faults old.log new.log front
+    Tried old new front = TriedFitting meaning old.log new.log front
 
     -- what the checkpointer says of a flush, and of an end
     abbrev pub FlushesTrees : ℕ → LogTrees D → LogTrees D → Result (Option ℕ) TreeErr → Type 0

@@ -24,7 +24,7 @@ use Rattle.in_tree.specs.Observed.{last_node_of, trees_of}
 use Rattle.record_tree.specs.Occupied.{AllCells}
 use Rattle.engine.specs.declared.kept.Kept.{Kept}
 use Rattle.txn_core.specs.Totals.{totals_of}
-use Rattle.active_txns.specs.Own.{has_changes, own_of}
+use Rattle.active_txns.specs.Own.{counts_at, has_some}
 use Rattle.sessions.specs.declared.all_sessions.Sessions.{Sessions}
 use Rattle.sessions.specs.AtStanding.{AreSessionsAt, owing}
 use Rattle.standing_laws.specs.Right.{HaveOwnWaits, is_active, txn_id}
@@ -71,7 +71,7 @@ AreBare st = AllByRecursion (λ a. a.is_auto ≡ true → st.own a.txn.0 ≡ [])
 
 -- how many Commits sessions owe the log
 abbrev pub owed_by : Sessions → ℕ
-owed_by s = length (filter (λ a. has_changes (own_of s.txns.own.entries a.txn.0)) s.txns.actives.items)
+owed_by s = length (filter (λ a. has_some (counts_at a.txn s.txns.own.entries)) s.txns.actives.items)
 
 -- the database of a number, where these are the numbers of names
 abbrev pub numbered_in : (List ℕ → ℕ) → Store → ℕ → Option Database

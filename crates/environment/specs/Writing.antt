@@ -7,7 +7,8 @@ use Rattle.log_buffer.specs.Log.{HasLog}
 use Rattle.log_file.specs.Log.{Log}
 use Rattle.std.specs.declared.alloc.AllocError.{AllocError}
 use Rattle.std.specs.List.{AllByRecursion}
-use Rattle.je_disk.specs.Moments.{History, now}
+use Rattle.je_disk.specs.DiskMeaning.{DiskMeaning}
+use Rattle.je_disk.specs.Moments.{now}
 use Rattle.std.specs.Option.{is_some, option_map_or}
 use Rattle.je_order.specs.Transactions.{is_same_txn}
 use Rattle.je_order.specs.declared.txn_id.TxnId.{TxnId}
@@ -66,13 +67,13 @@ abbrev pub wrote_by : Option TreeErr → Wrote
 wrote_by (Some TooFull) = Full
 wrote_by found = NoNumbers
 
-module _ {D : Type 0} (observable : Bool) (history : D → History) (sync_out read_out : D → Option ℕ) (read_of : D → ℕ) (faults : D → ℕ) where
+module _ {D : Type 0} (meaning : DiskMeaning D) where
   -- changes went into the log, an entry for each, behind images of nodes, the first one at an LSN; 0 where there are none
   pub record HasLoggedAll (old new : LogTrees D) (txn : TxnId) (changes : List TreeChange) (first : ℕ) : Type 0 where
     pub entries : List Entry
     pub logs : LogsChanges txn changes entries
-    pub grew : GrewFitting observable history sync_out read_out read_of faults old.log new.log entries
-    pub fits : (log : Log) (base : ℕ) → HasLog observable (now (history (disk_below old.log))) old.log log → base ≤ pos_lsn (end_of old.log) → fitting old (placed log) base →
+    pub grew : GrewFitting meaning old.log new.log entries
+    pub fits : (log : Log) (base : ℕ) → HasLog meaning.observable (now (meaning.history (disk_below old.log))) old.log log → base ≤ pos_lsn (end_of old.log) → fitting old (placed log) base →
         fitting new (placed (longer old.log entries log)) base
     pub waits : length entries + waits_of new ≤ waits_of old + most_entries (length changes)
     pub first_is : first ≡ unwrap_or (first_logged old.log entries) 0
@@ -83,7 +84,7 @@ module _ {D : Type 0} (observable : Bool) (history : D → History) (sync_out re
     pub front : List Entry
     pub logs : LogsChanges txn changes entries
     pub is_front : IsFront front entries
-    pub tried : TriedFitting observable history sync_out read_out read_of faults old.log new.log front
+    pub tried : TriedFitting meaning old.log new.log front
 
   -- Changes were made in the trees and logged, with room behind them for so many Commits; or they met a limit, or the disk failed; or there was no
   -- memory.
@@ -112,7 +113,7 @@ module _ {D : Type 0} where
   abbrev pub lacks : Environment D → List TreeChange → Bool
   lacks e changes = nat_lt last_number (e.engine.kept.last_node + numbers_for (length changes))
 
-  module _ (observable : Bool) (history : D → History) (sync_out read_out : D → Option ℕ) (read_of : D → ℕ) (faults : D → ℕ) where
+  module _ (meaning : DiskMeaning D) where
     -- changes were logged and are in the trees, and their names are the transaction's
     pub record HasWrittenOwn (old new : Environment D) (txn : TxnId) (changes : List TreeChange) (more : List TreeName) (owed : ℕ) : Type 0 where
       pub writes : AreWritten txn changes (cells_of old.engine.trees) (cells_of new.engine.trees)
@@ -120,7 +121,7 @@ module _ {D : Type 0} where
       pub rising : (d : ℕ) → IsRising (cells_of new.engine.trees d)
       pub made : (d : ℕ) → has_tree_of new.engine.trees d ≡ (is_made d changes || has_tree_of old.engine.trees d)
       pub first : ℕ
-      pub logged : HasLoggedAll observable history sync_out read_out read_of faults old.engine.trees new.engine.trees txn changes first
+      pub logged : HasLoggedAll meaning old.engine.trees new.engine.trees txn changes first
       pub room : HasRoomFor new.engine.trees.log (commit_sizes owed)
       pub limit : limit_in old.engine.trees changes owed ≡ None
       pub left : lacks old changes ≡ false
@@ -138,15 +139,15 @@ module _ {D : Type 0} where
     WritesAll old new txn changes names owed (Ok Full) = HasWrittenNone old new × (limit_in old.engine.trees changes owed ≡ Some TooFull)
     WritesAll old new txn changes names owed (Ok NoNumbers) = HasWrittenNone old new × (wrote_by (limit_in old.engine.trees changes owed) ≡ NoNumbers) × (lacks old changes ≡ true)
     WritesAll old new txn changes names owed (Ok Failed) =
-        HasTriedAll observable history sync_out read_out read_of faults old.engine.trees new.engine.trees txn changes × (limit_in old.engine.trees changes owed ≡ None) × (lacks old changes ≡ false)
+        HasTriedAll meaning old.engine.trees new.engine.trees txn changes × (limit_in old.engine.trees changes owed ≡ None) × (lacks old changes ≡ false)
         × (new.engine.kept ≡ record old.engine.kept { fault = Some Disk })
     WritesAll old new txn changes names owed (Err error) = HasWrittenNone old new
 
 module _ {D : Type 0} where
   -- an environment's log and trees are where a valid standing is
-  abbrev pub IsValidAt : Bool → (D → History) → Environment D → Standing → Type 0
-  IsValidAt observable history e st =
-      IsValidWith observable (now (history (disk_below e.engine.trees.log))) e.engine.trees.log (cells_of e.engine.trees) (has_tree_of e.engine.trees) (fitting e.engine.trees) e.engine.kept.since e.written.by_txn.entries st
+  abbrev pub IsValidAt : DiskMeaning D → Environment D → Standing → Type 0
+  IsValidAt meaning e st =
+      IsValidWith meaning.observable (now (meaning.history (disk_below e.engine.trees.log))) e.engine.trees.log (cells_of e.engine.trees) (has_tree_of e.engine.trees) (fitting e.engine.trees) e.engine.kept.since e.written.by_txn.entries st
 
   -- nothing was logged
   pub record IsLeft (old new : Environment D) : Type 0 where
@@ -154,22 +155,22 @@ module _ {D : Type 0} where
     pub kept : new.engine.kept ≡ old.engine.kept
     pub end : end_file new.engine.trees ≡ end_file old.engine.trees
 
-  module _ (observable : Bool) (history : D → History) (sync_out read_out : D → Option ℕ) (read_of : D → ℕ) where
+  module _ (meaning : DiskMeaning D) where
     -- Changes that a transaction under way writes: they are logged and its own; or they met a limit, or the disk failed; or there was no memory.
     abbrev pub WritesOwn : Environment D → Environment D → Standing → ℕ → List (Numbered × RecordChange) → ℕ → Result Wrote AllocError → Type 0
     WritesOwn old new st txn cs owed (Ok Done) =
-        IsValidAt observable history new (with_own txn (with_numbers cs) st)
-        × HasLoggedCall observable history sync_out read_out read_of old.engine new.engine.trees.log (with_names cs ∷ []) [] (txn_id txn)
+        IsValidAt meaning new (with_own txn (with_numbers cs) st)
+        × HasLoggedCall meaning old.engine new.engine.trees.log (with_names cs ∷ []) [] (txn_id txn)
         × HasLimit old owed (with_names cs) None
         × (file_max_of new.engine.trees.log ≡ file_max_of old.engine.trees.log)
         × (new.engine.kept ≡ record old.engine.kept { last_node = old.engine.kept.last_node + numbers_for (length cs) })
         × (end_file new.engine.trees ≤ end_file old.engine.trees + most_entries (length cs))
-    WritesOwn old new st txn cs owed (Ok Full) = IsValidAt observable history new st × IsLeft old new × HasLimit old owed (with_names cs) (Some LogFull)
-    WritesOwn old new st txn cs owed (Ok NoNumbers) = IsValidAt observable history new st × IsLeft old new × HasLimit old owed (with_names cs) (Some IdsEnded)
+    WritesOwn old new st txn cs owed (Ok Full) = IsValidAt meaning new st × IsLeft old new × HasLimit old owed (with_names cs) (Some LogFull)
+    WritesOwn old new st txn cs owed (Ok NoNumbers) = IsValidAt meaning new st × IsLeft old new × HasLimit old owed (with_names cs) (Some IdsEnded)
     WritesOwn old new st txn cs owed (Ok Failed) =
-        HasFailedWith observable history sync_out read_out read_of old.engine.trees.log new.engine.trees.log []
+        HasFailedWith meaning old.engine.trees.log new.engine.trees.log []
         × HasLimit old owed (with_names cs) None
         × (file_max_of new.engine.trees.log ≡ file_max_of old.engine.trees.log)
         × (new.engine.kept ≡ record old.engine.kept { fault = Some Disk })
         × (end_file new.engine.trees ≡ 0)
-    WritesOwn old new st txn cs owed (Err error) = IsValidAt observable history new st × IsLeft old new
+    WritesOwn old new st txn cs owed (Err error) = IsValidAt meaning new st × IsLeft old new

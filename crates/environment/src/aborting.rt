@@ -15,10 +15,10 @@ use store_model::Answer;
 impl<D: Disk> Environment<D> {
     // Aborts a session's transaction.
     pub(crate) fn abort(&mut self, session: u8) -> Result<Answer, AllocError>
-        requires here { (most : ℕ) × (st : Standing) × StandsAt most D.observable D.history self.old st × AreSound st × (early_refusal st session (Abort) ≡ None) }
+        requires here { (most : ℕ) × (st : Standing) × StandsAt most D.meaning self.old st × AreSound st × (early_refusal st session (Abort) ≡ None) }
         requires bounds { CanGoOn self.old }
         requires valid { self.old.engine.kept.fault ≡ None }
-        ensures performs { PerformsAnswer D.observable D.history D.sync_out D.read_out D.read_of D.faults self.old self.new session (Abort) result }
+        ensures performs { PerformsAnswer D.meaning self.old self.new session (Abort) result }
     {
         let txn = match self.sessions.of_session(session) {
             Some(active) => active.txn,

@@ -40,15 +40,15 @@ impl<D: Disk> Environment<D> {
         call: &Call,
         at: Option<&Name>,
     ) -> Result<Outcome, AllocError>
-        requires here { (most : ℕ) × (st : Standing) × (g : Target) × StandsAt most D.observable D.history self.old st × AreSound st × (early_refusal st session call.now ≡ None) × IsFoundFor st session call.now db.now found (option_copied at) g × MayCall st session true × (a : Transaction) × (active_of session st.actives ≡ Some a) × (a.txn ≡ txn) × (a.level ≡ level) × (a.is_auto ≡ true) }
+        requires here { (most : ℕ) × (st : Standing) × (g : Target) × StandsAt most D.meaning self.old st × AreSound st × (early_refusal st session call.now ≡ None) × IsFoundFor st session call.now db.now found (option_copied at) g × MayCall st session true × (a : Transaction) × (active_of session st.actives ≡ Some a) × (a.txn ≡ txn) × (a.level ≡ level) × (a.is_auto ≡ true) }
         requires bounds { CanGoOn self.old }
         requires call { MayWait call.now }
         requires valid { self.old.engine.kept.fault ≡ None }
-        ensures comes { (most : ℕ) (st : Standing) (g : Target) → StandsAt most D.observable D.history self.old st → AreSound st → early_refusal st session call.now ≡ None → MayCall st session true
-            → IsFoundFor st session call.now db.now found (option_copied at.entry) g → (a : Transaction) → active_of session st.actives ≡ Some a → a.txn ≡ txn → a.level ≡ level → a.is_auto ≡ true → ComesTo D.observable D.history D.sync_out D.read_out D.read_of most self.old self.new st session line call.now result }
+        ensures comes { (most : ℕ) (st : Standing) (g : Target) → StandsAt most D.meaning self.old st → AreSound st → early_refusal st session call.now ≡ None → MayCall st session true
+            → IsFoundFor st session call.now db.now found (option_copied at.entry) g → (a : Transaction) → active_of session st.actives ≡ Some a → a.txn ≡ txn → a.level ≡ level → a.is_auto ≡ true → ComesTo D.meaning most self.old self.new st session line call.now result }
         ensures near { OnErr result (IsWithin (reach_of self.new) (reach_of self.old)) }
         ensures bounds { CanGoOn self.new }
-        ensures cause { HasCause (D.faults (disk_of self.old)) (D.faults (disk_of self.new)) result }
+        ensures cause { HasCause (D.meaning.faults (disk_of self.old)) (D.meaning.faults (disk_of self.new)) result }
     {
         let CallPlan { target, others } = self.plan(alloc, txn, level, db, found, call, at)?;
         let TargetPlan {
@@ -101,13 +101,13 @@ impl<D: Disk> Environment<D> {
         moves: Option<Move>,
     ) -> Result<Outcome, AllocError>
         requires taken { (before : Environment D) × (most : ℕ) × (st : Standing) × (a : Transaction) × (asked : Asked) × (g : Target)
-            × IsTakenUp D.observable D.history most before self.old st session a asked g answer changes.items × (a.txn ≡ txn) × (a.level ≡ level) × (a.is_auto ≡ true) × (st.own a.txn.0 ≡ []) }
+            × IsTakenUp D.meaning most before self.old st session a asked g answer changes.items × (a.txn ≡ txn) × (a.level ≡ level) × (a.is_auto ≡ true) × (st.own a.txn.0 ≡ []) }
         requires bounds { CanGoOn self.old }
         ensures comes { (before : Environment D) (most line : ℕ) (st : Standing) (a : Transaction) (asked : Asked) (g : Target)
-            → IsTakenUp D.observable D.history most before self.old st session a asked g answer changes.items → Moves session asked (outcome_of st a asked g).place moves → a.txn ≡ txn → a.level ≡ level → a.is_auto ≡ true → st.own a.txn.0 ≡ []
-            → AccessesTo D.observable D.history D.sync_out D.read_out D.read_of most before self.new st a line asked g result }
+            → IsTakenUp D.meaning most before self.old st session a asked g answer changes.items → Moves session asked (outcome_of st a asked g).place moves → a.txn ≡ txn → a.level ≡ level → a.is_auto ≡ true → st.own a.txn.0 ≡ []
+            → AccessesTo D.meaning most before self.new st a line asked g result }
         ensures bounds { CanGoOn self.new }
-        ensures cause { HasCause (D.faults (disk_of self.old)) (D.faults (disk_of self.new)) result }
+        ensures cause { HasCause (D.meaning.faults (disk_of self.old)) (D.meaning.faults (disk_of self.new)) result }
     {
         if changes.is_empty() {
             drop(changes);

@@ -47,15 +47,15 @@ impl<D: Disk> Environment<D> {
         found: FoundDb,
         call: &Call,
     ) -> Result<Outcome, AllocError>
-        requires here { (most : ℕ) × (st : Standing) × (g : Target) × StandsAt most D.observable D.history self.old st × AreSound st × (early_refusal st session call.now ≡ None) × IsFoundFor st session call.now db.now found None g × MayCall st session true × (active_of session st.actives ≡ None) }
+        requires here { (most : ℕ) × (st : Standing) × (g : Target) × StandsAt most D.meaning self.old st × AreSound st × (early_refusal st session call.now ≡ None) × IsFoundFor st session call.now db.now found None g × MayCall st session true × (active_of session st.actives ≡ None) }
         requires bounds { CanGoOn self.old }
         requires call { IsOnRecords db.now call.now }
         requires valid { self.old.engine.kept.fault ≡ None }
-        ensures comes { (most : ℕ) (st : Standing) (g : Target) → StandsAt most D.observable D.history self.old st → AreSound st → early_refusal st session call.now ≡ None → MayCall st session true
-            → IsFoundFor st session call.now db.now found None g → active_of session st.actives ≡ None → ComesTo D.observable D.history D.sync_out D.read_out D.read_of most self.old self.new st session line call.now result }
+        ensures comes { (most : ℕ) (st : Standing) (g : Target) → StandsAt most D.meaning self.old st → AreSound st → early_refusal st session call.now ≡ None → MayCall st session true
+            → IsFoundFor st session call.now db.now found None g → active_of session st.actives ≡ None → ComesTo D.meaning most self.old self.new st session line call.now result }
         ensures near { OnErr result (IsWithin (reach_of self.new) (reach_of self.old)) }
         ensures bounds { CanGoOn self.new }
-        ensures cause { HasCause (D.faults (disk_of self.old)) (D.faults (disk_of self.new)) result }
+        ensures cause { HasCause (D.meaning.faults (disk_of self.old)) (D.meaning.faults (disk_of self.new)) result }
     {
         if self.sessions.is_empty() {
             return self.access_alone(alloc, db, found, call);
@@ -83,10 +83,10 @@ impl<D: Disk> Environment<D> {
         found: FoundDb,
         call: &Call,
     ) -> Result<CallPlan, AllocError>
-        requires here { (most session : ℕ) × (st : Standing) × (g : Target) × IsAutoAt most D.observable D.history self.now st session call.now g × IsOnDb st db.now found g }
-        ensures plans { (most session : ℕ) (st : Standing) (g : Target) → IsAutoAt most D.observable D.history self.now st session call.now g → IsOnDb st db.now found g
+        requires here { (most session : ℕ) × (st : Standing) × (g : Target) × IsAutoAt most D.meaning self.now st session call.now g × IsOnDb st db.now found g }
+        ensures plans { (most session : ℕ) (st : Standing) (g : Target) → IsAutoAt most D.meaning self.now st session call.now g → IsOnDb st db.now found g
             → IfOk result (IsPlannedFor (begun st session) (auto_active st session) call.now g) }
-        ensures may { (most session : ℕ) (st : Standing) (g : Target) → IsAutoAt most D.observable D.history self.now st session call.now g → IsOnDb st db.now found g
+        ensures may { (most session : ℕ) (st : Standing) (g : Target) → IsAutoAt most D.meaning self.now st session call.now g → IsOnDb st db.now found g
             → MayMake st (changes_auto st session call.now g) }
     {
         let txn = TxnId(self.engine.kept.last_txn + 1);
@@ -101,7 +101,7 @@ impl<D: Disk> Environment<D> {
         answer: Answer,
         changes: Vec<(u32, RecordChange)>,
     ) -> Result<Planned, AllocError>
-        ensures plans { (most session : ℕ) (st : Standing) (call : Asked) (g : Target) → IsAutoAt most D.observable D.history self.now st session call g → MayMake st (changes_auto st session call g)
+        ensures plans { (most session : ℕ) (st : Standing) (call : Asked) (g : Target) → IsAutoAt most D.meaning self.now st session call g → MayMake st (changes_auto st session call g)
             → answer ≡ (outcome_auto st session call g).answer → changes.items ≡ with_numbers (changes_auto st session call g) → IfOk result (IsPlannedAuto self.now.engine st session call g) }
     {
         if changes.is_empty() {
@@ -141,13 +141,13 @@ impl<D: Disk> Environment<D> {
         needs: Vec<Need>,
         owed: u32,
     ) -> Result<Outcome, AllocError>
-        requires here { (most : ℕ) × (st : Standing) × (g : Target) × IsAutoAt most D.observable D.history self.old st session call.now g × IsPlannedAuto self.old.engine st session call.now g planned × (needs.items ≡ needs_in (begun st session) (auto_active st session) call.now g) × (owed ≡ owing st + 1) × IsNamedAs db.now kind others.now g }
+        requires here { (most : ℕ) × (st : Standing) × (g : Target) × IsAutoAt most D.meaning self.old st session call.now g × IsPlannedAuto self.old.engine st session call.now g planned × (needs.items ≡ needs_in (begun st session) (auto_active st session) call.now g) × (owed ≡ owing st + 1) × IsNamedAs db.now kind others.now g }
         requires bounds { CanGoOn self.old }
         requires call { MayWait call.now }
-        ensures comes { (most : ℕ) (st : Standing) (g : Target) → IsAutoAt most D.observable D.history self.old st session call.now g → IsNamedAs db.now kind others.now g → IsPlannedAuto self.old.engine st session call.now g planned
-            → needs.items ≡ needs_in (begun st session) (auto_active st session) call.now g → owed ≡ owing st + 1 → ComesTo D.observable D.history D.sync_out D.read_out D.read_of most self.old self.new st session line call.now result }
+        ensures comes { (most : ℕ) (st : Standing) (g : Target) → IsAutoAt most D.meaning self.old st session call.now g → IsNamedAs db.now kind others.now g → IsPlannedAuto self.old.engine st session call.now g planned
+            → needs.items ≡ needs_in (begun st session) (auto_active st session) call.now g → owed ≡ owing st + 1 → ComesTo D.meaning most self.old self.new st session line call.now result }
         ensures bounds { CanGoOn self.new }
-        ensures cause { HasCause (D.faults (disk_of self.old)) (D.faults (disk_of self.new)) result }
+        ensures cause { HasCause (D.meaning.faults (disk_of self.old)) (D.meaning.faults (disk_of self.new)) result }
     {
         let last = self.engine.kept.last_txn;
         let txn = TxnId(last + 1);
@@ -186,13 +186,13 @@ impl<D: Disk> Environment<D> {
         planned: Planned,
         owed: u32,
     ) -> Result<Outcome, AllocError>
-        requires here { (most : ℕ) × (s : Sessions) × (st : Standing) × (call : Asked) × (g : Target) × IsAutoAt most D.observable D.history (with_sessions s self.old) st session call g × IsPlannedAuto self.old.engine st session call g planned × IsTakenAuto self.old st session call g × (txn.0 ≡ next_txn st.last_txn) × (owed ≡ owing st + 1) }
+        requires here { (most : ℕ) × (s : Sessions) × (st : Standing) × (call : Asked) × (g : Target) × IsAutoAt most D.meaning (with_sessions s self.old) st session call g × IsPlannedAuto self.old.engine st session call g planned × IsTakenAuto self.old st session call g × (txn.0 ≡ next_txn st.last_txn) × (owed ≡ owing st + 1) }
         requires bounds { CanGoOn self.old }
-        ensures comes { (most : ℕ) (s : Sessions) (st : Standing) (line : ℕ) (call : Asked) (g : Target) → IsAutoAt most D.observable D.history (with_sessions s self.old) st session call g → IsPlannedAuto self.old.engine st session call g planned
+        ensures comes { (most : ℕ) (s : Sessions) (st : Standing) (line : ℕ) (call : Asked) (g : Target) → IsAutoAt most D.meaning (with_sessions s self.old) st session call g → IsPlannedAuto self.old.engine st session call g planned
             → IsTakenAuto self.old st session call g → txn.0 ≡ next_txn st.last_txn → owed ≡ owing st + 1
-            → ComesTo D.observable D.history D.sync_out D.read_out D.read_of most (with_sessions s self.old) self.new st session line call result }
+            → ComesTo D.meaning most (with_sessions s self.old) self.new st session line call result }
         ensures bounds { CanGoOn self.new }
-        ensures cause { HasCause (D.faults (disk_of self.old)) (D.faults (disk_of self.new)) result }
+        ensures cause { HasCause (D.meaning.faults (disk_of self.old)) (D.meaning.faults (disk_of self.new)) result }
     {
         match planned {
             Planned::Answered(answer) => {
@@ -214,13 +214,13 @@ impl<D: Disk> Environment<D> {
         planned: PlannedChanges,
         owed: u32,
     ) -> Result<Outcome, AllocError>
-        requires here { (most : ℕ) × (s : Sessions) × (st : Standing) × (call : Asked) × (g : Target) × IsAutoAt most D.observable D.history (with_sessions s self.old) st session call g × IsLoggedAuto self.old.engine st session call g planned × IsTakenAuto self.old st session call g × (txn.0 ≡ next_txn st.last_txn) × (owed ≡ owing st + 1) }
+        requires here { (most : ℕ) × (s : Sessions) × (st : Standing) × (call : Asked) × (g : Target) × IsAutoAt most D.meaning (with_sessions s self.old) st session call g × IsLoggedAuto self.old.engine st session call g planned × IsTakenAuto self.old st session call g × (txn.0 ≡ next_txn st.last_txn) × (owed ≡ owing st + 1) }
         requires bounds { CanGoOn self.old }
-        ensures comes { (most : ℕ) (s : Sessions) (st : Standing) (line : ℕ) (call : Asked) (g : Target) → IsAutoAt most D.observable D.history (with_sessions s self.old) st session call g → IsLoggedAuto self.old.engine st session call g planned
+        ensures comes { (most : ℕ) (s : Sessions) (st : Standing) (line : ℕ) (call : Asked) (g : Target) → IsAutoAt most D.meaning (with_sessions s self.old) st session call g → IsLoggedAuto self.old.engine st session call g planned
             → IsTakenAuto self.old st session call g → txn.0 ≡ next_txn st.last_txn → owed ≡ owing st + 1
-            → ComesTo D.observable D.history D.sync_out D.read_out D.read_of most (with_sessions s self.old) self.new st session line call result }
+            → ComesTo D.meaning most (with_sessions s self.old) self.new st session line call result }
         ensures bounds { CanGoOn self.new }
-        ensures cause { HasCause (D.faults (disk_of self.old)) (D.faults (disk_of self.new)) result }
+        ensures cause { HasCause (D.meaning.faults (disk_of self.old)) (D.meaning.faults (disk_of self.new)) result }
     {
         is_number(self.engine.kept.last_db);
         self.engine.trees.are_ordered();

@@ -55,11 +55,11 @@ impl<D: Disk> Environment<D> {
         call: &Call,
         resumed: bool,
     ) -> Result<Outcome, AllocError>
-        requires here { (most : ℕ) × (st : Standing) × StandsAt most D.observable D.history self.old st × AreSound st × (early_refusal st session call.now ≡ None) × MayCall st session resumed }
+        requires here { (most : ℕ) × (st : Standing) × StandsAt most D.meaning self.old st × AreSound st × (early_refusal st session call.now ≡ None) × MayCall st session resumed }
         requires bounds { CanGoOn self.old }
         requires call { IsAtCursor cursor call.now }
         requires valid { self.old.engine.kept.fault ≡ None }
-        ensures performs { Performs D.observable D.history D.sync_out D.read_out D.read_of D.faults self.old self.new session line call.now resumed result }
+        ensures performs { Performs D.meaning self.old self.new session line call.now resumed result }
     {
         match self.late_at(session, cursor, call)? {
             LateAt::Refused(answer) => Ok(self.refuse(alloc, session, line, call, answer)),
@@ -69,10 +69,10 @@ impl<D: Disk> Environment<D> {
 
     // What refuses a call at a cursor late, or where the cursor stands. Outside a transaction no cursor is open.
     fn late_at(&self, session: u8, cursor: u8, call: &Call) -> Result<LateAt, AllocError>
-        requires here { (most : ℕ) × (st : Standing) × StandsAt most D.observable D.history self.now st × AreSound st }
+        requires here { (most : ℕ) × (st : Standing) × StandsAt most D.meaning self.now st × AreSound st }
         requires call { IsAtCursor cursor call.now }
         requires valid { self.now.engine.kept.fault ≡ None }
-        ensures { IfOk result (λ late. (most : ℕ) (st : Standing) → StandsAt most D.observable D.history self.now st → AreSound st → IsLateAt st session call.now late) }
+        ensures { IfOk result (λ late. (most : ℕ) (st : Standing) → StandsAt most D.meaning self.now st → AreSound st → IsLateAt st session call.now late) }
     {
         if self.lacks_number(session) {
             return Ok(LateAt::Refused(Answer::IdsEnded));
@@ -101,15 +101,15 @@ impl<D: Disk> Environment<D> {
         spot: Spot,
         call: &Call,
     ) -> Result<Outcome, AllocError>
-        requires here { (most : ℕ) × (st : Standing) × (g : Target) × StandsAt most D.observable D.history self.old st × AreSound st × (early_refusal st session call.now ≡ None) × IsFoundFor st session call.now spot.name spot.found spot.at g × MayCall st session true × IsSome (active_of session st.actives) }
+        requires here { (most : ℕ) × (st : Standing) × (g : Target) × StandsAt most D.meaning self.old st × AreSound st × (early_refusal st session call.now ≡ None) × IsFoundFor st session call.now spot.name spot.found spot.at g × MayCall st session true × IsSome (active_of session st.actives) }
         requires bounds { CanGoOn self.old }
         requires call { MayWait call.now }
         requires valid { self.old.engine.kept.fault ≡ None }
-        ensures comes { (most : ℕ) (st : Standing) (g : Target) → StandsAt most D.observable D.history self.old st → AreSound st → early_refusal st session call.now ≡ None → MayCall st session true
-            → IsFoundFor st session call.now spot.name spot.found spot.at g → ComesTo D.observable D.history D.sync_out D.read_out D.read_of most self.old self.new st session line call.now result }
+        ensures comes { (most : ℕ) (st : Standing) (g : Target) → StandsAt most D.meaning self.old st → AreSound st → early_refusal st session call.now ≡ None → MayCall st session true
+            → IsFoundFor st session call.now spot.name spot.found spot.at g → ComesTo D.meaning most self.old self.new st session line call.now result }
         ensures near { OnErr result (IsWithin (reach_of self.new) (reach_of self.old)) }
         ensures bounds { CanGoOn self.new }
-        ensures cause { HasCause (D.faults (disk_of self.old)) (D.faults (disk_of self.new)) result }
+        ensures cause { HasCause (D.meaning.faults (disk_of self.old)) (D.meaning.faults (disk_of self.new)) result }
     {
         let Spot { name, found, at } = spot;
         match self.sessions.of_session(session) {

@@ -51,11 +51,11 @@ impl<D: Disk> Environment<D> {
         call: &Call,
         resumed: bool,
     ) -> Result<Outcome, AllocError>
-        requires here { (most : ℕ) × (st : Standing) × StandsAt most D.observable D.history self.old st × AreSound st × (early_refusal st session call.now ≡ None) × MayCall st session resumed }
+        requires here { (most : ℕ) × (st : Standing) × StandsAt most D.meaning self.old st × AreSound st × (early_refusal st session call.now ≡ None) × MayCall st session resumed }
         requires bounds { CanGoOn self.old }
         requires call { IsOnRecords db.now call.now }
         requires valid { self.old.engine.kept.fault ≡ None }
-        ensures performs { Performs D.observable D.history D.sync_out D.read_out D.read_of D.faults self.old self.new session line call.now resumed result }
+        ensures performs { Performs D.meaning self.old self.new session line call.now resumed result }
     {
         match self.late(alloc, session, db, call)? {
             Late::Refused(answer) => Ok(self.refuse(alloc, session, line, call, answer)),
@@ -65,7 +65,7 @@ impl<D: Disk> Environment<D> {
 
     // Whether a session has no transaction, and no number is left for one.
     pub(crate) fn lacks_number(&self, session: u8) -> bool
-        ensures { (most : ℕ) (st : Standing) → StandsAt most D.observable D.history self.now st → result ≡ is_some (number_refusal st.last_txn (active_of session st.actives)) }
+        ensures { (most : ℕ) (st : Standing) → StandsAt most D.meaning self.now st → result ≡ is_some (number_refusal st.last_txn (active_of session st.actives)) }
     {
         if self.sessions.of_session(session).is_some() {
             return false;
@@ -75,10 +75,10 @@ impl<D: Disk> Environment<D> {
 
     // What refuses a call on records late, or its database.
     fn late(&self, alloc: Global, session: u8, db: &Word, call: &Call) -> Result<Late, AllocError>
-        requires here { (most : ℕ) × (st : Standing) × StandsAt most D.observable D.history self.now st }
+        requires here { (most : ℕ) × (st : Standing) × StandsAt most D.meaning self.now st }
         requires call { IsOnRecords db.now call.now }
         requires valid { self.now.engine.kept.fault ≡ None }
-        ensures { IfOk result (λ late. (most : ℕ) (st : Standing) → StandsAt most D.observable D.history self.now st → IsLate st session call.now db.now late) }
+        ensures { IfOk result (λ late. (most : ℕ) (st : Standing) → StandsAt most D.meaning self.now st → IsLate st session call.now db.now late) }
     {
         if self.lacks_number(session) {
             return Ok(Late::Refused(Answer::IdsEnded));
@@ -115,8 +115,8 @@ impl<D: Disk> Environment<D> {
     ) -> Outcome
         requires bounds { CanGoOn self.old }
         requires valid { self.old.engine.kept.fault ≡ None }
-        ensures comes { (most : ℕ) (st : Standing) → StandsAt most D.observable D.history self.old st → AreSound st → late_refusal st session call.now ≡ Some answer → IsCalm answer
-            → HasCome D.observable D.history D.sync_out D.read_out D.read_of most self.old self.new st session line call.now result.answer result.victims }
+        ensures comes { (most : ℕ) (st : Standing) → StandsAt most D.meaning self.old st → AreSound st → late_refusal st session call.now ≡ Some answer → IsCalm answer
+            → HasCome D.meaning most self.old self.new st session line call.now result.answer result.victims }
         ensures bounds { CanGoOn self.new }
         ensures disk { disk_of self.new ≡ disk_of self.old }
         ensures answer { result.answer ≡ answer }
@@ -128,7 +128,7 @@ impl<D: Disk> Environment<D> {
     // Allocates a number for a call outside a transaction, where one is left.
     pub(crate) fn draw(&mut self, session: u8)
         requires bounds { CanGoOn self.old }
-        ensures here { (most : ℕ) (st : Standing) → StandsAt most D.observable D.history self.old st → StandsAt most D.observable D.history self.new (drawn_by (active_of session st.actives) st) }
+        ensures here { (most : ℕ) (st : Standing) → StandsAt most D.meaning self.old st → StandsAt most D.meaning self.new (drawn_by (active_of session st.actives) st) }
         ensures bounds { CanGoOn self.new }
         ensures log { IsUnchanged self.old.engine.trees.log self.new.engine.trees.log }
         ensures disk { disk_of self.new ≡ disk_of self.old }
@@ -153,15 +153,15 @@ impl<D: Disk> Environment<D> {
         found: FoundDb,
         call: &Call,
     ) -> Result<Outcome, AllocError>
-        requires here { (most : ℕ) × (st : Standing) × (g : Target) × StandsAt most D.observable D.history self.old st × AreSound st × (early_refusal st session call.now ≡ None) × IsFoundFor st session call.now db.now found None g × MayCall st session true }
+        requires here { (most : ℕ) × (st : Standing) × (g : Target) × StandsAt most D.meaning self.old st × AreSound st × (early_refusal st session call.now ≡ None) × IsFoundFor st session call.now db.now found None g × MayCall st session true }
         requires bounds { CanGoOn self.old }
         requires call { IsOnRecords db.now call.now }
         requires valid { self.old.engine.kept.fault ≡ None }
-        ensures comes { (most : ℕ) (st : Standing) (g : Target) → StandsAt most D.observable D.history self.old st → AreSound st → early_refusal st session call.now ≡ None → MayCall st session true
-            → IsFoundFor st session call.now db.now found None g → ComesTo D.observable D.history D.sync_out D.read_out D.read_of most self.old self.new st session line call.now result }
+        ensures comes { (most : ℕ) (st : Standing) (g : Target) → StandsAt most D.meaning self.old st → AreSound st → early_refusal st session call.now ≡ None → MayCall st session true
+            → IsFoundFor st session call.now db.now found None g → ComesTo D.meaning most self.old self.new st session line call.now result }
         ensures near { OnErr result (IsWithin (reach_of self.new) (reach_of self.old)) }
         ensures bounds { CanGoOn self.new }
-        ensures cause { HasCause (D.faults (disk_of self.old)) (D.faults (disk_of self.new)) result }
+        ensures cause { HasCause (D.meaning.faults (disk_of self.old)) (D.meaning.faults (disk_of self.new)) result }
     {
         match self.sessions.of_session(session) {
             Some(active) => {

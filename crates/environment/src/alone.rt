@@ -34,12 +34,12 @@ impl<D: Disk> Environment<D> {
         found: FoundDb,
         call: &Call,
     ) -> Result<Outcome, AllocError>
-        requires here { (most session : ℕ) × (st : Standing) × (g : Target) × IsAutoAt most D.observable D.history self.old st session call.now g × IsOnDb st db.now found g × (st.actives ≡ []) }
+        requires here { (most session : ℕ) × (st : Standing) × (g : Target) × IsAutoAt most D.meaning self.old st session call.now g × IsOnDb st db.now found g × (st.actives ≡ []) }
         requires bounds { CanGoOn self.old }
-        ensures comes { (most session line : ℕ) (st : Standing) (g : Target) → IsAutoAt most D.observable D.history self.old st session call.now g → IsOnDb st db.now found g → st.actives ≡ []
-            → ComesTo D.observable D.history D.sync_out D.read_out D.read_of most self.old self.new st session line call.now result }
+        ensures comes { (most session line : ℕ) (st : Standing) (g : Target) → IsAutoAt most D.meaning self.old st session call.now g → IsOnDb st db.now found g → st.actives ≡ []
+            → ComesTo D.meaning most self.old self.new st session line call.now result }
         ensures bounds { CanGoOn self.new }
-        ensures cause { HasCause (D.faults (disk_of self.old)) (D.faults (disk_of self.new)) result }
+        ensures cause { HasCause (D.meaning.faults (disk_of self.old)) (D.meaning.faults (disk_of self.new)) result }
     {
         let OutcomePlan { answer, changes } = self.plan_alone(alloc, db, found, call)?;
         let planned = self.log_planned(alloc, answer, changes)?;
@@ -54,10 +54,10 @@ impl<D: Disk> Environment<D> {
         found: FoundDb,
         call: &Call,
     ) -> Result<OutcomePlan, AllocError>
-        requires here { (most session : ℕ) × (st : Standing) × (g : Target) × IsAutoAt most D.observable D.history self.now st session call.now g × IsOnDb st db.now found g }
-        ensures plans { (most session : ℕ) (st : Standing) (g : Target) → IsAutoAt most D.observable D.history self.now st session call.now g → IsOnDb st db.now found g
+        requires here { (most session : ℕ) × (st : Standing) × (g : Target) × IsAutoAt most D.meaning self.now st session call.now g × IsOnDb st db.now found g }
+        ensures plans { (most session : ℕ) (st : Standing) (g : Target) → IsAutoAt most D.meaning self.now st session call.now g → IsOnDb st db.now found g
             → IfOk result (IsOutcomeIn (begun st session) (auto_active st session) call.now g) }
-        ensures may { (most session : ℕ) (st : Standing) (g : Target) → IsAutoAt most D.observable D.history self.now st session call.now g → IsOnDb st db.now found g
+        ensures may { (most session : ℕ) (st : Standing) (g : Target) → IsAutoAt most D.meaning self.now st session call.now g → IsOnDb st db.now found g
             → MayMake st (changes_auto st session call.now g) }
     {
         let txn = TxnId(self.engine.kept.last_txn + 1);
@@ -67,12 +67,12 @@ impl<D: Disk> Environment<D> {
 
     // Answers the call, or logs what it changes.
     fn run_alone(&mut self, alloc: Global, planned: Planned) -> Result<Outcome, AllocError>
-        requires here { (most session : ℕ) × (st : Standing) × (call : Asked) × (g : Target) × IsAutoAt most D.observable D.history self.old st session call g × IsPlannedAuto self.old.engine st session call g planned × (st.actives ≡ []) }
+        requires here { (most session : ℕ) × (st : Standing) × (call : Asked) × (g : Target) × IsAutoAt most D.meaning self.old st session call g × IsPlannedAuto self.old.engine st session call g planned × (st.actives ≡ []) }
         requires bounds { CanGoOn self.old }
-        ensures comes { (most session line : ℕ) (st : Standing) (call : Asked) (g : Target) → IsAutoAt most D.observable D.history self.old st session call g → IsPlannedAuto self.old.engine st session call g planned → st.actives ≡ []
-            → ComesTo D.observable D.history D.sync_out D.read_out D.read_of most self.old self.new st session line call result }
+        ensures comes { (most session line : ℕ) (st : Standing) (call : Asked) (g : Target) → IsAutoAt most D.meaning self.old st session call g → IsPlannedAuto self.old.engine st session call g planned → st.actives ≡ []
+            → ComesTo D.meaning most self.old self.new st session line call result }
         ensures bounds { CanGoOn self.new }
-        ensures cause { HasCause (D.faults (disk_of self.old)) (D.faults (disk_of self.new)) result }
+        ensures cause { HasCause (D.meaning.faults (disk_of self.old)) (D.meaning.faults (disk_of self.new)) result }
     {
         match planned {
             Planned::Answered(answer) => {
@@ -86,12 +86,12 @@ impl<D: Disk> Environment<D> {
 
     // Logs what the call changes, with its Commit.
     fn log_alone(&mut self, alloc: Global, planned: PlannedChanges) -> Result<Outcome, AllocError>
-        requires here { (most session : ℕ) × (st : Standing) × (call : Asked) × (g : Target) × IsAutoAt most D.observable D.history self.old st session call g × IsLoggedAuto self.old.engine st session call g planned × (st.actives ≡ []) }
+        requires here { (most session : ℕ) × (st : Standing) × (call : Asked) × (g : Target) × IsAutoAt most D.meaning self.old st session call g × IsLoggedAuto self.old.engine st session call g planned × (st.actives ≡ []) }
         requires bounds { CanGoOn self.old }
-        ensures comes { (most session line : ℕ) (st : Standing) (call : Asked) (g : Target) → IsAutoAt most D.observable D.history self.old st session call g → IsLoggedAuto self.old.engine st session call g planned → st.actives ≡ []
-            → ComesTo D.observable D.history D.sync_out D.read_out D.read_of most self.old self.new st session line call result }
+        ensures comes { (most session line : ℕ) (st : Standing) (call : Asked) (g : Target) → IsAutoAt most D.meaning self.old st session call g → IsLoggedAuto self.old.engine st session call g planned → st.actives ≡ []
+            → ComesTo D.meaning most self.old self.new st session line call result }
         ensures bounds { CanGoOn self.new }
-        ensures cause { HasCause (D.faults (disk_of self.old)) (D.faults (disk_of self.new)) result }
+        ensures cause { HasCause (D.meaning.faults (disk_of self.old)) (D.meaning.faults (disk_of self.new)) result }
     {
         is_number(self.engine.kept.last_db);
         self.engine.trees.are_ordered();

@@ -1,52 +1,18 @@
 // What a call that is a transaction of its own logs.
-ghost use Rattle.std.specs.Prelude.{◌≡◌, ◌+◌, ℕ, true, map, count_by, IfOk, IfSome};
+ghost use Rattle.std.specs.Prelude.{◌≡◌, ◌+◌, ℕ, true, count_by, IfOk, IfSome};
 ghost use Rattle.std.specs.List.{AllByRecursion};
 ghost use Rattle.txn_core.specs.Known.{committed};
 ghost use Rattle.txn_core.specs.Planning.{HaveFewNew};
-ghost use Rattle.txn_log.specs.Own.{tree_of};
 ghost use Rattle.environment.specs.Auto.{IsAutoLog};
 ghost use Rattle.environment.specs.Changing.{has_data, sets_data};
 
+use crate::own_changes::tree_changes;
 use engine::Kept;
-use record_map::SortKey;
 use record_tree::{Records, TreeChange};
 use std::alloc::{AllocError, Global};
 use store_model::{RecordChange, Totals};
 use txn_core::PlannedChanges;
 use txn_core::reading::data_of;
-
-// A change of a record as what is logged of it.
-fn tree_change(alloc: Global, db: u32, change: RecordChange) -> Result<TreeChange, AllocError>
-    ensures { IfOk result (λ planned. planned ≡ tree_of (db, change)) }
-{
-    match change {
-        RecordChange::Set { at, value } => Ok(TreeChange {
-            db,
-            name: SortKey::new(alloc, at)?,
-            value: Some(value),
-            makes: None,
-        }),
-        RecordChange::Unset { at } => Ok(TreeChange {
-            db,
-            name: SortKey::new(alloc, at)?,
-            value: None,
-            makes: None,
-        }),
-    }
-}
-
-fn tree_changes(
-    alloc: Global,
-    changes: Vec<(u32, RecordChange)>,
-) -> Result<Vec<TreeChange>, AllocError>
-    ensures { IfOk result (λ planned. planned.items ≡ map tree_of changes.items) }
-{
-    let mut planned = Vec::new(alloc);
-    'changes: for (db, change) in changes {
-        planned.push(tree_change(alloc, db, change)?)?;
-    }
-    Ok(planned)
-}
 
 // Whether the name of a change has a committed record.
 fn is_there<T: Records>(trees: &T, change: &TreeChange) -> bool

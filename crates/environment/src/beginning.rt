@@ -22,10 +22,10 @@ impl<D: Disk> Environment<D> {
         durability: Durability,
         wait: bool,
     ) -> Result<Answer, AllocError>
-        requires here { (most : ℕ) × (st : Standing) × StandsAt most D.observable D.history self.old st × AreSound st × (early_refusal st session (Begin level durability wait) ≡ None) }
+        requires here { (most : ℕ) × (st : Standing) × StandsAt most D.meaning self.old st × AreSound st × (early_refusal st session (Begin level durability wait) ≡ None) }
         requires bounds { CanGoOn self.old }
         requires valid { self.old.engine.kept.fault ≡ None }
-        ensures performs { PerformsAnswer D.observable D.history D.sync_out D.read_out D.read_of D.faults self.old self.new session (Begin level durability wait) result }
+        ensures performs { PerformsAnswer D.meaning self.old self.new session (Begin level durability wait) result }
     {
         let last = self.engine.kept.last_txn;
         if last >= LAST_TXN {

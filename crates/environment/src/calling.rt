@@ -36,11 +36,11 @@ impl<D: Disk> Environment<D> {
         line: u32,
         call: &Call,
     ) -> Result<Outcome, AllocError>
-        requires here { (most : ℕ) × (st : Standing) × IsAt most D.observable (now (D.history (disk_of self.old))) self.old st }
+        requires here { (most : ℕ) × (st : Standing) × IsAt most D.meaning.observable (now (D.meaning.history (disk_of self.old))) self.old st }
         requires bounds { CanGoOn self.old }
-        ensures answers { AnswersCall D.observable D.history D.sync_out D.read_out D.read_of self.old self.new session line call.now result }
+        ensures answers { AnswersCall D.meaning self.old self.new session line call.now result }
         ensures bounds { CanGoOn self.new }
-        ensures cause { HasCause (D.faults (disk_of self.old)) (D.faults (disk_of self.new)) result }
+        ensures cause { HasCause (D.meaning.faults (disk_of self.old)) (D.meaning.faults (disk_of self.new)) result }
     {
         if let Some(first) = self.engine.kept.fault {
             return Ok(self.answer_invalid(alloc, session, line, call, first));
@@ -58,7 +58,7 @@ impl<D: Disk> Environment<D> {
         first: Fault,
     ) -> Outcome
         requires fault { self.now.engine.kept.fault ≡ Some first }
-        ensures answers { AnswersCall D.observable D.history D.sync_out D.read_out D.read_of self.now self.now session line call.now (Ok result) }
+        ensures answers { AnswersCall D.meaning self.now self.now session line call.now (Ok result) }
         ensures answer { result.answer ≡ Answer.Invalid first }
     {
         told(alloc, Answer::Invalid { first })
@@ -72,12 +72,12 @@ impl<D: Disk> Environment<D> {
         line: u32,
         call: &Call,
     ) -> Result<Outcome, AllocError>
-        requires here { (most : ℕ) × (st : Standing) × IsAt most D.observable (now (D.history (disk_of self.old))) self.old st }
+        requires here { (most : ℕ) × (st : Standing) × IsAt most D.meaning.observable (now (D.meaning.history (disk_of self.old))) self.old st }
         requires bounds { CanGoOn self.old }
         requires valid { self.old.engine.kept.fault ≡ None }
-        ensures answers { AnswersCall D.observable D.history D.sync_out D.read_out D.read_of self.old self.new session line call.now result }
+        ensures answers { AnswersCall D.meaning self.old self.new session line call.now result }
         ensures bounds { CanGoOn self.new }
-        ensures cause { HasCause (D.faults (disk_of self.old)) (D.faults (disk_of self.new)) result }
+        ensures cause { HasCause (D.meaning.faults (disk_of self.old)) (D.meaning.faults (disk_of self.new)) result }
     {
         self.call_among(alloc, session, line, call)
     }
@@ -90,14 +90,14 @@ impl<D: Disk> Environment<D> {
         line: u32,
         call: &Call,
     ) -> Result<Outcome, AllocError>
-        requires here { (most : ℕ) × (st : Standing) × IsAt most D.observable (now (D.history (disk_of self.old))) self.old st }
+        requires here { (most : ℕ) × (st : Standing) × IsAt most D.meaning.observable (now (D.meaning.history (disk_of self.old))) self.old st }
         requires bounds { CanGoOn self.old }
         requires valid { self.old.engine.kept.fault ≡ None }
-        ensures comes { (most : ℕ) (st : Standing) → IsAt most D.observable (now (D.history (disk_of self.old))) self.old st
-            → CallsTo D.observable D.history D.sync_out D.read_out D.read_of most self.old self.new st session line call.now result }
+        ensures comes { (most : ℕ) (st : Standing) → IsAt most D.meaning.observable (now (D.meaning.history (disk_of self.old))) self.old st
+            → CallsTo D.meaning most self.old self.new st session line call.now result }
         ensures near { OnErr result (IsWithin (reach_of self.new) (reach_of self.old)) }
         ensures bounds { CanGoOn self.new }
-        ensures cause { HasCause (D.faults (disk_of self.old)) (D.faults (disk_of self.new)) result }
+        ensures cause { HasCause (D.meaning.faults (disk_of self.old)) (D.meaning.faults (disk_of self.new)) result }
     {
         if let Some(refusal) = self.sessions.early_refusal(None, session, call)? {
             return Ok(told(alloc, refusal));

@@ -33,11 +33,11 @@ impl<D: Disk> Environment<D> {
         session: u8,
         call: &Call,
     ) -> Result<Answer, AllocError>
-        requires here { (most : ℕ) × (st : Standing) × StandsAt most D.observable D.history self.old st × AreSound st × (early_refusal st session (call.now) ≡ None) }
+        requires here { (most : ℕ) × (st : Standing) × StandsAt most D.meaning self.old st × AreSound st × (early_refusal st session (call.now) ≡ None) }
         requires bounds { CanGoOn self.old }
         requires call { ChangesCatalog call.now }
         requires valid { self.old.engine.kept.fault ≡ None }
-        ensures performs { PerformsAnswer D.observable D.history D.sync_out D.read_out D.read_of D.faults self.old self.new session (call.now) result }
+        ensures performs { PerformsAnswer D.meaning self.old self.new session (call.now) result }
     {
         if LAST_TXN <= self.engine.kept.last_txn {
             return Ok(Answer::IdsEnded);
@@ -62,7 +62,7 @@ impl<D: Disk> Environment<D> {
         call: &Call,
         planned: Planned,
     ) -> Result<Answer, AllocError>
-        requires here { (most : ℕ) × (st : Standing) × StandsAt most D.observable D.history self.old st × AreSound st × (early_refusal st session (call.now) ≡ None) }
+        requires here { (most : ℕ) × (st : Standing) × StandsAt most D.meaning self.old st × AreSound st × (early_refusal st session (call.now) ≡ None) }
         requires bounds { CanGoOn self.old }
         requires call { ChangesCatalog call.now }
         requires valid { self.old.engine.kept.fault ≡ None }
@@ -70,7 +70,7 @@ impl<D: Disk> Environment<D> {
         requires few { self.old.engine.kept.last_db ≤ last_database }
         requires plan { (p : Alone) (s : ℕ) → HasModel (known_of (cells_of self.old.engine.trees) self.old.engine.kept.totals self.old.engine.kept.last_db) p
             → IsPlanned (known_of (cells_of self.old.engine.trees) self.old.engine.kept.totals self.old.engine.kept.last_db) p s call.now planned }
-        ensures performs { PerformsAnswer D.observable D.history D.sync_out D.read_out D.read_of D.faults self.old self.new session (call.now) result }
+        ensures performs { PerformsAnswer D.meaning self.old self.new session (call.now) result }
     {
         match planned {
             Planned::Answered(answer) => self.answer_planned(alloc, session, call, answer),
@@ -91,14 +91,14 @@ impl<D: Disk> Environment<D> {
         call: &Call,
         answer: Answer,
     ) -> Result<Answer, AllocError>
-        requires here { (most : ℕ) × (st : Standing) × StandsAt most D.observable D.history self.old st × AreSound st × (early_refusal st session (call.now) ≡ None) }
+        requires here { (most : ℕ) × (st : Standing) × StandsAt most D.meaning self.old st × AreSound st × (early_refusal st session (call.now) ≡ None) }
         requires bounds { CanGoOn self.old }
         requires call { ChangesCatalog call.now }
         requires valid { self.old.engine.kept.fault ≡ None }
         requires below { self.old.engine.kept.last_txn < last_number }
         requires plan { (p : Alone) (s : ℕ) → HasModel (known_of (cells_of self.old.engine.trees) self.old.engine.kept.totals self.old.engine.kept.last_db) p
             → IsPlanned (known_of (cells_of self.old.engine.trees) self.old.engine.kept.totals self.old.engine.kept.last_db) p s call.now (Answered answer) }
-        ensures performs { PerformsAnswer D.observable D.history D.sync_out D.read_out D.read_of D.faults self.old self.new session (call.now) result }
+        ensures performs { PerformsAnswer D.meaning self.old self.new session (call.now) result }
     {
         match self.user_before(alloc, call, &answer) {
             Ok(Some(txn)) => {
@@ -126,7 +126,7 @@ impl<D: Disk> Environment<D> {
     ) -> Result<Option<TxnId>, AllocError>
         requires call { ChangesCatalog call.now }
         requires valid { self.now.engine.kept.fault ≡ None }
-        ensures { (most : ℕ) (st : Standing) → StandsAt most D.observable D.history self.now st → AreSound st → IfOk result (IsUserBefore st call.now answer.now) }
+        ensures { (most : ℕ) (st : Standing) → StandsAt most D.meaning self.now st → AreSound st → IfOk result (IsUserBefore st call.now answer.now) }
     {
         match answer {
             Answer::ReadOnlyIndex => self.user(alloc, call),
@@ -143,7 +143,7 @@ impl<D: Disk> Environment<D> {
         changes: PlannedChanges,
         fills: bool,
     ) -> Result<Answer, AllocError>
-        requires here { (most : ℕ) × (st : Standing) × StandsAt most D.observable D.history self.old st × AreSound st × (early_refusal st session (call.now) ≡ None) }
+        requires here { (most : ℕ) × (st : Standing) × StandsAt most D.meaning self.old st × AreSound st × (early_refusal st session (call.now) ≡ None) }
         requires bounds { CanGoOn self.old }
         requires call { ChangesCatalog call.now }
         requires valid { self.old.engine.kept.fault ≡ None }
@@ -151,7 +151,7 @@ impl<D: Disk> Environment<D> {
         requires few { self.old.engine.kept.last_db ≤ last_database }
         requires plan { (p : Alone) (s : ℕ) → HasModel (known_of (cells_of self.old.engine.trees) self.old.engine.kept.totals self.old.engine.kept.last_db) p
             → IsPlannedAs (known_of (cells_of self.old.engine.trees) self.old.engine.kept.totals self.old.engine.kept.last_db) p s call.now fills changes }
-        ensures performs { PerformsAnswer D.observable D.history D.sync_out D.read_out D.read_of D.faults self.old self.new session (call.now) result }
+        ensures performs { PerformsAnswer D.meaning self.old self.new session (call.now) result }
     {
         match self.user(alloc, call) {
             Ok(user) => self.change_by_user(alloc, session, call, changes, fills, user),
@@ -169,7 +169,7 @@ impl<D: Disk> Environment<D> {
         fills: bool,
         user: Option<TxnId>,
     ) -> Result<Answer, AllocError>
-        requires here { (most : ℕ) × (st : Standing) × StandsAt most D.observable D.history self.old st × AreSound st × (early_refusal st session (call.now) ≡ None) }
+        requires here { (most : ℕ) × (st : Standing) × StandsAt most D.meaning self.old st × AreSound st × (early_refusal st session (call.now) ≡ None) }
         requires bounds { CanGoOn self.old }
         requires call { ChangesCatalog call.now }
         requires valid { self.old.engine.kept.fault ≡ None }
@@ -177,8 +177,8 @@ impl<D: Disk> Environment<D> {
         requires few { self.old.engine.kept.last_db ≤ last_database }
         requires plan { (p : Alone) (s : ℕ) → HasModel (known_of (cells_of self.old.engine.trees) self.old.engine.kept.totals self.old.engine.kept.last_db) p
             → IsPlannedAs (known_of (cells_of self.old.engine.trees) self.old.engine.kept.totals self.old.engine.kept.last_db) p s call.now fills changes }
-        requires user { (most : ℕ) (st : Standing) → StandsAt most D.observable D.history self.old st → AreSound st → IsUserOf st call.now user }
-        ensures performs { PerformsAnswer D.observable D.history D.sync_out D.read_out D.read_of D.faults self.old self.new session (call.now) result }
+        requires user { (most : ℕ) (st : Standing) → StandsAt most D.meaning self.old st → AreSound st → IsUserOf st call.now user }
+        ensures performs { PerformsAnswer D.meaning self.old self.new session (call.now) result }
     {
         match user {
             Some(txn) => {
@@ -199,7 +199,7 @@ impl<D: Disk> Environment<D> {
         changes: PlannedChanges,
         fills: bool,
     ) -> Result<Answer, AllocError>
-        requires here { (most : ℕ) × (st : Standing) × StandsAt most D.observable D.history self.old st × AreSound st × (early_refusal st session (call.now) ≡ None) }
+        requires here { (most : ℕ) × (st : Standing) × StandsAt most D.meaning self.old st × AreSound st × (early_refusal st session (call.now) ≡ None) }
         requires bounds { CanGoOn self.old }
         requires call { ChangesCatalog call.now }
         requires valid { self.old.engine.kept.fault ≡ None }
@@ -207,8 +207,8 @@ impl<D: Disk> Environment<D> {
         requires few { self.old.engine.kept.last_db ≤ last_database }
         requires plan { (p : Alone) (s : ℕ) → HasModel (known_of (cells_of self.old.engine.trees) self.old.engine.kept.totals self.old.engine.kept.last_db) p
             → IsPlannedAs (known_of (cells_of self.old.engine.trees) self.old.engine.kept.totals self.old.engine.kept.last_db) p s call.now fills changes }
-        requires free { (most : ℕ) (st : Standing) → StandsAt most D.observable D.history self.old st → AreSound st → IsFreeToChange st call.now }
-        ensures performs { PerformsAnswer D.observable D.history D.sync_out D.read_out D.read_of D.faults self.old self.new session (call.now) result }
+        requires free { (most : ℕ) (st : Standing) → StandsAt most D.meaning self.old st → AreSound st → IsFreeToChange st call.now }
+        ensures performs { PerformsAnswer D.meaning self.old self.new session (call.now) result }
     {
         let owing = self.sessions.owing();
         if u32::MAX as usize <= owing {
@@ -237,7 +237,7 @@ impl<D: Disk> Environment<D> {
     fn user(&self, alloc: Global, call: &Call) -> Result<Option<TxnId>, AllocError>
         requires call { ChangesCatalog call.now }
         requires valid { self.now.engine.kept.fault ≡ None }
-        ensures { (most : ℕ) (st : Standing) → StandsAt most D.observable D.history self.now st → AreSound st → IfOk result (IsUserOf st call.now) }
+        ensures { (most : ℕ) (st : Standing) → StandsAt most D.meaning self.now st → AreSound st → IfOk result (IsUserOf st call.now) }
     {
         let number = self.changed_number(alloc, call)?;
         match number {

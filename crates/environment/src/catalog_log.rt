@@ -40,11 +40,11 @@ pub(crate) fn log_catalog<D: Disk>(
     requires entries { AllByRecursion (λ c. IsEntry (entry_for (txn_of (engine.old.kept.last_txn + 1)) c.db c.name c.value)) changes.changes.items }
     ensures trees { LeavesCells engine.old.trees engine.new.trees changes owed result }
     ensures near { EndsNear engine.old.trees engine.new.trees (length changes.changes.items) result }
-    ensures logs { LogsChanges D.observable D.history D.sync_out D.read_out D.read_of engine.old.trees.log engine.new.trees.log (contents engine.old.trees engine.old.kept) (contents engine.new.trees engine.new.kept) changes (limit_found fills engine.old.trees changes.changes.items owed) result }
+    ensures logs { LogsChanges D.meaning engine.old.trees.log engine.new.trees.log (contents engine.old.trees engine.old.kept) (contents engine.new.trees engine.new.kept) changes (limit_found fills engine.old.trees changes.changes.items owed) result }
     ensures indexes { engine.new.kept.indexes ≡ engine.old.kept.indexes }
     ensures names { engine.new.kept.names ≡ engine.old.kept.names }
     ensures bounds { CanGoOn engine.new }
-    ensures cause { HasStepCause (D.faults (disk_of engine.old)) (D.faults (disk_of engine.new)) result }
+    ensures cause { HasStepCause (D.meaning.faults (disk_of engine.old)) (D.meaning.faults (disk_of engine.new)) result }
 {
     if fills {
         engine.log_filled(alloc, changes, owed)

@@ -27,19 +27,19 @@ impl<D: Disk> Environment<D> {
     /// Closes the environment: writes its log out, and syncs, unless the disk failed before. It takes no
     /// memory.
     pub fn close(self) -> Closed<D>
-        ensures crash { D.observable ≡ true → (most : ℕ) (st : Standing) (start : History) (journal : List Event) → IsGuarded most st start (D.history (disk_of self)) self journal
-            → IsSafeRun st start (D.history result.disk) journal }
-        ensures images { D.observable ≡ true → result.failed ≡ false → (most : ℕ) (st : Standing) (start : History) (journal : List Event)
-            → IsAt most D.observable (now (D.history (disk_of self))) self (after_events st journal) → IsGuarded most st start (D.history (disk_of self)) self journal
-            → (after_events st journal).fault ≡ None → ImagesMean start.moment (D.history result.disk) (D.history result.disk).moment (after_events st journal).store }
-        ensures files { D.observable ≡ true → result.failed ≡ false → (most : ℕ) (st : Standing) → IsAt most D.observable (now (D.history (disk_of self))) self st → st.fault ≡ None
-            → MeanStore (now (D.history result.disk)).reads st.store }
-        ensures lengths { D.observable ≡ true → result.failed ≡ false → (most : ℕ) (st : Standing) (start : History) (journal : List Event)
-            → IsAt most D.observable (now (D.history (disk_of self))) self (after_events st journal) → IsGuarded most st start (D.history (disk_of self)) self journal
-            → (after_events st journal).fault ≡ None → AreLengthsWithin most (now start).reads (now (D.history result.disk)).reads }
+        ensures crash { D.meaning.observable ≡ true → (most : ℕ) (st : Standing) (start : History) (journal : List Event) → IsGuarded most st start (D.meaning.history (disk_of self)) self journal
+            → IsSafeRun st start (D.meaning.history result.disk) journal }
+        ensures images { D.meaning.observable ≡ true → result.failed ≡ false → (most : ℕ) (st : Standing) (start : History) (journal : List Event)
+            → IsAt most D.meaning.observable (now (D.meaning.history (disk_of self))) self (after_events st journal) → IsGuarded most st start (D.meaning.history (disk_of self)) self journal
+            → (after_events st journal).fault ≡ None → ImagesMean start.moment (D.meaning.history result.disk) (D.meaning.history result.disk).moment (after_events st journal).store }
+        ensures files { D.meaning.observable ≡ true → result.failed ≡ false → (most : ℕ) (st : Standing) → IsAt most D.meaning.observable (now (D.meaning.history (disk_of self))) self st → st.fault ≡ None
+            → MeanStore (now (D.meaning.history result.disk)).reads st.store }
+        ensures lengths { D.meaning.observable ≡ true → result.failed ≡ false → (most : ℕ) (st : Standing) (start : History) (journal : List Event)
+            → IsAt most D.meaning.observable (now (D.meaning.history (disk_of self))) self (after_events st journal) → IsGuarded most st start (D.meaning.history (disk_of self)) self journal
+            → (after_events st journal).fault ≡ None → AreLengthsWithin most (now start).reads (now (D.meaning.history result.disk)).reads }
         ensures records { rows_kept result.records ≡ rows_held self }
-        ensures cause { result.failed ≡ true → HasRisen (D.faults (disk_of self)) (D.faults result.disk) }
-        ensures never_falls { D.faults (disk_of self) ≤ D.faults result.disk }
+        ensures cause { result.failed ≡ true → HasRisen (D.meaning.faults (disk_of self)) (D.meaning.faults result.disk) }
+        ensures never_falls { D.meaning.faults (disk_of self) ≤ D.meaning.faults result.disk }
     {
         let Environment {
             engine,

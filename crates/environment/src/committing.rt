@@ -1,5 +1,5 @@
 // The commit of a transaction.
-ghost use Rattle.std.specs.Prelude.{◌≡◌, ◌<◌, ◌+◌, ◌^◌, ◌∷◌, [], None, ℕ, suc, List, OnOk, OnErr, IfSome, count_by};
+ghost use Rattle.std.specs.Prelude.{◌≡◌, ◌<◌, ◌+◌, ◌^◌, ◌∷◌, [], None, ℕ, suc, List, OnOk, OnErr, IfSome};
 ghost use Rattle.std.specs.List.{AllByRecursion};
 ghost use Rattle.std.specs.Option.{option_map_or};
 ghost use Rattle.log_entry.specs.declared.entry.Entry.{Entry};
@@ -13,7 +13,7 @@ ghost use Rattle.je_answers.specs.Standing.{Standing};
 ghost use Rattle.je_answers.specs.Refusals.{early_refusal};
 ghost use Rattle.je_answers.specs.Events.{commit_answer};
 ghost use Rattle.standing_laws.specs.Right.{AreSound};
-ghost use Rattle.environment.specs.Committing.{HasCommittedOwn, HasNotSettled, HasSettled, is_set};
+ghost use Rattle.environment.specs.Committing.{HasCommittedOwn, HasNotSettled, HasSettled};
 ghost use Rattle.environment.specs.Steps.{PerformsAnswer, StandsAt};
 ghost use Rattle.environment.specs.Whole.{CanGoOn};
 ghost use Rattle.environment.specs.Written.{had_at, names_at};
@@ -28,7 +28,7 @@ use je_order::TxnId;
 use record_tree::{Records, TreeErr};
 use std::alloc::AllocError;
 use std::collections::BTreeMap;
-use store_model::{Answer, Durability, Fault, RecordChange};
+use store_model::{Answer, Durability, Fault};
 
 // Commits what a transaction wrote.
 pub(crate) fn commit_taken<T: Records>(
@@ -65,29 +65,6 @@ fn answer_of(durability: Durability, commits: u64) -> Answer
     }
 }
 
-// Whether a change sets a name.
-fn sets(change: &RecordChange) -> bool
-    ensures { result ≡ is_set change.now }
-{
-    match change {
-        RecordChange::Set { .. } => true,
-        RecordChange::Unset { .. } => false,
-    }
-}
-
-// How many of some own changes set a name.
-pub(crate) fn count_set(own: &[(u32, RecordChange)]) -> u64
-    ensures { result ≡ count_by (λ c. is_set c.1) own.now }
-{
-    let mut count = 0u64;
-    for change in own {
-        if sets(&change.1) {
-            count += 1;
-        }
-    }
-    count
-}
-
 // How many of a transaction's changes were of a name that had a record just then.
 pub(crate) fn had_of(written: &BTreeMap<TxnId, OwnNames>, txn: TxnId) -> u64
     ensures { result ≡ had_at txn written.now.entries }
@@ -113,13 +90,12 @@ pub(crate) fn records_before(kept: &Kept, set: u64) -> Option<u64>
     kept.totals.records.checked_add(set)
 }
 
-// How many records there are behind a commit of own changes; None where a number ends.
-fn records_with(kept: &Kept, own: &[(u32, RecordChange)], had: u64) -> Option<u64>
-    ensures counted { IfSome result (λ records. records + had ≡ kept.now.totals.records + count_by (λ c. is_set c.1) own.now) }
+// How many records there are behind a commit of changes of which so many set a name; None where a number ends.
+fn records_with(kept: &Kept, set: u64, had: u64) -> Option<u64>
+    ensures counted { IfSome result (λ records. records + had ≡ kept.now.totals.records + set) }
     ensures fits { IfSome result (λ records. kept.now.commits < kept.now.last_txn) }
     ensures next { IfSome result (λ records. kept.now.commits + 1 < 2 ^ 64) }
 {
-    let set = count_set(own);
     match records_before(kept, set) {
         Some(all) => all.checked_sub(had),
         None => None,
@@ -132,8 +108,8 @@ impl<D: Disk> Environment<D> {
         requires room { (owed : ℕ) × HasRoomFor self.old.engine.trees.log (commit_sizes (suc owed)) }
         requires own { AllByRecursion (λ n. IsFreeFor txn (write_in (value_at n.name (cells_of self.old.engine.trees n.db)))) (names_at txn self.old.written.by_txn.entries) }
         requires fits { self.old.engine.kept.commits + 1 < 2 ^ 64 }
-        ensures done { OnOk result (HasCommittedOwn D.observable D.history D.sync_out D.read_out D.read_of D.faults self.old.engine self.new.engine self.old.written.by_txn.entries self.new.written.by_txn.entries txn records) }
-        ensures failed { OnErr result (HasNotSettled D.observable D.history D.sync_out D.read_out D.read_of D.faults self.old self.new txn) }
+        ensures done { OnOk result (HasCommittedOwn D.meaning self.old.engine self.new.engine self.old.written.by_txn.entries self.new.written.by_txn.entries txn records) }
+        ensures failed { OnErr result (HasNotSettled D.meaning self.old self.new txn) }
         ensures sessions { self.new.sessions ≡ self.old.sessions }
     {
         self.engine.trees.are_ordered();
@@ -158,8 +134,8 @@ impl<D: Disk> Environment<D> {
         requires room { (owed : ℕ) × HasRoomFor self.old.engine.trees.log (commit_sizes (suc owed)) }
         requires own { AllByRecursion (λ n. IsFreeFor txn (write_in (value_at n.name (cells_of self.old.engine.trees n.db)))) (names_at txn self.old.written.by_txn.entries) }
         requires fits { self.old.engine.kept.commits + 1 < 2 ^ 64 }
-        ensures done { OnOk result (HasSettled D.observable D.history D.sync_out D.read_out D.read_of D.faults self.old self.new session txn records) }
-        ensures failed { OnErr result (HasNotSettled D.observable D.history D.sync_out D.read_out D.read_of D.faults self.old self.new txn) }
+        ensures done { OnOk result (HasSettled D.meaning self.old self.new session txn records) }
+        ensures failed { OnErr result (HasNotSettled D.meaning self.old self.new txn) }
     {
         match self.commit_own(txn, records) {
             Ok(()) => {
@@ -172,22 +148,22 @@ impl<D: Disk> Environment<D> {
 
     // Commits a session's transaction.
     pub(crate) fn commit(&mut self, session: u8) -> Result<Answer, AllocError>
-        requires here { (most : ℕ) × (st : Standing) × StandsAt most D.observable D.history self.old st × AreSound st × (early_refusal st session (Commit) ≡ None) }
+        requires here { (most : ℕ) × (st : Standing) × StandsAt most D.meaning self.old st × AreSound st × (early_refusal st session (Commit) ≡ None) }
         requires bounds { CanGoOn self.old }
         requires valid { self.old.engine.kept.fault ≡ None }
-        ensures performs { PerformsAnswer D.observable D.history D.sync_out D.read_out D.read_of D.faults self.old self.new session (Commit) result }
+        ensures performs { PerformsAnswer D.meaning self.old self.new session (Commit) result }
     {
         let (txn, durability) = match self.sessions.of_session(session) {
             Some(active) => (active.txn, active.durability),
             None => unreachable!(),
         };
         let own = self.sessions.own(txn);
-        if own.is_empty() {
+        if own.len == 0 {
             self.abandon(session, txn);
             return Ok(Answer::Done);
         }
         let had = had_of(&self.written.by_txn, txn);
-        let records = match records_with(&self.engine.kept, own, had) {
+        let records = match records_with(&self.engine.kept, own.set, had) {
             Some(records) => records,
             None => return Err(AllocError),
         };

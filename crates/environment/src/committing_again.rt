@@ -12,12 +12,13 @@ ghost use Rattle.environment.specs.Calls.{HasCause};
 ghost use Rattle.environment.specs.Whole.{CanGoOn, disk_of};
 
 use crate::calling::told;
-use crate::committing::{count_set, had_of, records_before};
+use crate::committing::{had_of, records_before};
 use crate::environment::Environment;
 use crate::moving::{Move, move_by};
 use crate::outcome::Outcome;
 use crate::own_writing::{take_back, undo_own};
 use crate::wrote::Wrote;
+use active_txns::{OwnCounts, count_set};
 use je_disk::Disk;
 use je_order::TxnId;
 use std::alloc::{AllocError, Global};
@@ -43,14 +44,14 @@ impl<D: Disk> Environment<D> {
         moves: Option<Move>,
     ) -> Result<Outcome, AllocError>
         requires taken { (before : Environment D) × (most : ℕ) × (st : Standing) × (a : Transaction) × (asked : Asked) × (g : Target) × (answer : Answered)
-            × IsTakenUp D.observable D.history most before self.old st session a asked g answer changes.items × (a.txn ≡ txn) × (a.level ≡ level) × (a.is_auto ≡ true) × (st.own a.txn.0 ≡ []) }
+            × IsTakenUp D.meaning most before self.old st session a asked g answer changes.items × (a.txn ≡ txn) × (a.level ≡ level) × (a.is_auto ≡ true) × (st.own a.txn.0 ≡ []) }
         requires some { changes.items ≢ [] }
         requires bounds { CanGoOn self.old }
         ensures comes { (before : Environment D) (most line : ℕ) (st : Standing) (a : Transaction) (asked : Asked) (g : Target) (answer : Answered)
-            → IsTakenUp D.observable D.history most before self.old st session a asked g answer changes.items → Moves session asked (outcome_of st a asked g).place moves → a.txn ≡ txn → a.level ≡ level → a.is_auto ≡ true → st.own a.txn.0 ≡ []
-            → AccessesTo D.observable D.history D.sync_out D.read_out D.read_of most before self.new st a line asked g result }
+            → IsTakenUp D.meaning most before self.old st session a asked g answer changes.items → Moves session asked (outcome_of st a asked g).place moves → a.txn ≡ txn → a.level ≡ level → a.is_auto ≡ true → st.own a.txn.0 ≡ []
+            → AccessesTo D.meaning most before self.new st a line asked g result }
         ensures bounds { CanGoOn self.new }
-        ensures cause { HasCause (D.faults (disk_of self.old)) (D.faults (disk_of self.new)) result }
+        ensures cause { HasCause (D.meaning.faults (disk_of self.old)) (D.meaning.faults (disk_of self.new)) result }
     {
         let set = count_set(changes.as_slice());
         let Some(all) = records_before(&self.engine.kept, set) else {
@@ -63,7 +64,7 @@ impl<D: Disk> Environment<D> {
             Ok(wrote) => Ok(self.end_again(alloc, session, txn, level, all, wrote, moves)),
             Err(error) => {
                 drop(moves);
-                undo_own(&mut self.sessions, txn, 0);
+                undo_own(&mut self.sessions, txn, OwnCounts { len: 0, set: 0 });
                 Err(error)
             }
         }
@@ -81,31 +82,31 @@ impl<D: Disk> Environment<D> {
         moves: Option<Move>,
     ) -> Outcome
         requires written { (before : Environment D) × (most : ℕ) × (st : Standing) × (a : Transaction) × (asked : Asked) × (g : Target)
-            × HasWrittenAgain D.observable D.history D.sync_out D.read_out D.read_of most before self.old st session txn level a asked g all wrote }
+            × HasWrittenAgain D.meaning most before self.old st session txn level a asked g all wrote }
         ensures comes { (before : Environment D) (most line : ℕ) (st : Standing) (a : Transaction) (asked : Asked) (g : Target)
-            → HasWrittenAgain D.observable D.history D.sync_out D.read_out D.read_of most before self.old st session txn level a asked g all wrote → Moves session asked (outcome_of st a asked g).place moves
-            → HasAccessed D.observable D.history D.sync_out D.read_out D.read_of most before self.new st a line asked g result.answer result.victims }
+            → HasWrittenAgain D.meaning most before self.old st session txn level a asked g all wrote → Moves session asked (outcome_of st a asked g).place moves
+            → HasAccessed D.meaning most before self.new st a line asked g result.answer result.victims }
         ensures bounds { CanGoOn self.new }
-        ensures cause { (was : ℕ) → was ≤ D.faults (disk_of self.old) → (wrote ≡ Wrote.Failed → HasRisen was (D.faults (disk_of self.old)))
-            → HasCause was (D.faults (disk_of self.new)) (Ok result) }
+        ensures cause { (was : ℕ) → was ≤ D.meaning.faults (disk_of self.old) → (wrote ≡ Wrote.Failed → HasRisen was (D.meaning.faults (disk_of self.old)))
+            → HasCause was (D.meaning.faults (disk_of self.new)) (Ok result) }
     {
         match wrote {
             Wrote::Done => self.settle_again(alloc, session, txn, level, all, moves),
             Wrote::Full => {
                 drop(moves);
-                take_back(&mut self.sessions, txn, level, 0);
+                take_back(&mut self.sessions, txn, level, OwnCounts { len: 0, set: 0 });
                 self.abandon(session, txn);
                 told(alloc, Answer::LogFull)
             }
             Wrote::NoNumbers => {
                 drop(moves);
-                take_back(&mut self.sessions, txn, level, 0);
+                take_back(&mut self.sessions, txn, level, OwnCounts { len: 0, set: 0 });
                 self.abandon(session, txn);
                 told(alloc, Answer::IdsEnded)
             }
             Wrote::Failed => {
                 drop(moves);
-                undo_own(&mut self.sessions, txn, 0);
+                undo_own(&mut self.sessions, txn, OwnCounts { len: 0, set: 0 });
                 told(alloc, Answer::DiskFault)
             }
         }
@@ -122,12 +123,12 @@ impl<D: Disk> Environment<D> {
         moves: Option<Move>,
     ) -> Outcome
         requires written { (before : Environment D) × (most : ℕ) × (st : Standing) × (a : Transaction) × (asked : Asked) × (g : Target)
-            × HasWrittenAgain D.observable D.history D.sync_out D.read_out D.read_of most before self.old st session txn level a asked g all Wrote.Done }
+            × HasWrittenAgain D.meaning most before self.old st session txn level a asked g all Wrote.Done }
         ensures comes { (before : Environment D) (most line : ℕ) (st : Standing) (a : Transaction) (asked : Asked) (g : Target)
-            → HasWrittenAgain D.observable D.history D.sync_out D.read_out D.read_of most before self.old st session txn level a asked g all Wrote.Done → Moves session asked (outcome_of st a asked g).place moves
-            → HasAccessed D.observable D.history D.sync_out D.read_out D.read_of most before self.new st a line asked g result.answer result.victims }
+            → HasWrittenAgain D.meaning most before self.old st session txn level a asked g all Wrote.Done → Moves session asked (outcome_of st a asked g).place moves
+            → HasAccessed D.meaning most before self.new st a line asked g result.answer result.victims }
         ensures bounds { CanGoOn self.new }
-        ensures cause { HasCause (D.faults (disk_of self.old)) (D.faults (disk_of self.new)) (Ok result) }
+        ensures cause { HasCause (D.meaning.faults (disk_of self.old)) (D.meaning.faults (disk_of self.new)) (Ok result) }
     {
         let records = less(all, had_of(&self.written.by_txn, txn));
         match self.commit_own(txn, records) {
@@ -144,7 +145,7 @@ impl<D: Disk> Environment<D> {
             }
             Err(_) => {
                 drop(moves);
-                undo_own(&mut self.sessions, txn, 0);
+                undo_own(&mut self.sessions, txn, OwnCounts { len: 0, set: 0 });
                 told(alloc, Answer::DiskFault)
             }
         }

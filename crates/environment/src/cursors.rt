@@ -30,10 +30,10 @@ impl<D: Disk> Environment<D> {
         cursor: u8,
         db: &Word,
     ) -> Result<Answer, AllocError>
-        requires here { (most : ℕ) × (st : Standing) × StandsAt most D.observable D.history self.old st × AreSound st × (early_refusal st session (Open cursor db.now) ≡ None) }
+        requires here { (most : ℕ) × (st : Standing) × StandsAt most D.meaning self.old st × AreSound st × (early_refusal st session (Open cursor db.now) ≡ None) }
         requires bounds { CanGoOn self.old }
         requires valid { self.old.engine.kept.fault ≡ None }
-        ensures performs { PerformsAnswer D.observable D.history D.sync_out D.read_out D.read_of D.faults self.old self.new session (Open cursor db.now) result }
+        ensures performs { PerformsAnswer D.meaning self.old self.new session (Open cursor db.now) result }
     {
         let to_open = self.opening_of(alloc, session, cursor, db)?;
         self.open_unless(session, to_open)
@@ -46,10 +46,10 @@ impl<D: Disk> Environment<D> {
         cursor: u8,
         to: u8,
     ) -> Result<Answer, AllocError>
-        requires here { (most : ℕ) × (st : Standing) × StandsAt most D.observable D.history self.old st × AreSound st × (early_refusal st session (Dup cursor to) ≡ None) }
+        requires here { (most : ℕ) × (st : Standing) × StandsAt most D.meaning self.old st × AreSound st × (early_refusal st session (Dup cursor to) ≡ None) }
         requires bounds { CanGoOn self.old }
         requires valid { self.old.engine.kept.fault ≡ None }
-        ensures performs { PerformsAnswer D.observable D.history D.sync_out D.read_out D.read_of D.faults self.old self.new session (Dup cursor to) result }
+        ensures performs { PerformsAnswer D.meaning self.old self.new session (Dup cursor to) result }
     {
         let to_open = self.duplicate_of(session, cursor, to)?;
         self.open_unless(session, to_open)
@@ -57,10 +57,10 @@ impl<D: Disk> Environment<D> {
 
     // Closes a session's cursor.
     pub(crate) fn close_cursor(&mut self, session: u8, cursor: u8) -> Answer
-        requires here { (most : ℕ) × (st : Standing) × StandsAt most D.observable D.history self.old st × AreSound st × (early_refusal st session (Close cursor) ≡ None) }
+        requires here { (most : ℕ) × (st : Standing) × StandsAt most D.meaning self.old st × AreSound st × (early_refusal st session (Close cursor) ≡ None) }
         requires bounds { CanGoOn self.old }
         requires valid { self.old.engine.kept.fault ≡ None }
-        ensures performs { PerformsAnswer D.observable D.history D.sync_out D.read_out D.read_of D.faults self.old self.new session (Close cursor) (Ok result) }
+        ensures performs { PerformsAnswer D.meaning self.old self.new session (Close cursor) (Ok result) }
     {
         if let Some(refusal) = self.close_refusal(session, cursor) {
             self.draw(session);
@@ -78,9 +78,9 @@ impl<D: Disk> Environment<D> {
         cursor: u8,
         db: &Word,
     ) -> Result<ToOpen, AllocError>
-        requires here { (most : ℕ) × (st : Standing) × StandsAt most D.observable D.history self.now st }
+        requires here { (most : ℕ) × (st : Standing) × StandsAt most D.meaning self.now st }
         requires valid { self.now.engine.kept.fault ≡ None }
-        ensures { IfOk result (λ to_open. (most : ℕ) (st : Standing) → StandsAt most D.observable D.history self.now st → early_refusal st session (Open cursor db.now) ≡ None → IsToOpen st session (Open cursor db.now) to_open) }
+        ensures { IfOk result (λ to_open. (most : ℕ) (st : Standing) → StandsAt most D.meaning self.now st → early_refusal st session (Open cursor db.now) ≡ None → IsToOpen st session (Open cursor db.now) to_open) }
     {
         let databases = self.engine.kept.totals.databases;
         let Some(found) = find(&self.engine.trees, alloc, databases, db)? else {
@@ -104,7 +104,7 @@ impl<D: Disk> Environment<D> {
 
     // What refuses another cursor where one stands, or that cursor.
     fn duplicate_of(&self, session: u8, cursor: u8, to: u8) -> Result<ToOpen, AllocError>
-        ensures { IfOk result (λ to_open. (most : ℕ) (st : Standing) → StandsAt most D.observable D.history self.now st → IsToOpen st session (Dup cursor to) to_open) }
+        ensures { IfOk result (λ to_open. (most : ℕ) (st : Standing) → StandsAt most D.meaning self.now st → IsToOpen st session (Dup cursor to) to_open) }
     {
         if self.lacks_number(session) {
             return Ok(ToOpen::Refused(Answer::IdsEnded));
@@ -121,7 +121,7 @@ impl<D: Disk> Environment<D> {
 
     // What refuses to close a cursor.
     fn close_refusal(&self, session: u8, cursor: u8) -> Option<Answer>
-        ensures late { (most : ℕ) (st : Standing) → StandsAt most D.observable D.history self.now st → result ≡ late_refusal st session (Close cursor) }
+        ensures late { (most : ℕ) (st : Standing) → StandsAt most D.meaning self.now st → result ≡ late_refusal st session (Close cursor) }
         ensures calm { IfSome result IsCalm }
     {
         if self.lacks_number(session) {
@@ -135,14 +135,14 @@ impl<D: Disk> Environment<D> {
 
     // Opens the cursor that a call opens, unless it is refused.
     fn open_unless(&mut self, session: u8, to_open: ToOpen) -> Result<Answer, AllocError>
-        requires here { (call : Call) × (most : ℕ) × (st : Standing) × StandsAt most D.observable D.history self.old st × IsToOpen st session call to_open }
+        requires here { (call : Call) × (most : ℕ) × (st : Standing) × StandsAt most D.meaning self.old st × IsToOpen st session call to_open }
         requires bounds { CanGoOn self.old }
         requires valid { self.old.engine.kept.fault ≡ None }
-        ensures comes { (call : Call) (most : ℕ) (st : Standing) (line : ℕ) → StandsAt most D.observable D.history self.old st → IsToOpen st session call to_open
-            → ComesToAnswer D.observable D.history D.sync_out D.read_out D.read_of most self.old self.new st session line call result }
+        ensures comes { (call : Call) (most : ℕ) (st : Standing) (line : ℕ) → StandsAt most D.meaning self.old st → IsToOpen st session call to_open
+            → ComesToAnswer D.meaning most self.old self.new st session line call result }
         ensures near { OnErr result (IsWithin (reach_of self.new) (reach_of self.old)) }
         ensures bounds { CanGoOn self.new }
-        ensures cause { HasStepCause (D.faults (disk_of self.old)) (D.faults (disk_of self.new)) result }
+        ensures cause { HasStepCause (D.meaning.faults (disk_of self.old)) (D.meaning.faults (disk_of self.new)) result }
     {
         match to_open {
             ToOpen::Refused(refusal) => {

@@ -67,8 +67,8 @@ impl<D: Disk> Environment<D> {
 
     // Ends a session. Nothing is logged, and it takes no memory.
     pub(crate) fn leave(&mut self, session: u8)
-        ensures stands { (most : ℕ) (st : Standing) → StandsAt most D.observable D.history self.old st → (st.fault ≡ None → AreNumbered st.last_txn st.actives)
-            → StandsAt most D.observable D.history self.new (after_session session st) }
+        ensures stands { (most : ℕ) (st : Standing) → StandsAt most D.meaning self.old st → (st.fault ≡ None → AreNumbered st.last_txn st.actives)
+            → StandsAt most D.meaning self.new (after_session session st) }
         ensures log { IsUnchanged self.old.engine.trees.log self.new.engine.trees.log }
         ensures kept { self.new.engine.kept ≡ self.old.engine.kept }
         ensures near { (st : Standing) → AreSessionsAt self.old.sessions st → IsWithin (reach_of self.new) (reach_of self.old) }
@@ -83,13 +83,13 @@ impl<D: Disk> Environment<D> {
 
     /// Ends a session: its call that waits is withdrawn, and its transaction aborted. It takes no memory.
     pub fn end_session(&mut self, session: u8)
-        requires here { (most : ℕ) × (st : Standing) × IsAt most D.observable (now (D.history (disk_of self.old))) self.old st }
-        ensures goes_on { (most : ℕ) (st : Standing) → IsAt most D.observable (now (D.history (disk_of self.old))) self.old st
-            → HasDone most D.observable (now (D.history (disk_of self.new))) self.old self.new st (End session) }
-        ensures crash { D.observable ≡ true → (most : ℕ) (st : Standing) (start : History) (journal : List Event)
-            → IsAt most D.observable (now (D.history (disk_of self.old))) self.old (after_events st journal)
-            → IsGuarded most st start (D.history (disk_of self.old)) self.old journal
-            → IsGuarded most st start (D.history (disk_of self.new)) self.new (journal ++ End session ∷ []) }
+        requires here { (most : ℕ) × (st : Standing) × IsAt most D.meaning.observable (now (D.meaning.history (disk_of self.old))) self.old st }
+        ensures goes_on { (most : ℕ) (st : Standing) → IsAt most D.meaning.observable (now (D.meaning.history (disk_of self.old))) self.old st
+            → HasDone most D.meaning.observable (now (D.meaning.history (disk_of self.new))) self.old self.new st (End session) }
+        ensures crash { D.meaning.observable ≡ true → (most : ℕ) (st : Standing) (start : History) (journal : List Event)
+            → IsAt most D.meaning.observable (now (D.meaning.history (disk_of self.old))) self.old (after_events st journal)
+            → IsGuarded most st start (D.meaning.history (disk_of self.old)) self.old journal
+            → IsGuarded most st start (D.meaning.history (disk_of self.new)) self.new (journal ++ End session ∷ []) }
         ensures within { IsWithin (reach_of self.new) (reach_of self.old) }
         ensures bounds { CanGoOn self.old → CanGoOn self.new }
         ensures same_disk { disk_of self.new ≡ disk_of self.old }

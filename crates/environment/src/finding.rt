@@ -58,7 +58,7 @@ impl<D: Disk> Environment<D> {
     /// The database of that name in the committed store, until a fault came; None exactly where there is none. It takes
     /// no memory, and the time of a walk over the names of the databases.
     pub fn find_database(&self, name: &Word) -> Option<FoundDatabase>
-        ensures { (most : ℕ) (st : Standing) → IsAt most D.observable (now (D.history (disk_of self.now))) self.now st → st.fault ≡ None
+        ensures { (most : ℕ) (st : Standing) → IsAt most D.meaning.observable (now (D.meaning.history (disk_of self.now))) self.now st → st.fault ≡ None
             → IsFoundIn (rows_held self.now) (database_of name.now st.store) result }
     {
         match find_row(&self.engine.trees, name) {

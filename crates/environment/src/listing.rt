@@ -17,10 +17,10 @@ use txn_core::{Planned, plan};
 impl<D: Disk> Environment<D> {
     // Lists the databases.
     pub(crate) fn list(&mut self, alloc: Global, session: u8) -> Result<Answer, AllocError>
-        requires here { (most : ℕ) × (st : Standing) × StandsAt most D.observable D.history self.old st × AreSound st × (early_refusal st session (Lists) ≡ None) }
+        requires here { (most : ℕ) × (st : Standing) × StandsAt most D.meaning self.old st × AreSound st × (early_refusal st session (Lists) ≡ None) }
         requires bounds { CanGoOn self.old }
         requires valid { self.old.engine.kept.fault ≡ None }
-        ensures performs { PerformsAnswer D.observable D.history D.sync_out D.read_out D.read_of D.faults self.old self.new session (Lists) result }
+        ensures performs { PerformsAnswer D.meaning self.old self.new session (Lists) result }
     {
         if self.sessions.of_session(session).is_some() {
             return self.list_inside(alloc, session);
@@ -30,11 +30,11 @@ impl<D: Disk> Environment<D> {
 
     // In a transaction no number is drawn.
     fn list_inside(&self, alloc: Global, session: u8) -> Result<Answer, AllocError>
-        requires here { (most : ℕ) × (st : Standing) × StandsAt most D.observable D.history self.now st }
-        requires inside { (most : ℕ) (st : Standing) → StandsAt most D.observable D.history self.now st → is_some (active_of session st.actives) ≡ true }
+        requires here { (most : ℕ) × (st : Standing) × StandsAt most D.meaning self.now st }
+        requires inside { (most : ℕ) (st : Standing) → StandsAt most D.meaning self.now st → is_some (active_of session st.actives) ≡ true }
         requires bounds { CanGoOn self.now }
         requires valid { self.now.engine.kept.fault ≡ None }
-        ensures performs { PerformsAnswer D.observable D.history D.sync_out D.read_out D.read_of D.faults self.now self.now session Lists result }
+        ensures performs { PerformsAnswer D.meaning self.now self.now session Lists result }
     {
         match self.names(alloc) {
             Ok(answer) => Ok(answer),
@@ -44,11 +44,11 @@ impl<D: Disk> Environment<D> {
 
     // Outside one the call draws a number.
     fn list_outside(&mut self, alloc: Global, session: u8) -> Result<Answer, AllocError>
-        requires here { (most : ℕ) × (st : Standing) × StandsAt most D.observable D.history self.old st }
-        requires outside { (most : ℕ) (st : Standing) → StandsAt most D.observable D.history self.old st → is_some (active_of session st.actives) ≡ false }
+        requires here { (most : ℕ) × (st : Standing) × StandsAt most D.meaning self.old st }
+        requires outside { (most : ℕ) (st : Standing) → StandsAt most D.meaning self.old st → is_some (active_of session st.actives) ≡ false }
         requires bounds { CanGoOn self.old }
         requires valid { self.old.engine.kept.fault ≡ None }
-        ensures performs { PerformsAnswer D.observable D.history D.sync_out D.read_out D.read_of D.faults self.old self.new session Lists result }
+        ensures performs { PerformsAnswer D.meaning self.old self.new session Lists result }
     {
         let last = self.engine.kept.last_txn;
         if last >= LAST_TXN {
@@ -65,9 +65,9 @@ impl<D: Disk> Environment<D> {
 
     // The names of the databases, in order.
     fn names(&self, alloc: Global) -> Result<Answer, AllocError>
-        requires here { (most : ℕ) × (st : Standing) × StandsAt most D.observable D.history self.now st }
+        requires here { (most : ℕ) × (st : Standing) × StandsAt most D.meaning self.now st }
         requires valid { self.now.engine.kept.fault ≡ None }
-        ensures { (most : ℕ) (st : Standing) → StandsAt most D.observable D.history self.now st → IfOk result (λ answer. answer ≡ (evaluation Lists st.store).answer) }
+        ensures { (most : ℕ) (st : Standing) → StandsAt most D.meaning self.now st → IfOk result (λ answer. answer ≡ (evaluation Lists st.store).answer) }
     {
         let planned = plan(
             &self.engine.trees,

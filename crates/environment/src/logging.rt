@@ -53,8 +53,8 @@ impl<D: Disk> Environment<D> {
         requires new { AllByRecursion (λ c. IfSome c.makes (λ d. has_tree_of self.old.engine.trees d ≡ false)) changes.now }
         requires entries { AllByRecursion (λ c. IsEntry (entry_for txn c.db c.name c.value)) changes.now }
         ensures sessions { self.new.sessions ≡ self.old.sessions }
-        ensures writes { WritesAll D.observable D.history D.sync_out D.read_out D.read_of D.faults self.old self.new txn changes.now names.items owed result }
-        ensures never_falls { D.faults (disk_of self.old) ≤ D.faults (disk_of self.new) }
+        ensures writes { WritesAll D.meaning self.old self.new txn changes.now names.items owed result }
+        ensures never_falls { D.meaning.faults (disk_of self.old) ≤ D.meaning.faults (disk_of self.new) }
     {
         if may_lack(self.engine.kept.last_node, changes.len()) {
             return limit_of(&mut self.engine.trees, alloc, txn, changes, owed);

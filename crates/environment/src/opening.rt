@@ -50,15 +50,15 @@ impl<D: Disk> Environment<D> {
         requires file_max { config.now.file_max ≤ 1073741824 }
         requires least { 4 ≤ config.now.fanout }
         requires most { config.now.fanout ≤ 128 }
-        ensures opened { IfOk result (λ opened. IsOpened config.now.file_max D.observable (now (D.history disk)).reads (now (D.history (disk_of opened.environment))) opened.environment opened.opening) }
-        ensures crash { D.observable ≡ true → IfOk result (λ opened. IsOpenedSafely config.now.file_max (now (D.history disk)).reads opened.opening (D.history (disk_of opened.environment)) opened.environment) }
-        ensures entry { D.observable ≡ true → IfOk result (λ opened. KeepsEntry (D.history disk) (D.history (disk_of opened.environment))) }
+        ensures opened { IfOk result (λ opened. IsOpened config.now.file_max D.meaning.observable (now (D.meaning.history disk)).reads (now (D.meaning.history (disk_of opened.environment))) opened.environment opened.opening) }
+        ensures crash { D.meaning.observable ≡ true → IfOk result (λ opened. IsOpenedSafely config.now.file_max (now (D.meaning.history disk)).reads opened.opening (D.meaning.history (disk_of opened.environment)) opened.environment) }
+        ensures entry { D.meaning.observable ≡ true → IfOk result (λ opened. KeepsEntry (D.meaning.history disk) (D.meaning.history (disk_of opened.environment))) }
         ensures bounds { IfOk result (λ opened. CanGoOn opened.environment) }
-        ensures faults { IfOk result (λ opened. D.faults disk ≤ D.faults (disk_of opened.environment)) }
-        ensures stopped_entry { D.observable ≡ true → IfErr result (λ stopped. KeepsEntry (D.history disk) (D.history stopped.disk)) }
-        ensures stopped { IfErr result (λ stopped. StopsBy D.observable (now (D.history disk)).reads (D.faults disk) (D.faults stopped.disk) stopped.error) }
-        ensures stopped_faults { IfErr result (λ stopped. D.faults disk ≤ D.faults stopped.disk) }
-        ensures left_alone { D.observable ≡ true → IfErr result (λ stopped. IsLeftAlone stopped.error (D.history disk) (D.history stopped.disk)) }
+        ensures faults { IfOk result (λ opened. D.meaning.faults disk ≤ D.meaning.faults (disk_of opened.environment)) }
+        ensures stopped_entry { D.meaning.observable ≡ true → IfErr result (λ stopped. KeepsEntry (D.meaning.history disk) (D.meaning.history stopped.disk)) }
+        ensures stopped { IfErr result (λ stopped. StopsBy D.meaning.observable (now (D.meaning.history disk)).reads (D.meaning.faults disk) (D.meaning.faults stopped.disk) stopped.error) }
+        ensures stopped_faults { IfErr result (λ stopped. D.meaning.faults disk ≤ D.meaning.faults stopped.disk) }
+        ensures left_alone { D.meaning.observable ≡ true → IfErr result (λ stopped. IsLeftAlone stopped.error (D.meaning.history disk) (D.meaning.history stopped.disk)) }
     {
         match Engine::open(alloc, disk, config) {
             Ok(opened) => Ok(begun(alloc, opened)),

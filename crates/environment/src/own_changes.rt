@@ -10,50 +10,44 @@ ghost use Rattle.txn_views.specs.Laws.{own_name, own_names};
 ghost use Rattle.environment.specs.Writing.{has_record};
 
 use cursor_je::name_ref::name_ref;
-use je_order::{TxnId, copy_of};
-use record_map::Cell;
+use je_order::TxnId;
+use record_map::{Cell, SortKey};
 use record_tree::{Records, TreeChange, TreeName};
 use std::alloc::{AllocError, Global};
 use store_model::RecordChange;
 use txn_core::held_edge::held_name;
 use txn_core::reading::committed_in;
 
-fn copy_change(alloc: Global, db: u32, change: &RecordChange) -> Result<TreeChange, AllocError>
-    ensures { IfOk result (λ planned. planned ≡ tree_of (db, change.now)) }
+// A change of a record as what is logged of it.
+fn tree_change(alloc: Global, db: u32, change: RecordChange) -> Result<TreeChange, AllocError>
+    ensures { IfOk result (λ planned. planned ≡ tree_of (db, change)) }
 {
     match change {
-        RecordChange::Set { at, value } => {
-            let value = copy_of(value)?;
-            let name = held_name(alloc, name_ref(at))?;
-            Ok(TreeChange {
-                db,
-                name,
-                value: Some(value),
-                makes: None,
-            })
-        }
-        RecordChange::Unset { at } => {
-            let name = held_name(alloc, name_ref(at))?;
-            Ok(TreeChange {
-                db,
-                name,
-                value: None,
-                makes: None,
-            })
-        }
+        RecordChange::Set { at, value } => Ok(TreeChange {
+            db,
+            name: SortKey::new(alloc, at)?,
+            value: Some(value),
+            makes: None,
+        }),
+        RecordChange::Unset { at } => Ok(TreeChange {
+            db,
+            name: SortKey::new(alloc, at)?,
+            value: None,
+            makes: None,
+        }),
     }
 }
 
 // Changes, each with its database's number, as what is logged of them.
-pub(crate) fn copy_changes(
+pub(crate) fn tree_changes(
     alloc: Global,
-    changes: &[(u32, RecordChange)],
+    changes: Vec<(u32, RecordChange)>,
 ) -> Result<Vec<TreeChange>, AllocError>
-    ensures { IfOk result (λ planned. planned.items ≡ map tree_of changes.now) }
+    ensures { IfOk result (λ planned. planned.items ≡ map tree_of changes.items) }
 {
     let mut planned = Vec::new(alloc);
-    for change in changes {
-        planned.push(copy_change(alloc, change.0, &change.1)?)?;
+    'changes: for (db, change) in changes {
+        planned.push(tree_change(alloc, db, change)?)?;
     }
     Ok(planned)
 }

@@ -1,5 +1,6 @@
 // What a call changes that got its locks: pushed and logged, and how it ends.
 ghost use Rattle.std.specs.Prelude.{◌≡◌, ◌≢◌, ◌≤◌, ◌<◌, ◌^◌, ℕ, [], List as Lists, Option as Maybe, true, map, IfOk};
+ghost use Rattle.active_txns.specs.Own.{counted as counts_of};
 ghost use Rattle.std.specs.List.{AllByRecursion};
 ghost use Rattle.je_order.specs.Counts.{HasRisen};
 ghost use Rattle.je_order.specs.declared.name.Name.{Name as Named};
@@ -27,8 +28,9 @@ ghost use Rattle.environment.specs.Writing.{IsValidAt, MayWrite, WritesOwn};
 
 use crate::environment::Environment;
 use crate::moving::{Move, move_by};
-use crate::own_changes::{copy_changes, copy_names};
+use crate::own_changes::{copy_names, tree_changes};
 use crate::wrote::Wrote;
+use active_txns::{OwnCounts, counted};
 use je_disk::Disk;
 use je_order::TxnId;
 use record_tree::{Records, TreeChange, TreeName};
@@ -53,31 +55,41 @@ struct Copied {
     names: Vec<TreeName>,
 }
 
-fn copies_of(alloc: Global, changes: &[(u32, RecordChange)]) -> Result<Copied, AllocError>
-    ensures changes { IfOk result (λ copied. copied.changes.items ≡ map tree_of changes.now) }
-    ensures names { IfOk result (λ copied. copied.names.items ≡ own_names changes.now) }
+fn copied_of(alloc: Global, changes: Vec<(u32, RecordChange)>) -> Result<Copied, AllocError>
+    ensures changes { IfOk result (λ copied. copied.changes.items ≡ map tree_of changes.items) }
+    ensures names { IfOk result (λ copied. copied.names.items ≡ own_names changes.items) }
 {
-    let names = copy_names(alloc, changes)?;
-    let changes = copy_changes(alloc, changes)?;
-    Ok(Copied { changes, names })
+    match copy_names(alloc, changes.as_slice()) {
+        Ok(names) => match tree_changes(alloc, changes) {
+            Ok(changes) => Ok(Copied { changes, names }),
+            Err(error) => {
+                drop(names);
+                Err(error)
+            }
+        },
+        Err(error) => {
+            drop(changes);
+            Err(error)
+        }
+    }
 }
 
 // Takes back the changes of a call that is answered without them.
-pub(crate) fn take_back(sessions: &mut Sessions, txn: TxnId, level: Isolation, len: usize)
-    requires { (a : Transaction) × (needs : Lists Need) × (more : Lists (ℕ × Changed)) × (st : Standing) × (a.txn ≡ txn) × (a.level ≡ level) × HasPushed sessions.old a needs txn.0 more len st }
-    ensures { (a : Transaction) (needs : Lists Need) (more : Lists (ℕ × Changed)) (st : Standing) → a.txn ≡ txn → a.level ≡ level → HasPushed sessions.old a needs txn.0 more len st
+pub(crate) fn take_back(sessions: &mut Sessions, txn: TxnId, level: Isolation, counts: OwnCounts)
+    requires { (a : Transaction) × (needs : Lists Need) × (more : Lists (ℕ × Changed)) × (st : Standing) × (a.txn ≡ txn) × (a.level ≡ level) × HasPushed sessions.old a needs txn.0 more counts st }
+    ensures { (a : Transaction) (needs : Lists Need) (more : Lists (ℕ × Changed)) (st : Standing) → a.txn ≡ txn → a.level ≡ level → HasPushed sessions.old a needs txn.0 more counts st
         → AreSessionsAt sessions.new (with_locks a (all_got a.txn needs st.locks.at) st) }
 {
-    sessions.truncate_own(txn, len);
+    sessions.set_back_own(txn, counts);
     sessions.answered(txn, level, true);
 }
 
 // Takes back all of a call that is not answered after all.
-pub(crate) fn undo_own(sessions: &mut Sessions, txn: TxnId, len: usize)
-    requires { (a : Transaction) × (needs : Lists Need) × (more : Lists (ℕ × Changed)) × (st : Standing) × (a.txn ≡ txn) × HasPushed sessions.old a needs txn.0 more len st }
-    ensures { (a : Transaction) (needs : Lists Need) (more : Lists (ℕ × Changed)) (st : Standing) → a.txn ≡ txn → HasPushed sessions.old a needs txn.0 more len st → AreSessionsAt sessions.new st }
+pub(crate) fn undo_own(sessions: &mut Sessions, txn: TxnId, counts: OwnCounts)
+    requires { (a : Transaction) × (needs : Lists Need) × (more : Lists (ℕ × Changed)) × (st : Standing) × (a.txn ≡ txn) × HasPushed sessions.old a needs txn.0 more counts st }
+    ensures { (a : Transaction) (needs : Lists Need) (more : Lists (ℕ × Changed)) (st : Standing) → a.txn ≡ txn → HasPushed sessions.old a needs txn.0 more counts st → AreSessionsAt sessions.new st }
 {
-    sessions.truncate_own(txn, len);
+    sessions.set_back_own(txn, counts);
     sessions.give_up(txn);
 }
 
@@ -86,13 +98,13 @@ fn end_own(
     sessions: &mut Sessions,
     txn: TxnId,
     level: Isolation,
-    len: usize,
+    counts: OwnCounts,
     wrote: Wrote,
     moves: Option<Move>,
 )
-    requires { (a : Transaction) × (needs : Lists Need) × (more : Lists (ℕ × Changed)) × (st : Standing) × (a.txn ≡ txn) × (a.level ≡ level) × HasPushed sessions.old a needs txn.0 more len st }
+    requires { (a : Transaction) × (needs : Lists Need) × (more : Lists (ℕ × Changed)) × (st : Standing) × (a.txn ≡ txn) × (a.level ≡ level) × HasPushed sessions.old a needs txn.0 more counts st }
     ensures { (a : Transaction) (call : Asked) (place : Maybe Named) (needs : Lists Need) (more : Lists (ℕ × Changed)) (st : Standing) → a.txn ≡ txn → a.level ≡ level → Moves a.session call place moves
-        → HasPushed sessions.old a needs txn.0 more len st → AreEndedBy wrote sessions.new a call place needs more st }
+        → HasPushed sessions.old a needs txn.0 more counts st → AreEndedBy wrote sessions.new a call place needs more st }
 {
     match wrote {
         Wrote::Done => {
@@ -101,15 +113,15 @@ fn end_own(
         }
         Wrote::Full => {
             drop(moves);
-            take_back(sessions, txn, level, len);
+            take_back(sessions, txn, level, counts);
         }
         Wrote::NoNumbers => {
             drop(moves);
-            take_back(sessions, txn, level, len);
+            take_back(sessions, txn, level, counts);
         }
         Wrote::Failed => {
             drop(moves);
-            undo_own(sessions, txn, len);
+            undo_own(sessions, txn, counts);
         }
     }
 }
@@ -149,14 +161,14 @@ impl<D: Disk> Environment<D> {
 
     // Logs changes that are their transaction's own already, as they were copied for the trees.
     fn log_pushed(&mut self, alloc: Global, txn: TxnId, copied: Copied) -> Result<Wrote, AllocError>
-        requires can { (st : Standing) × (cs : Lists (Numbered × Changed)) × IsValidAt D.observable D.history self.old st × MayWrite st txn.0 cs × (copied.changes.items ≡ map tree_of (with_numbers cs)) }
+        requires can { (st : Standing) × (cs : Lists (Numbered × Changed)) × IsValidAt D.meaning self.old st × MayWrite st txn.0 cs × (copied.changes.items ≡ map tree_of (with_numbers cs)) }
         requires entries { AllByRecursion (λ c. IsEntry (entry_for txn c.db c.name c.value)) copied.changes.items }
         ensures sessions { self.new.sessions ≡ self.old.sessions }
-        ensures writes { (st : Standing) (cs : Lists (Numbered × Changed)) (a : Transaction) (needs : Lists Need) → IsValidAt D.observable D.history self.old st → MayWrite st txn.0 cs → active_number st.actives txn.0 ≡ true
+        ensures writes { (st : Standing) (cs : Lists (Numbered × Changed)) (a : Transaction) (needs : Lists Need) → IsValidAt D.meaning self.old st → MayWrite st txn.0 cs → active_number st.actives txn.0 ≡ true
             → self.old.engine.kept.last_db ≡ st.last_db → copied.changes.items ≡ map tree_of (with_numbers cs) → copied.names.items ≡ own_names (with_numbers cs) → HasTaken self.old.sessions true a needs (with_own txn.0 (with_numbers cs) st)
-            → WritesOwn D.observable D.history D.sync_out D.read_out D.read_of self.old self.new st txn.0 cs (owing (with_own txn.0 (with_numbers cs) st)) result }
-        ensures never_falls { D.faults (disk_of self.old) ≤ D.faults (disk_of self.new) }
-        ensures rose { IfOk result (λ wrote. wrote ≡ Wrote.Failed → HasRisen (D.faults (disk_of self.old)) (D.faults (disk_of self.new))) }
+            → WritesOwn D.meaning self.old self.new st txn.0 cs (owing (with_own txn.0 (with_numbers cs) st)) result }
+        ensures never_falls { D.meaning.faults (disk_of self.old) ≤ D.meaning.faults (disk_of self.new) }
+        ensures rose { IfOk result (λ wrote. wrote ≡ Wrote.Failed → HasRisen (D.meaning.faults (disk_of self.old)) (D.meaning.faults (disk_of self.new))) }
     {
         let Copied { changes, names } = copied;
         match self.owed() {
@@ -170,18 +182,18 @@ impl<D: Disk> Environment<D> {
         &mut self,
         alloc: Global,
         txn: TxnId,
-        changes: Vec<(u32, RecordChange)>,
+        counts: OwnCounts,
         copied: Copied,
     ) -> Result<Wrote, AllocError>
-        requires can { (st : Standing) × (cs : Lists (Numbered × Changed)) × IsValidAt D.observable D.history self.old st × MayWrite st txn.0 cs × (copied.changes.items ≡ map tree_of (with_numbers cs)) }
+        requires can { (st : Standing) × (cs : Lists (Numbered × Changed)) × IsValidAt D.meaning self.old st × MayWrite st txn.0 cs × (copied.changes.items ≡ map tree_of (with_numbers cs)) }
         requires entries { AllByRecursion (λ c. IsEntry (entry_for txn c.db c.name c.value)) copied.changes.items }
-        ensures writes { (st : Standing) (cs : Lists (Numbered × Changed)) (a : Transaction) (needs : Lists Need) → IsValidAt D.observable D.history self.old st → MayWrite st a.txn.0 cs → a.txn ≡ txn → active_number st.actives a.txn.0 ≡ true
-            → self.old.engine.kept.last_db ≡ st.last_db → changes.items ≡ with_numbers cs → copied.changes.items ≡ map tree_of (with_numbers cs) → copied.names.items ≡ own_names (with_numbers cs) → HasTaken self.old.sessions true a needs st
-            → HasPushedAndLogged D.observable D.history D.sync_out D.read_out D.read_of self.old self.new a needs st cs result }
-        ensures never_falls { D.faults (disk_of self.old) ≤ D.faults (disk_of self.new) }
-        ensures rose { IfOk result (λ wrote. wrote ≡ Wrote.Failed → HasRisen (D.faults (disk_of self.old)) (D.faults (disk_of self.new))) }
+        ensures writes { (st : Standing) (cs : Lists (Numbered × Changed)) (a : Transaction) (needs : Lists Need) → IsValidAt D.meaning self.old st → MayWrite st a.txn.0 cs → a.txn ≡ txn → active_number st.actives a.txn.0 ≡ true
+            → self.old.engine.kept.last_db ≡ st.last_db → counts ≡ counts_of (with_numbers cs) → copied.changes.items ≡ map tree_of (with_numbers cs) → copied.names.items ≡ own_names (with_numbers cs) → HasTaken self.old.sessions true a needs st
+            → HasPushedAndLogged D.meaning self.old self.new a needs st cs result }
+        ensures never_falls { D.meaning.faults (disk_of self.old) ≤ D.meaning.faults (disk_of self.new) }
+        ensures rose { IfOk result (λ wrote. wrote ≡ Wrote.Failed → HasRisen (D.meaning.faults (disk_of self.old)) (D.meaning.faults (disk_of self.new))) }
     {
-        match self.sessions.push_own(alloc, txn, changes) {
+        match self.sessions.push_own(txn, counts) {
             Ok(()) => self.log_pushed(alloc, txn, copied),
             Err(error) => {
                 drop(copied);
@@ -198,23 +210,21 @@ impl<D: Disk> Environment<D> {
         changes: Vec<(u32, RecordChange)>,
     ) -> Result<Wrote, AllocError>
         requires taken { (before : Environment D) × (most session : ℕ) × (st : Standing) × (a : Transaction) × (asked : Asked) × (g : Target) × (answer : Answered)
-            × IsTakenUp D.observable D.history most before self.old st session a asked g answer changes.items × (a.txn ≡ txn) }
+            × IsTakenUp D.meaning most before self.old st session a asked g answer changes.items × (a.txn ≡ txn) }
         requires some { changes.items ≢ [] }
         ensures writes { (before : Environment D) (most session : ℕ) (st : Standing) (a : Transaction) (asked : Asked) (g : Target) (answer : Answered)
-            → IsTakenUp D.observable D.history most before self.old st session a asked g answer changes.items → a.txn ≡ txn
-            → HasPushedAndLogged D.observable D.history D.sync_out D.read_out D.read_of self.old self.new a (needs_in st a asked g) st (changes_with st a g (outcome_of st a asked g).changes) result }
-        ensures never_falls { D.faults (disk_of self.old) ≤ D.faults (disk_of self.new) }
-        ensures rose { IfOk result (λ wrote. wrote ≡ Wrote.Failed → HasRisen (D.faults (disk_of self.old)) (D.faults (disk_of self.new))) }
+            → IsTakenUp D.meaning most before self.old st session a asked g answer changes.items → a.txn ≡ txn
+            → HasPushedAndLogged D.meaning self.old self.new a (needs_in st a asked g) st (changes_with st a g (outcome_of st a asked g).changes) result }
+        ensures never_falls { D.meaning.faults (disk_of self.old) ≤ D.meaning.faults (disk_of self.new) }
+        ensures rose { IfOk result (λ wrote. wrote ≡ Wrote.Failed → HasRisen (D.meaning.faults (disk_of self.old)) (D.meaning.faults (disk_of self.new))) }
     {
         self.engine.trees.are_ordered();
         number_fits(txn.0);
         db_fits(self.engine.kept.last_db);
-        match copies_of(alloc, changes.as_slice()) {
-            Ok(copied) => self.push_copied(alloc, txn, changes, copied),
-            Err(error) => {
-                drop(changes);
-                Err(error)
-            }
+        let counts = counted(changes.as_slice());
+        match copied_of(alloc, changes) {
+            Ok(copied) => self.push_copied(alloc, txn, counts, copied),
+            Err(error) => Err(error),
         }
     }
 
@@ -228,25 +238,25 @@ impl<D: Disk> Environment<D> {
         moves: Option<Move>,
     ) -> Result<Wrote, AllocError>
         requires taken { (before : Environment D) × (most session : ℕ) × (st : Standing) × (a : Transaction) × (asked : Asked) × (g : Target) × (answer : Answered)
-            × IsTakenUp D.observable D.history most before self.old st session a asked g answer changes.items × (a.txn ≡ txn) × (a.level ≡ level) }
+            × IsTakenUp D.meaning most before self.old st session a asked g answer changes.items × (a.txn ≡ txn) × (a.level ≡ level) }
         requires some { changes.items ≢ [] }
         requires bounds { CanGoOn self.old }
         ensures comes { (before : Environment D) (most session : ℕ) (st : Standing) (a : Transaction) (asked : Asked) (g : Target) (answer : Answered)
-            → IsTakenUp D.observable D.history most before self.old st session a asked g answer changes.items → Moves session asked (outcome_of st a asked g).place moves → a.txn ≡ txn → a.level ≡ level
-            → ComesUp D.observable D.history D.sync_out D.read_out D.read_of most before self.new st a asked g result }
+            → IsTakenUp D.meaning most before self.old st session a asked g answer changes.items → Moves session asked (outcome_of st a asked g).place moves → a.txn ≡ txn → a.level ≡ level
+            → ComesUp D.meaning most before self.new st a asked g result }
         ensures bounds { CanGoOn self.new }
-        ensures never_falls { D.faults (disk_of self.old) ≤ D.faults (disk_of self.new) }
-        ensures rose { IfOk result (λ wrote. wrote ≡ Wrote.Failed → HasRisen (D.faults (disk_of self.old)) (D.faults (disk_of self.new))) }
+        ensures never_falls { D.meaning.faults (disk_of self.old) ≤ D.meaning.faults (disk_of self.new) }
+        ensures rose { IfOk result (λ wrote. wrote ≡ Wrote.Failed → HasRisen (D.meaning.faults (disk_of self.old)) (D.meaning.faults (disk_of self.new))) }
     {
-        let len = self.sessions.own(txn).len();
+        let counts = self.sessions.own(txn);
         match self.push_and_log(alloc, txn, changes) {
             Ok(wrote) => {
-                end_own(&mut self.sessions, txn, level, len, wrote, moves);
+                end_own(&mut self.sessions, txn, level, counts, wrote, moves);
                 Ok(wrote)
             }
             Err(error) => {
                 drop(moves);
-                undo_own(&mut self.sessions, txn, len);
+                undo_own(&mut self.sessions, txn, counts);
                 Err(error)
             }
         }

@@ -35,14 +35,14 @@ impl<D: Disk> Environment<D> {
         call: &Call,
         resumed: bool,
     ) -> Result<Outcome, AllocError>
-        requires here { (most : ℕ) × (st : Standing) × StandsAt most D.observable D.history self.old st × AreSound st × (early_refusal st session call.now ≡ None) × MayCall st session resumed }
+        requires here { (most : ℕ) × (st : Standing) × StandsAt most D.meaning self.old st × AreSound st × (early_refusal st session call.now ≡ None) × MayCall st session resumed }
         requires bounds { CanGoOn self.old }
         requires valid { self.old.engine.kept.fault ≡ None }
-        ensures comes { (most : ℕ) (st : Standing) → StandsAt most D.observable D.history self.old st → AreSound st → early_refusal st session call.now ≡ None → MayCall st session resumed
-            → ComesTo D.observable D.history D.sync_out D.read_out D.read_of most self.old self.new st session line call.now result }
+        ensures comes { (most : ℕ) (st : Standing) → StandsAt most D.meaning self.old st → AreSound st → early_refusal st session call.now ≡ None → MayCall st session resumed
+            → ComesTo D.meaning most self.old self.new st session line call.now result }
         ensures near { OnErr result (IsWithin (reach_of self.new) (reach_of self.old)) }
         ensures bounds { CanGoOn self.new }
-        ensures cause { HasCause (D.faults (disk_of self.old)) (D.faults (disk_of self.new)) result }
+        ensures cause { HasCause (D.meaning.faults (disk_of self.old)) (D.meaning.faults (disk_of self.new)) result }
     {
         self.make(alloc, session, line, call, resumed)
     }
@@ -56,10 +56,10 @@ impl<D: Disk> Environment<D> {
         call: &Call,
         resumed: bool,
     ) -> Result<Outcome, AllocError>
-        requires here { (most : ℕ) × (st : Standing) × StandsAt most D.observable D.history self.old st × AreSound st × (early_refusal st session call.now ≡ None) × MayCall st session resumed }
+        requires here { (most : ℕ) × (st : Standing) × StandsAt most D.meaning self.old st × AreSound st × (early_refusal st session call.now ≡ None) × MayCall st session resumed }
         requires bounds { CanGoOn self.old }
         requires valid { self.old.engine.kept.fault ≡ None }
-        ensures performs { Performs D.observable D.history D.sync_out D.read_out D.read_of D.faults self.old self.new session line call.now resumed result }
+        ensures performs { Performs D.meaning self.old self.new session line call.now resumed result }
     {
         match call {
             Call::Begin {

@@ -33,8 +33,8 @@ impl<D: Disk> Environment<D> {
         call: &Call,
         at: Option<&Name>,
     ) -> Result<CallPlan, AllocError>
-        requires here { (st : Standing) × (a : Transaction) × (g : Target) × IsValidAt D.observable D.history self.now st × KnowsDatabases st self.now.engine.kept × AreSound st × IsOnDb st db.now found g × (g.at ≡ option_copied at) × (a.txn ≡ txn) × (a.level ≡ level) }
-        ensures { IfOk result (λ p. (st : Standing) (a : Transaction) (g : Target) → IsValidAt D.observable D.history self.now st → KnowsDatabases st self.now.engine.kept → AreSound st → IsOnDb st db.now found g → g.at ≡ option_copied at.entry → a.txn ≡ txn → a.level ≡ level
+        requires here { (st : Standing) × (a : Transaction) × (g : Target) × IsValidAt D.meaning self.now st × KnowsDatabases st self.now.engine.kept × AreSound st × IsOnDb st db.now found g × (g.at ≡ option_copied at) × (a.txn ≡ txn) × (a.level ≡ level) }
+        ensures { IfOk result (λ p. (st : Standing) (a : Transaction) (g : Target) → IsValidAt D.meaning self.now st → KnowsDatabases st self.now.engine.kept → AreSound st → IsOnDb st db.now found g → g.at ≡ option_copied at.entry → a.txn ≡ txn → a.level ≡ level
             → IsPlannedFor st a call.now g p) }
     {
         self.engine.trees.are_ordered();
@@ -56,8 +56,8 @@ impl<D: Disk> Environment<D> {
         found: FoundDb,
         call: &Call,
     ) -> Result<OutcomePlan, AllocError>
-        requires here { (st : Standing) × (a : Transaction) × (g : Target) × IsValidAt D.observable D.history self.now st × KnowsDatabases st self.now.engine.kept × AreSound st × IsOnDb st db.now found g × (g.at ≡ None) × (a.txn ≡ txn) × (a.level ≡ level) }
-        ensures { IfOk result (λ p. (st : Standing) (a : Transaction) (g : Target) → IsValidAt D.observable D.history self.now st → KnowsDatabases st self.now.engine.kept → AreSound st → IsOnDb st db.now found g → g.at ≡ None → a.txn ≡ txn → a.level ≡ level
+        requires here { (st : Standing) × (a : Transaction) × (g : Target) × IsValidAt D.meaning self.now st × KnowsDatabases st self.now.engine.kept × AreSound st × IsOnDb st db.now found g × (g.at ≡ None) × (a.txn ≡ txn) × (a.level ≡ level) }
+        ensures { IfOk result (λ p. (st : Standing) (a : Transaction) (g : Target) → IsValidAt D.meaning self.now st → KnowsDatabases st self.now.engine.kept → AreSound st → IsOnDb st db.now found g → g.at ≡ None → a.txn ≡ txn → a.level ≡ level
             → IsOutcomeIn st a call.now g p) }
     {
         self.engine.trees.are_ordered();

@@ -29,38 +29,38 @@ impl<D: Disk> Environment<D> {
     /// Goes on with a session's call that waited and may go on. Where memory runs out, the session is ended: its
     /// call is withdrawn, and its transaction aborted.
     pub fn resume(&mut self, alloc: Global, session: u8) -> Result<Outcome, AllocError>
-        requires here { (most : ℕ) × (st : Standing) × (line : ℕ) × IsAt most D.observable (now (D.history (disk_of self.old))) self.old st × MayResume st session line }
+        requires here { (most : ℕ) × (st : Standing) × (line : ℕ) × IsAt most D.meaning.observable (now (D.meaning.history (disk_of self.old))) self.old st × MayResume st session line }
         requires bounds { CanGoOn self.old }
-        ensures goes_on { (most : ℕ) (st : Standing) (line : ℕ) → IsAt most D.observable (now (D.history (disk_of self.old))) self.old st → MayResume st session line
-            → GoesOn most D.observable (now (D.history (disk_of self.new))) self.old self.new st (resumed_by session line) (after_event st (End session)) result }
-        ensures exact { (most : ℕ) (st : Standing) (line : ℕ) → IsAt most D.observable (now (D.history (disk_of self.old))) self.old st → MayResume st session line
+        ensures goes_on { (most : ℕ) (st : Standing) (line : ℕ) → IsAt most D.meaning.observable (now (D.meaning.history (disk_of self.old))) self.old st → MayResume st session line
+            → GoesOn most D.meaning.observable (now (D.meaning.history (disk_of self.new))) self.old self.new st (resumed_by session line) (after_event st (End session)) result }
+        ensures exact { (most : ℕ) (st : Standing) (line : ℕ) → IsAt most D.meaning.observable (now (D.meaning.history (disk_of self.old))) self.old st → MayResume st session line
             → IfOk result (λ o. (limit : Option Answered) × HasLimit self.old (owing_after st session) (written_resumed (wait_of session st.waiting) st session) limit × IsAnswered limit st (resumed_by session line o)) }
-        ensures numbered { (most : ℕ) (st : Standing) (line : ℕ) → IsAt most D.observable (now (D.history (disk_of self.old))) self.old st → MayResume st session line
+        ensures numbered { (most : ℕ) (st : Standing) (line : ℕ) → IsAt most D.meaning.observable (now (D.meaning.history (disk_of self.old))) self.old st → MayResume st session line
             → IfOk result (λ o. IsNumbered o.answer (after_event st (resumed_by session line o)).commits) }
-        ensures grows { (most : ℕ) (st : Standing) (line : ℕ) → IsAt most D.observable (now (D.history (disk_of self.old))) self.old st → MayResume st session line
+        ensures grows { (most : ℕ) (st : Standing) (line : ℕ) → IsAt most D.meaning.observable (now (D.meaning.history (disk_of self.old))) self.old st → MayResume st session line
             → IsWithin (reach_of self.new) (reach_after (reach_of self.old) (written_resumed (wait_of session st.waiting) st session)) }
         ensures bounds { CanGoOn self.new }
-        ensures crash { D.observable ≡ true → (most : ℕ) (st : Standing) (start : History) (journal : List Event) (line : ℕ)
-            → IsAt most D.observable (now (D.history (disk_of self.old))) self.old (after_events st journal) → MayResume (after_events st journal) session line
-            → IsGuarded most st start (D.history (disk_of self.old)) self.old journal
-            → GoesOnSafely most st start (D.history (disk_of self.new)) self.new journal (resumed_by session line) (journal ++ End session ∷ []) result }
-        ensures appends { (most : ℕ) (st : Standing) (line : ℕ) → IsAt most D.observable (now (D.history (disk_of self.old))) self.old st → MayResume st session line
-            → IfOk result (λ o. Appends D.observable D.history D.sync_out D.read_out D.read_of self.old self.new (written_resumed (wait_of session st.waiting) st session) (attempt_of st (resumed_by session line o)) o.answer) }
+        ensures crash { D.meaning.observable ≡ true → (most : ℕ) (st : Standing) (start : History) (journal : List Event) (line : ℕ)
+            → IsAt most D.meaning.observable (now (D.meaning.history (disk_of self.old))) self.old (after_events st journal) → MayResume (after_events st journal) session line
+            → IsGuarded most st start (D.meaning.history (disk_of self.old)) self.old journal
+            → GoesOnSafely most st start (D.meaning.history (disk_of self.new)) self.new journal (resumed_by session line) (journal ++ End session ∷ []) result }
+        ensures appends { (most : ℕ) (st : Standing) (line : ℕ) → IsAt most D.meaning.observable (now (D.meaning.history (disk_of self.old))) self.old st → MayResume st session line
+            → IfOk result (λ o. Appends D.meaning self.old self.new (written_resumed (wait_of session st.waiting) st session) (attempt_of st (resumed_by session line o)) o.answer) }
         ensures same_reach { OnErr result (IsWithin (reach_of self.new) (reach_of self.old)) }
-        ensures settles { (most : ℕ) (st : Standing) (line : ℕ) → IsAt most D.observable (now (D.history (disk_of self.old))) self.old st → MayResume st session line
+        ensures settles { (most : ℕ) (st : Standing) (line : ℕ) → IsAt most D.meaning.observable (now (D.meaning.history (disk_of self.old))) self.old st → MayResume st session line
             → SettlesBy st (resumed_by session line) (End session) result }
-        ensures cause { HasCause (D.faults (disk_of self.old)) (D.faults (disk_of self.new)) result }
+        ensures cause { HasCause (D.meaning.faults (disk_of self.old)) (D.meaning.faults (disk_of self.new)) result }
     {
         self.go_on(alloc, session)
     }
 
     // Goes on with a waiting call.
     fn go_on(&mut self, alloc: Global, session: u8) -> Result<Outcome, AllocError>
-        requires here { (most : ℕ) × (st : Standing) × (line : ℕ) × IsAt most D.observable (now (D.history (disk_of self.old))) self.old st × MayResume st session line }
+        requires here { (most : ℕ) × (st : Standing) × (line : ℕ) × IsAt most D.meaning.observable (now (D.meaning.history (disk_of self.old))) self.old st × MayResume st session line }
         requires bounds { CanGoOn self.old }
-        ensures resumes { ResumesCall D.observable D.history D.sync_out D.read_out D.read_of self.old self.new session result }
+        ensures resumes { ResumesCall D.meaning self.old self.new session result }
         ensures bounds { CanGoOn self.new }
-        ensures cause { HasCause (D.faults (disk_of self.old)) (D.faults (disk_of self.new)) result }
+        ensures cause { HasCause (D.meaning.faults (disk_of self.old)) (D.meaning.faults (disk_of self.new)) result }
     {
         if let Some(first) = self.engine.kept.fault {
             return Ok(self.resume_invalid(alloc, session, first));
@@ -71,7 +71,7 @@ impl<D: Disk> Environment<D> {
     // After a fault a waiting call is answered at once.
     fn resume_invalid(&mut self, alloc: Global, session: u8, first: Fault) -> Outcome
         requires fault { self.old.engine.kept.fault ≡ Some first }
-        ensures resumes { ResumesCall D.observable D.history D.sync_out D.read_out D.read_of self.old self.new session (Ok result) }
+        ensures resumes { ResumesCall D.meaning self.old self.new session (Ok result) }
         ensures answer { result.answer ≡ Answer.Invalid first }
         ensures kept { self.new.engine ≡ self.old.engine }
     {
@@ -82,12 +82,12 @@ impl<D: Disk> Environment<D> {
 
     // Goes on with a waiting call of a valid environment.
     fn resume_valid(&mut self, alloc: Global, session: u8) -> Result<Outcome, AllocError>
-        requires here { (most : ℕ) × (st : Standing) × (line : ℕ) × IsAt most D.observable (now (D.history (disk_of self.old))) self.old st × MayResume st session line }
+        requires here { (most : ℕ) × (st : Standing) × (line : ℕ) × IsAt most D.meaning.observable (now (D.meaning.history (disk_of self.old))) self.old st × MayResume st session line }
         requires bounds { CanGoOn self.old }
         requires valid { self.old.engine.kept.fault ≡ None }
-        ensures resumes { ResumesCall D.observable D.history D.sync_out D.read_out D.read_of self.old self.new session result }
+        ensures resumes { ResumesCall D.meaning self.old self.new session result }
         ensures bounds { CanGoOn self.new }
-        ensures cause { HasCause (D.faults (disk_of self.old)) (D.faults (disk_of self.new)) result }
+        ensures cause { HasCause (D.meaning.faults (disk_of self.old)) (D.meaning.faults (disk_of self.new)) result }
     {
         match self.sessions.forget(session) {
             Some(wait) => self.again(alloc, session, wait),
@@ -98,14 +98,14 @@ impl<D: Disk> Environment<D> {
     // Makes a call again that waited, and that the sessions no longer have among those that wait. Where memory runs out
     // its session is ended.
     fn again(&mut self, alloc: Global, session: u8, wait: Wait) -> Result<Outcome, AllocError>
-        requires here { (most : ℕ) × (st : Standing) × StandsAt most D.observable D.history self.old (resumed st wait) × MayGoOn st session wait }
+        requires here { (most : ℕ) × (st : Standing) × StandsAt most D.meaning self.old (resumed st wait) × MayGoOn st session wait }
         requires bounds { CanGoOn self.old }
         requires valid { self.old.engine.kept.fault ≡ None }
-        ensures again { (most : ℕ) (st : Standing) → StandsAt most D.observable D.history self.old (resumed st wait) → MayGoOn st session wait
-            → GoesAgain D.observable D.history D.sync_out D.read_out D.read_of most self.old self.new st wait session result }
+        ensures again { (most : ℕ) (st : Standing) → StandsAt most D.meaning self.old (resumed st wait) → MayGoOn st session wait
+            → GoesAgain D.meaning most self.old self.new st wait session result }
         ensures near { OnErr result (IsWithin (reach_of self.new) (reach_of self.old)) }
         ensures bounds { CanGoOn self.new }
-        ensures cause { HasCause (D.faults (disk_of self.old)) (D.faults (disk_of self.new)) result }
+        ensures cause { HasCause (D.meaning.faults (disk_of self.old)) (D.meaning.faults (disk_of self.new)) result }
     {
         let result = self.call_again(alloc, session, wait.line, &wait.call);
         drop(wait);
@@ -126,14 +126,14 @@ impl<D: Disk> Environment<D> {
         line: u32,
         call: &Call,
     ) -> Result<Outcome, AllocError>
-        requires here { (most : ℕ) × (st : Standing) × StandsAt most D.observable D.history self.old st × AreSound st × MayCall st session true }
+        requires here { (most : ℕ) × (st : Standing) × StandsAt most D.meaning self.old st × AreSound st × MayCall st session true }
         requires bounds { CanGoOn self.old }
         requires valid { self.old.engine.kept.fault ≡ None }
-        ensures comes { (most : ℕ) (st : Standing) → StandsAt most D.observable D.history self.old st → AreSound st → MayCall st session true
-            → CallsTo D.observable D.history D.sync_out D.read_out D.read_of most self.old self.new st session line call.now result }
+        ensures comes { (most : ℕ) (st : Standing) → StandsAt most D.meaning self.old st → AreSound st → MayCall st session true
+            → CallsTo D.meaning most self.old self.new st session line call.now result }
         ensures near { OnErr result (IsWithin (reach_of self.new) (reach_of self.old)) }
         ensures bounds { CanGoOn self.new }
-        ensures cause { HasCause (D.faults (disk_of self.old)) (D.faults (disk_of self.new)) result }
+        ensures cause { HasCause (D.meaning.faults (disk_of self.old)) (D.meaning.faults (disk_of self.new)) result }
     {
         if let Some(refusal) = self.sessions.early_refusal(None, session, call)? {
             return Ok(told(alloc, refusal));

@@ -41,8 +41,8 @@ pub(crate) fn write_changes<D: Disk>(
     requires few { AreFewNew (cells_of trees.old) changes.now }
     requires new { AllByRecursion (λ c. IfSome c.makes (λ d. has_tree_of trees.old d ≡ false)) changes.now }
     requires entries { AllByRecursion (λ c. IsEntry (entry_for txn c.db c.name c.value)) changes.now }
-    ensures writes { WritesTrees D.observable D.history D.sync_out D.read_out D.read_of D.faults trees.old trees.new txn changes.now owed result }
-    ensures never_falls { D.faults (disk_below trees.old.log) ≤ D.faults (disk_below trees.new.log) }
+    ensures writes { WritesTrees D.meaning trees.old trees.new txn changes.now owed result }
+    ensures never_falls { D.meaning.faults (disk_below trees.old.log) ≤ D.meaning.faults (disk_below trees.new.log) }
 {
     match trees.write_all(alloc, txn, changes, owed) {
         Ok(first) => Ok(TreesWrote::Done(lsn_or_none(first))),

@@ -123,7 +123,7 @@ impl<D: Disk> Environment<D> {
     // Begins a checkpoint.
     fn begin_checkpoint(&mut self, alloc: Global) -> Result<Answer, AllocError>
         ensures stays { HasStayed self.old self.new }
-        ensures begins { (st : Standing) → AreSessionsAt self.old.sessions st → BeginsTo D.observable D.history D.sync_out D.read_out D.read_of D.faults (owing st) self.old self.new result }
+        ensures begins { (st : Standing) → AreSessionsAt self.old.sessions st → BeginsTo D.meaning (owing st) self.old self.new result }
     {
         if self.engine.kept.checkpoints.is_under_way() {
             return Ok(Answer::InCheckpoint);
@@ -143,7 +143,7 @@ impl<D: Disk> Environment<D> {
     // Logs the next node of those that the checkpoint under way has noted and that are dirty.
     fn flush_node(&mut self, alloc: Global) -> Result<Answer, AllocError>
         ensures stays { HasStayed self.old self.new }
-        ensures flushes { (st : Standing) → AreSessionsAt self.old.sessions st → FlushesTo D.observable D.history D.sync_out D.read_out D.read_of D.faults (owing st) self.old self.new result }
+        ensures flushes { (st : Standing) → AreSessionsAt self.old.sessions st → FlushesTo D.meaning (owing st) self.old self.new result }
     {
         if !self.engine.kept.checkpoints.is_under_way() {
             return Ok(Answer::NoCheckpoint);
@@ -163,7 +163,7 @@ impl<D: Disk> Environment<D> {
     // Ends the checkpoint under way, if no node that it has noted is dirty.
     fn finish_checkpoint(&mut self, alloc: Global) -> Result<Answer, AllocError>
         ensures stays { HasStayed self.old self.new }
-        ensures finishes { (st : Standing) → AreSessionsAt self.old.sessions st → FinishesTo D.observable D.history D.sync_out D.read_out D.read_of D.faults (owing st) self.old self.new result }
+        ensures finishes { (st : Standing) → AreSessionsAt self.old.sessions st → FinishesTo D.meaning (owing st) self.old self.new result }
     {
         if !self.engine.kept.checkpoints.is_under_way() {
             return Ok(Answer::NoCheckpoint);
@@ -184,7 +184,7 @@ impl<D: Disk> Environment<D> {
     // Takes a step of maintenance, where no fault came before.
     fn take_step(&mut self, alloc: Global, step: Step) -> Result<Answer, AllocError>
         ensures stays { HasStayed self.old self.new }
-        ensures steps { (st : Standing) → AreSessionsAt self.old.sessions st → StepsTo D.observable D.history D.sync_out D.read_out D.read_of D.faults (owing st) self.old self.new step result }
+        ensures steps { (st : Standing) → AreSessionsAt self.old.sessions st → StepsTo D.meaning (owing st) self.old self.new step result }
     {
         match step {
             Step::Begin => self.begin_checkpoint(alloc),
@@ -198,22 +198,22 @@ impl<D: Disk> Environment<D> {
     /// noted and dirty; or ends it, where none is; a sync is to be made before its step. Each logs one entry at most, with room for the Commits that are owed. Where it has no room the answer is LogFull. Running out of memory
     /// leaves the environment as it was.
     pub fn turn(&mut self, alloc: Global, step: Step) -> Result<Answer, AllocError>
-        requires here { (most : ℕ) × (st : Standing) × IsAt most D.observable (now (D.history (disk_of self.old))) self.old st }
+        requires here { (most : ℕ) × (st : Standing) × IsAt most D.meaning.observable (now (D.meaning.history (disk_of self.old))) self.old st }
         requires bounds { CanGoOn self.old }
-        ensures goes_on { (most : ℕ) (st : Standing) (line : ℕ) → IsAt most D.observable (now (D.history (disk_of self.old))) self.old st
-            → TurnsTo most D.observable (now (D.history (disk_of self.new))) self.old self.new st line step result }
-        ensures steps { (most : ℕ) (st : Standing) → IsAt most D.observable (now (D.history (disk_of self.old))) self.old st → st.fault ≡ None
-            → StepsTo D.observable D.history D.sync_out D.read_out D.read_of D.faults (owing st) self.old self.new step result }
-        ensures grows { (most : ℕ) (st : Standing) (line : ℕ) → IsAt most D.observable (now (D.history (disk_of self.old))) self.old st
+        ensures goes_on { (most : ℕ) (st : Standing) (line : ℕ) → IsAt most D.meaning.observable (now (D.meaning.history (disk_of self.old))) self.old st
+            → TurnsTo most D.meaning.observable (now (D.meaning.history (disk_of self.new))) self.old self.new st line step result }
+        ensures steps { (most : ℕ) (st : Standing) → IsAt most D.meaning.observable (now (D.meaning.history (disk_of self.old))) self.old st → st.fault ≡ None
+            → StepsTo D.meaning (owing st) self.old self.new step result }
+        ensures grows { (most : ℕ) (st : Standing) (line : ℕ) → IsAt most D.meaning.observable (now (D.meaning.history (disk_of self.old))) self.old st
             → IfOk result (λ answer. IsWithin (reach_of self.new) (reach_behind (reach_of self.old) st (Turn line step answer))) }
-        ensures crash { D.observable ≡ true → (most : ℕ) (st : Standing) (start : History) (journal : List Event) (line : ℕ)
-            → IsAt most D.observable (now (D.history (disk_of self.old))) self.old (after_events st journal)
-            → IsGuarded most st start (D.history (disk_of self.old)) self.old journal
-            → TurnsSafely most st start (D.history (disk_of self.new)) self.new journal line step result }
+        ensures crash { D.meaning.observable ≡ true → (most : ℕ) (st : Standing) (start : History) (journal : List Event) (line : ℕ)
+            → IsAt most D.meaning.observable (now (D.meaning.history (disk_of self.old))) self.old (after_events st journal)
+            → IsGuarded most st start (D.meaning.history (disk_of self.old)) self.old journal
+            → TurnsSafely most st start (D.meaning.history (disk_of self.new)) self.new journal line step result }
         ensures same_reach { OnErr result (IsWithin (reach_of self.new) (reach_of self.old)) }
         ensures bounds { CanGoOn self.new }
-        ensures never_falls { D.faults (disk_of self.old) ≤ D.faults (disk_of self.new) }
-        ensures cause { result ≡ Ok Answer.DiskFault → HasRisen (D.faults (disk_of self.old)) (D.faults (disk_of self.new)) }
+        ensures never_falls { D.meaning.faults (disk_of self.old) ≤ D.meaning.faults (disk_of self.new) }
+        ensures cause { result ≡ Ok Answer.DiskFault → HasRisen (D.meaning.faults (disk_of self.old)) (D.meaning.faults (disk_of self.new)) }
     {
         if let Some(first) = self.engine.kept.fault {
             return Ok(Answer::Invalid { first });

@@ -16,17 +16,17 @@ use store_model::{Answer, Fault};
 impl<D: Disk> Environment<D> {
     /// Writes the log out to its files, so that the commits so far are in them. It takes no memory.
     pub fn write_out(&mut self) -> Answer
-        requires here { (most : ℕ) × (st : Standing) × IsAt most D.observable (now (D.history (disk_of self.old))) self.old st }
-        ensures goes_on { (most : ℕ) (st : Standing) → IsAt most D.observable (now (D.history (disk_of self.old))) self.old st
-            → HasDone most D.observable (now (D.history (disk_of self.new))) self.old self.new st (WriteOut result) }
-        ensures crash { D.observable ≡ true → (most : ℕ) (st : Standing) (start : History) (journal : List Event)
-            → IsAt most D.observable (now (D.history (disk_of self.old))) self.old (after_events st journal)
-            → IsGuarded most st start (D.history (disk_of self.old)) self.old journal
-            → IsGuarded most st start (D.history (disk_of self.new)) self.new (journal ++ WriteOut result ∷ []) }
+        requires here { (most : ℕ) × (st : Standing) × IsAt most D.meaning.observable (now (D.meaning.history (disk_of self.old))) self.old st }
+        ensures goes_on { (most : ℕ) (st : Standing) → IsAt most D.meaning.observable (now (D.meaning.history (disk_of self.old))) self.old st
+            → HasDone most D.meaning.observable (now (D.meaning.history (disk_of self.new))) self.old self.new st (WriteOut result) }
+        ensures crash { D.meaning.observable ≡ true → (most : ℕ) (st : Standing) (start : History) (journal : List Event)
+            → IsAt most D.meaning.observable (now (D.meaning.history (disk_of self.old))) self.old (after_events st journal)
+            → IsGuarded most st start (D.meaning.history (disk_of self.old)) self.old journal
+            → IsGuarded most st start (D.meaning.history (disk_of self.new)) self.new (journal ++ WriteOut result ∷ []) }
         ensures within { IsWithin (reach_of self.new) (reach_of self.old) }
         ensures bounds { CanGoOn self.old → CanGoOn self.new }
-        ensures never_falls { D.faults (disk_of self.old) ≤ D.faults (disk_of self.new) }
-        ensures cause { result ≡ Answer.DiskFault → HasRisen (D.faults (disk_of self.old)) (D.faults (disk_of self.new)) }
+        ensures never_falls { D.meaning.faults (disk_of self.old) ≤ D.meaning.faults (disk_of self.new) }
+        ensures cause { result ≡ Answer.DiskFault → HasRisen (D.meaning.faults (disk_of self.old)) (D.meaning.faults (disk_of self.new)) }
     {
         if let Some(first) = self.engine.kept.fault {
             return Answer::Invalid { first };

@@ -1,7 +1,8 @@
 -- A log that got one entry: the entry's LSN is behind all others, and not before this life of the environment.
-use Rattle.std.proofs.Common.{◌≡◌, ◌≤◌, ◌<◌, ◌-◌, ℕ, Bool, List, [], ◌∷◌, ◌++◌, Option, ap, sym, ◌∙◌, arith}
+use Rattle.std.proofs.Common.{◌≡◌, ◌≤◌, ◌<◌, ◌-◌, ℕ, List, [], ◌∷◌, ◌++◌, ap, sym, ◌∙◌, arith}
 use Rattle.std.specs.List.{AllByRecursion}
-use Rattle.je_disk.specs.Moments.{History, now}
+use Rattle.je_disk.specs.DiskMeaning.{DiskMeaning}
+use Rattle.je_disk.specs.Moments.{now}
 use Rattle.je_order.proofs.Lists.{all_weaker}
 use Rattle.log_entry.specs.declared.entry.Entry.{Entry}
 use Rattle.log_entry.specs.Encoding.{size_of}
@@ -17,9 +18,9 @@ use Rattle.log_trees.specs.Placed.{Placed, placed}
 use Rattle.crash_recovery.proofs.RisingLsns.{appended_rise, logs_lie_below}
 use Rattle.in_tree.specs.Limits.{GrewFitting}
 
-module _ {D : Type 0} (observable : Bool) (history : D → History) (sync_out read_out : D → Option ℕ) (read_of : D → ℕ) (faults : D → ℕ) where
+module _ {D : Type 0} (meaning : DiskMeaning D) where
   -- the log's entries with others behind them
-  pub more_placed : (x : LogBuffer D) (entries : List Entry) (log : Log) → HasLog observable (now (history (disk_of x))) x log →
+  pub more_placed : (x : LogBuffer D) (entries : List Entry) (log : Log) → HasLog meaning.observable (now (meaning.history (disk_of x))) x log →
       placed (longer x entries log) ≡ placed log ++ placed_by (file_max_of x) (end_of x) entries
   more_placed x entries log has = appended_are_placed log (end_of x) (last_of x) (file_max_of x) entries has.is_log has.ends
 
@@ -29,8 +30,8 @@ module _ {D : Type 0} (observable : Bool) (history : D → History) (sync_out re
     pub behind : AllByRecursion (λ p. p.0 < at) (placed log)
     pub begun : base ≤ at
 
-  pub is_appended : (x y : LogBuffer D) (e : Entry) (log : Log) (base at : ℕ) → GrewFitting observable history sync_out read_out read_of faults x y (e ∷ []) →
-      at ≡ pos_lsn (placed_at (file_max_of x) (end_of x) (size_of e)) → HasLog observable (now (history (disk_of x))) x log → base ≤ pos_lsn (end_of x) → IsAppended x e log base at
+  pub is_appended : (x y : LogBuffer D) (e : Entry) (log : Log) (base at : ℕ) → GrewFitting meaning x y (e ∷ []) →
+      at ≡ pos_lsn (placed_at (file_max_of x) (end_of x) (size_of e)) → HasLog meaning.observable (now (meaning.history (disk_of x))) x log → base ≤ pos_lsn (end_of x) → IsAppended x e log base at
   is_appended x y e log base at grew at_is has begun =
       let under = logs_lie_below log (end_of x) (last_of x) has.is_log has.ends in
       let some : 0 < pos_lsn (end_of x) - 1 = under.some in

@@ -5,7 +5,7 @@ use Rattle.std.specs.BTreeMap.{get}
 use Rattle.std.specs.List.{AllByRecursion}
 use Rattle.std.proofs.lemmas.Bool.{true≢false, eqb-true, ltb-true, ltb-false, lt-ltb, le-ltb}
 use Rattle.std.proofs.lemmas.List.{take_all}
-use Rattle.je_disk.specs.Moments.{History}
+use Rattle.je_disk.specs.DiskMeaning.{DiskMeaning}
 use Rattle.je_order.specs.declared.name.Name.{Name}
 use Rattle.je_order.specs.declared.txn_id.TxnId.{TxnId}
 use Rattle.log_entry.specs.declared.entry.Entry.{Entry}
@@ -158,22 +158,22 @@ module _ {D : Type 0} where
     files = subst (λ (n : ℕ). n ≤ 0xfffffffe) (sym (ap₂ (λ (m : ℕ) (e : LogPos). (end_after_all m e sizes).file) same.kept.max same.kept.end)) files;
   }
 
-  module _ (observable : Bool) (history : D → History) (sync_out read_out : D → Option ℕ) (read_of : D → ℕ) (faults : D → ℕ) where
+  module _ (meaning : DiskMeaning D) where
     pub grew_since : (txn : TxnId) (changes : List TreeChange) (old mid new : LogBuffer D) (images before between after : ℕ) → IsUnchanged old mid → images + between ≤ before + 129 * length changes → after ≤ between →
-        (a : List Entry) × LogsChanges txn changes a × GrewFitting observable history sync_out read_out read_of faults mid new a × (length a ≡ images + length changes) →
-        (a : List Entry) × LogsChanges txn changes a × GrewFitting observable history sync_out read_out read_of faults old new a × (length a + after ≤ before + most_entries (length changes))
+        (a : List Entry) × LogsChanges txn changes a × GrewFitting meaning mid new a × (length a ≡ images + length changes) →
+        (a : List Entry) × LogsChanges txn changes a × GrewFitting meaning old new a × (length a + after ≤ before + most_entries (length changes))
     grew_since txn changes old mid new images before between after same few less grew = (
       grew.0,
       grew.1,
-      fitting_then observable history sync_out read_out read_of faults old mid new [] grew.0 (fitting_unchanged observable history sync_out read_out read_of faults old mid same) grew.2,
+      fitting_then meaning old mid new [] grew.0 (fitting_unchanged meaning old mid same) grew.2,
       (let count = grew.3 in omega (arith, few, less, count)),
     )
 
     pub tried_since : (txn : TxnId) (changes : List TreeChange) (old mid new : LogBuffer D) → IsUnchanged old mid →
-        (a : List Entry) × (f : List Entry) × LogsChanges txn changes a × IsFront f a × TriedFitting observable history sync_out read_out read_of faults mid new f →
-        (a : List Entry) × (f : List Entry) × LogsChanges txn changes a × IsFront f a × TriedFitting observable history sync_out read_out read_of faults old new f
+        (a : List Entry) × (f : List Entry) × LogsChanges txn changes a × IsFront f a × TriedFitting meaning mid new f →
+        (a : List Entry) × (f : List Entry) × LogsChanges txn changes a × IsFront f a × TriedFitting meaning old new f
     tried_since txn changes old mid new same tried =
-        (tried.0, tried.1, tried.2, tried.3, fitting_tried observable history sync_out read_out read_of faults old mid new [] tried.1 (fitting_unchanged observable history sync_out read_out read_of faults old mid same) tried.4)
+        (tried.0, tried.1, tried.2, tried.3, fitting_tried meaning old mid new [] tried.1 (fitting_unchanged meaning old mid same) tried.4)
 
 -- ---- which limit is met
 
@@ -274,15 +274,15 @@ pub few_back : (fanout : ℕ) (changes : List TreeChange) (rooms slice : List Sl
 few_back fanout changes rooms slice old mid is placed = let even = ap (λ (l : List SlotRoom). length l) is in let same = placed_even fanout changes rooms old mid placed in omega (arith, even, same)
 
 -- a buffer that has failed tried to log nothing
-pub tried_none : {D : Type 0} (observable : Bool) (history : D → History) (sync_out read_out : D → Option ℕ) (read_of : D → ℕ) (faults : D → ℕ) (log : LogBuffer D) → has_failed log ≡ true → TriedFitting observable history sync_out read_out read_of faults log log []
-tried_none observable history sync_out read_out read_of faults log failed =
-    let grew = grew_none observable history sync_out read_out read_of log in
+pub tried_none : {D : Type 0} (meaning : DiskMeaning D) (log : LogBuffer D) → has_failed log ≡ true → TriedFitting meaning log log []
+tried_none meaning log failed =
+    let grew = grew_none meaning log in
     record { tried = record { crash = grew.crash; max = grew.max; failed = failed; jobs = grew.jobs }; fits = fits_none log; never_falls = omega arith; rose = λ works. absurd cc }
 
-pub tried_before : {D : Type 0} (observable : Bool) (history : D → History) (sync_out read_out : D → Option ℕ) (read_of : D → ℕ) (faults : D → ℕ) (txn : TxnId) (changes : List TreeChange) (log : LogBuffer D) → has_failed log ≡ true →
-    (a : List Entry) × (f : List Entry) × LogsChanges txn changes a × IsFront f a × TriedFitting observable history sync_out read_out read_of faults log log f
-tried_before observable history sync_out read_out read_of faults txn changes log failed =
-    (entries_of txn changes, [], logs_all txn changes, (entries_of txn changes, refl), tried_none observable history sync_out read_out read_of faults log failed)
+pub tried_before : {D : Type 0} (meaning : DiskMeaning D) (txn : TxnId) (changes : List TreeChange) (log : LogBuffer D) → has_failed log ≡ true →
+    (a : List Entry) × (f : List Entry) × LogsChanges txn changes a × IsFront f a × TriedFitting meaning log log f
+tried_before meaning txn changes log failed =
+    (entries_of txn changes, [], logs_all txn changes, (entries_of txn changes, refl), tried_none meaning log failed)
 
 pub ends_with : {X P : Type 0} (r : Result X TreeErr) (reason : TreeErr) → IsEndOf reason r P → {Q : Type 0} → (P → Q) → IsEndOf reason r Q
 ends_with (Ok x) reason h f = tt

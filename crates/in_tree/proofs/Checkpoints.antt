@@ -8,7 +8,7 @@ use Rattle.std.proofs.Math.Nat.{le_refl}
 use Rattle.std.proofs.lemmas.Option.{same_Some}
 use Rattle.std.proofs.lemmas.Bool.{true≢false, eqb-true, ltb-false, ne_eqb}
 use Rattle.je_order.specs.declared.name.Name.{Name}
-use Rattle.je_disk.specs.Moments.{History}
+use Rattle.je_disk.specs.DiskMeaning.{DiskMeaning}
 use Rattle.log_entry.specs.declared.entry.Entry.{Entry}
 use Rattle.log_entry.specs.declared.entry.Entry.TheVariants.{CkptStart, CkptEnd}
 use Rattle.log_file.specs.Scan.{may_follow}
@@ -170,27 +170,27 @@ plain_follows (CkptStart number) is = refl
 plain_follows (CkptEnd number start redo last_txn last_node last_db summary roots) is = refl
 plain_follows e is = absurd is
 
-module _ {D : Type 0} (observable : Bool) (history : D → History) (sync_out read_out : D → Option ℕ) (read_of : D → ℕ) (faults : D → ℕ) where
+module _ {D : Type 0} (meaning : DiskMeaning D) where
   -- an entry was logged of which the trees have nothing
-  pub plain_grows : (old new : LogBuffer D) (e : Entry) (at : ℕ) (before after : Trees) → HasGot observable history sync_out read_out read_of faults old new e at → is_start e ≡ false → after ≡ before →
-      TreesGrew observable history sync_out read_out read_of faults old new before.last_node after.last_node (trees_at before.forest) (trees_at after.forest) (e ∷ [])
+  pub plain_grows : (old new : LogBuffer D) (e : Entry) (at : ℕ) (before after : Trees) → HasGot meaning old new e at → is_start e ≡ false → after ≡ before →
+      TreesGrew meaning old new before.last_node after.last_node (trees_at before.forest) (trees_at after.forest) (e ∷ [])
   plain_grows old new e at before after got plain trees_same =
-      subst (λ (t : Trees). TreesGrew observable history sync_out read_out read_of faults old new before.last_node t.last_node (trees_at before.forest) (trees_at t.forest) (e ∷ [])) (sym trees_same) here
+      subst (λ (t : Trees). TreesGrew meaning old new before.last_node t.last_node (trees_at before.forest) (trees_at t.forest) (e ∷ [])) (sym trees_same) here
     where
       mid : LogBuffer D
       mid = got.mid
 
-      kept : GrewFitting observable history sync_out read_out read_of faults old mid []
-      kept = fitting_unchanged observable history sync_out read_out read_of faults old mid got.same
+      kept : GrewFitting meaning old mid []
+      kept = fitting_unchanged meaning old mid got.same
 
       Fits : LogFact
       Fits es base = ForestFits es base before.last_node (trees_at before.forest)
 
-      here : TreesGrew observable history sync_out read_out read_of faults old new before.last_node before.last_node (trees_at before.forest) (trees_at before.forest) (e ∷ [])
+      here : TreesGrew meaning old new before.last_node before.last_node (trees_at before.forest) (trees_at before.forest) (e ∷ [])
       here = record {
-        fitting = fitting_then observable history sync_out read_out read_of faults old mid new [] (e ∷ []) kept got.grew;
-        fits = carries_then observable history sync_out read_out read_of faults old mid [] (e ∷ []) Fits Fits Fits kept (λ log base has begun f. f)
-            (λ log base has begun f. (let a = is_appended observable history sync_out read_out read_of faults mid new e log base at got.grew got.at_is has begun in
+        fitting = fitting_then meaning old mid new [] (e ∷ []) kept got.grew;
+        fits = carries_then meaning old mid [] (e ∷ []) Fits Fits Fits kept (λ log base has begun f. f)
+            (λ log base has begun f. (let a = is_appended meaning mid new e log base at got.grew got.at_is has begun in
             subst (λ (es : List Placed). Fits es base) (sym a.is) (forest_stays (placed log) ((at, e) ∷ []) base before.last_node before.last_node (trees_at before.forest) (trees_at before.forest) none_due (le_refl before.last_node) (λ d. refl) (plain, tt) f)));
         still = λ none. absurd (some_entry e none);
       }
@@ -220,14 +220,14 @@ module _ {D : Type 0} (observable : Bool) (history : D → History) (sync_out re
       children_logged = below_logged tree.levels image.level image.low image.children.items alone.made.children alone.below
 
   pub alone_grows : (old mid new : LogBuffer D) (place : NodePlace) (image : NodeImage) (before after : Trees) (forest : Forest) → IsUnchanged old mid → IsAloneIn before.forest place image → after ≡ before →
-      LogsRoom observable history sync_out read_out read_of faults place.db (image ∷ []) mid new after.forest forest →
-      (e : Entry) × IsImage e × TreesGrew observable history sync_out read_out read_of faults old new before.last_node after.last_node (trees_at before.forest) (trees_at forest) (e ∷ [])
+      LogsRoom meaning place.db (image ∷ []) mid new after.forest forest →
+      (e : Entry) × IsImage e × TreesGrew meaning old new before.last_node after.last_node (trees_at before.forest) (trees_at forest) (e ∷ [])
   alone_grows old mid new place image before after forest same alone trees_same logs =
-      subst (λ (t : Trees). LogsRoom observable history sync_out read_out read_of faults place.db (image ∷ []) mid new t.forest forest →
-      (e : Entry) × IsImage e × TreesGrew observable history sync_out read_out read_of faults old new before.last_node t.last_node (trees_at before.forest) (trees_at forest) (e ∷ [])) (sym trees_same) by_logs logs
+      subst (λ (t : Trees). LogsRoom meaning place.db (image ∷ []) mid new t.forest forest →
+      (e : Entry) × IsImage e × TreesGrew meaning old new before.last_node t.last_node (trees_at before.forest) (trees_at forest) (e ∷ [])) (sym trees_same) by_logs logs
     where
-      kept : GrewFitting observable history sync_out read_out read_of faults old mid []
-      kept = fitting_unchanged observable history sync_out read_out read_of faults old mid same
+      kept : GrewFitting meaning old mid []
+      kept = fitting_unchanged meaning old mid same
 
       Fits : LogFact
       Fits es base = ForestFits es base before.last_node (trees_at before.forest)
@@ -254,33 +254,33 @@ module _ {D : Type 0} (observable : Bool) (history : D → History) (sync_out re
             alone_due es base f.home before.last_node d tree place image own (subst (λ (t : DbTree). IsAloneOf t place image) tree_is alone.2) (f.fits d tree there)
         by_test d tree there false is = f.fits d tree there
 
-      one_grows : (e : Entry) → GrewForest observable history sync_out read_out read_of faults mid new before.forest forest due none_due (e ∷ []) →
-          TreesGrew observable history sync_out read_out read_of faults old new before.last_node before.last_node (trees_at before.forest) (trees_at forest) (e ∷ [])
+      one_grows : (e : Entry) → GrewForest meaning mid new before.forest forest due none_due (e ∷ []) →
+          TreesGrew meaning old new before.last_node before.last_node (trees_at before.forest) (trees_at forest) (e ∷ [])
       one_grows e grew = record {
-        fitting = fitting_then observable history sync_out read_out read_of faults old mid new [] (e ∷ []) kept grew.fitting;
-        fits = carries_then observable history sync_out read_out read_of faults old mid [] (e ∷ []) Fits (λ es base. ForestDue es base before.last_node (trees_at before.forest) due) After kept (λ log base has begun f. owes (placed log) base f)
+        fitting = fitting_then meaning old mid new [] (e ∷ []) kept grew.fitting;
+        fits = carries_then meaning old mid [] (e ∷ []) Fits (λ es base. ForestDue es base before.last_node (trees_at before.forest) due) After kept (λ log base has begun f. owes (placed log) base f)
             (grew.fits before.last_node);
         still = λ none. absurd (some_entry e none);
       }
 
-      by_logs : LogsRoom observable history sync_out read_out read_of faults place.db (image ∷ []) mid new before.forest forest →
-          (e : Entry) × IsImage e × TreesGrew observable history sync_out read_out read_of faults old new before.last_node before.last_node (trees_at before.forest) (trees_at forest) (e ∷ [])
+      by_logs : LogsRoom meaning place.db (image ∷ []) mid new before.forest forest →
+          (e : Entry) × IsImage e × TreesGrew meaning old new before.last_node before.last_node (trees_at before.forest) (trees_at forest) (e ∷ [])
       by_logs l =
           let one = one_of l.0 (even_sizes l.0 (image ∷ []) l.2) in
-          let grew : GrewForest observable history sync_out read_out read_of faults mid new before.forest forest due none_due (one.0 ∷ []) =
-          subst (GrewForest observable history sync_out read_out read_of faults mid new before.forest forest due none_due) one.1 (l.3 none_due) in (
+          let grew : GrewForest meaning mid new before.forest forest due none_due (one.0 ∷ []) =
+          subst (GrewForest meaning mid new before.forest forest due none_due) one.1 (l.3 none_due) in (
             one.0,
             (subst AreImages one.1 l.1).0,
             one_grows one.0 grew,
           )
 
   -- the log failed with an image
-  pub alone_tried : (old mid new : LogBuffer D) → IsUnchanged old mid → TriesImage observable history sync_out read_out read_of faults mid new →
-      (image : Entry) × (front : List Entry) × IsImage image × IsFront front (image ∷ []) × TriedFitting observable history sync_out read_out read_of faults old new front
+  pub alone_tried : (old mid new : LogBuffer D) → IsUnchanged old mid → TriesImage meaning mid new →
+      (image : Entry) × (front : List Entry) × IsImage image × IsFront front (image ∷ []) × TriedFitting meaning old new front
   alone_tried old mid new same tries = (
     tries.0,
     tries.0 ∷ [],
     tries.1,
     ([], refl),
-    fitting_tried observable history sync_out read_out read_of faults old mid new [] (tries.0 ∷ []) (fitting_unchanged observable history sync_out read_out read_of faults old mid same) tries.2,
+    fitting_tried meaning old mid new [] (tries.0 ∷ []) (fitting_unchanged meaning old mid same) tries.2,
   )

@@ -9,7 +9,8 @@ use Rattle.std.proofs.lemmas.Bool.{true≢false, eq-eqb, eqb-true, ne_eqb, cond-
 use Rattle.std.proofs.lemmas.Option.{same_Some}
 use Rattle.std.specs.Option.{option_and_then}
 use Rattle.std.proofs.Math.Nat.{le_refl, le_trans}
-use Rattle.je_disk.specs.Moments.{History, now}
+use Rattle.je_disk.specs.DiskMeaning.{DiskMeaning}
+use Rattle.je_disk.specs.Moments.{now}
 use Rattle.je_order.specs.Order.{name_cmp}
 use Rattle.je_order.specs.declared.name.Name.{Name}
 use Rattle.je_order.specs.declared.txn_id.TxnId.{TxnId}
@@ -214,13 +215,13 @@ change_own es base at txn db name value le =
 pub some_entry : (e : Entry) → e ∷ [] ≡ [] → ⊥
 some_entry e none = absurd (omega (arith, ap length none))
 
-module _ {D : Type 0} (observable : Bool) (history : D → History) (sync_out read_out : D → Option ℕ) (read_of : D → ℕ) (faults : D → ℕ) where
-  pub image_logged : (old new : LogBuffer D) (before after : DbTree) (image : NodeImage) (at : ℕ) → GrewFitting observable history sync_out read_out read_of faults old new ((finished before.levels image).entry ∷ []) →
+module _ {D : Type 0} (meaning : DiskMeaning D) where
+  pub image_logged : (old new : LogBuffer D) (before after : DbTree) (image : NodeImage) (at : ℕ) → GrewFitting meaning old new ((finished before.levels image).entry ∷ []) →
       at ≡ pos_lsn (placed_at (file_max_of old) (end_of old) (size_of (finished before.levels image).entry)) → IsEntry (finished before.levels image).entry → is_start (finished before.levels image).entry ≡ false → HasNoted image at before after →
-      GrewTree observable history sync_out read_out read_of faults old new before after (image ∷ []) [] ((finished before.levels image).entry ∷ [])
+      GrewTree meaning old new before after (image ∷ []) [] ((finished before.levels image).entry ∷ [])
   image_logged old new before after image at grew at_is entry plain h = record {
     fitting = grew;
-    fits = λ home last d rest log base has begun is. (let a = is_appended observable history sync_out read_out read_of faults old new (finished before.levels image).entry log base at grew at_is has begun in
+    fits = λ home last d rest log base has begun is. (let a = is_appended meaning old new (finished before.levels image).entry log base at grew at_is has begun in
         let there = due_there_now (placed log) base home last d before image rest is.0 in
         subst (λ (es : List Placed). IsFitDue home last d after rest es base) (sym a.is) (
           image_noted (placed log) base home last d before after image rest at h a.behind a.begun entry is.0,
@@ -231,11 +232,11 @@ module _ {D : Type 0} (observable : Bool) (history : D → History) (sync_out re
 
   -- the same of the image as it was finished
   pub logs_image : (old new : LogBuffer D) (before after : DbTree) (image done : NodeImage) (at : ℕ) → done ≡ finished before.levels image → IsLoggable done.entry → size_of done.entry ≡ size_of image.entry →
-      GrewFitting observable history sync_out read_out read_of faults old new (done.entry ∷ []) → at ≡ pos_lsn (placed_at (file_max_of old) (end_of old) (size_of done.entry)) → HasNoted done at before after →
-      LogsImage observable history sync_out read_out read_of faults image old new before after
+      GrewFitting meaning old new (done.entry ∷ []) → at ≡ pos_lsn (placed_at (file_max_of old) (end_of old) (size_of done.entry)) → HasNoted done at before after →
+      LogsImage meaning image old new before after
   logs_image old new before after image done at is =
-      subst (λ (i : NodeImage). IsLoggable i.entry → size_of i.entry ≡ size_of image.entry → GrewFitting observable history sync_out read_out read_of faults old new (i.entry ∷ []) → at ≡ pos_lsn (placed_at (file_max_of old) (end_of old) (size_of i.entry)) →
-      HasNoted i at before after → LogsImage observable history sync_out read_out read_of faults image old new before after) (sym is)
+      subst (λ (i : NodeImage). IsLoggable i.entry → size_of i.entry ≡ size_of image.entry → GrewFitting meaning old new (i.entry ∷ []) → at ≡ pos_lsn (placed_at (file_max_of old) (end_of old) (size_of i.entry)) →
+      HasNoted i at before after → LogsImage meaning image old new before after) (sym is)
       (λ loggable size grew at_is h. (
         (finished before.levels image).entry,
         loggable.1,
@@ -246,7 +247,7 @@ module _ {D : Type 0} (observable : Bool) (history : D → History) (sync_out re
   -- ---- the images of a slot
 
   pub room_logged : (old new : LogBuffer D) (before after : Forest) (db : ℕ) (tree next : DbTree) (images : List NodeImage) (entries : List Entry) → Some tree ≡ get nat_cmp before db → Replaces before after db (Some next) →
-      next.cells ≡ tree.cells → AreImages entries → GrewTree observable history sync_out read_out read_of faults old new tree next images [] entries → GrewSlot observable history sync_out read_out read_of faults old new before after db images entries
+      next.cells ≡ tree.cells → AreImages entries → GrewTree meaning old new tree next images [] entries → GrewSlot meaning old new before after db images entries
   room_logged old new before after db tree next images entries was has cells plain grew due = record { fitting = grew.fitting; fits = λ last log base hl begun f. fits last log base hl begun f; still = λ none es base last f. still none es base last f } where
     more : List Placed
     more = placed_by (file_max_of old) (end_of old) entries
@@ -266,7 +267,7 @@ module _ {D : Type 0} (observable : Bool) (history : D → History) (sync_out re
             grew.still none es base f.home last db (due db)
             (subst (λ (l : List NodeImage). IsFitDue f.home last db tree (l ++ due db) es base) (due_here db images) (f.fits db tree (sym was), f.notes db tree (sym was)))
 
-    fits : (last : ℕ) (log : Log) (base : ℕ) → HasLog observable (now (history (disk_of old))) old log → base ≤ pos_lsn (end_of old) → ForestDue (placed log) base last (trees_at before) (λ d. due_one db images d ++ due d) →
+    fits : (last : ℕ) (log : Log) (base : ℕ) → HasLog meaning.observable (now (meaning.history (disk_of old))) old log → base ≤ pos_lsn (end_of old) → ForestDue (placed log) base last (trees_at before) (λ d. due_one db images d ++ due d) →
         ForestDue (placed (longer old entries log)) base last (trees_at after) due
     fits last log base hl begun f =
         subst (λ (es : List Placed). ForestDue es base last (trees_at after) due) (sym longer_is)
@@ -279,7 +280,7 @@ module _ {D : Type 0} (observable : Bool) (history : D → History) (sync_out re
         (λ t there. subst (λ (u : DbTree). HasNotes (placed log ++ more) base (due db) u.levels) (is_next before after db next t has there) here.1)).0)
       where
         longer_is : placed (longer old entries log) ≡ placed log ++ more
-        longer_is = more_placed observable history sync_out read_out read_of faults old entries log hl
+        longer_is = more_placed meaning old entries log hl
 
         here : IsFitDue f.home last db next (due db) (placed log ++ more) base
         here =
@@ -290,17 +291,17 @@ module _ {D : Type 0} (observable : Bool) (history : D → History) (sync_out re
   -- ---- a change
 
   pub change_written : (old new : LogBuffer D) (before after : Forest) (txn : TxnId) (db : ℕ) (name : Name) (value : Option (List ℕ)) (write : Box Write Global) (at : ℕ) →
-      GrewFitting observable history sync_out read_out read_of faults old new (entry_for txn db name value ∷ []) → at ≡ pos_lsn (placed_at (file_max_of old) (end_of old) (size_of (entry_for txn db name value))) →
+      GrewFitting meaning old new (entry_for txn db name value ∷ []) → at ≡ pos_lsn (placed_at (file_max_of old) (end_of old) (size_of (entry_for txn db name value))) →
       IsStepIn db (HasWritten name write) before after → write.value ≡ record { txn = txn; at = at; value = value } → (due : ℕ → List NodeImage) →
-      GrewForest observable history sync_out read_out read_of faults old new before after due due (entry_for txn db name value ∷ [])
+      GrewForest meaning old new before after due due (entry_for txn db name value ∷ [])
   change_written old new before after txn db name value write at grew at_is s write_is due = record { fitting = grew; fits = λ last log base hl begun f. fits last log base hl begun f; still = λ none. absurd (some_entry (entry_for txn db name value) none) } where
     entry : Entry
     entry = entry_for txn db name value
 
-    fits : (last : ℕ) (log : Log) (base : ℕ) → HasLog observable (now (history (disk_of old))) old log → base ≤ pos_lsn (end_of old) → ForestDue (placed log) base last (trees_at before) due →
+    fits : (last : ℕ) (log : Log) (base : ℕ) → HasLog meaning.observable (now (meaning.history (disk_of old))) old log → base ≤ pos_lsn (end_of old) → ForestDue (placed log) base last (trees_at before) due →
         ForestDue (placed (longer old (entry ∷ []) log)) base last (trees_at after) due
     fits last log base hl begun f =
-        let a = is_appended observable history sync_out read_out read_of faults old new entry log base at grew at_is hl begun in
+        let a = is_appended meaning old new entry log base at grew at_is hl begun in
         let es : List Placed = placed log ++ (at, entry) ∷ [] in
         let was = f.fits db s.tree s.was in
         subst (λ (l : List Placed). ForestDue l base last (trees_at after) due) (sym a.is)

@@ -9,7 +9,8 @@ use Rattle.std.specs.BTreeMap.{get}
 use Rattle.std.proofs.lemmas.Bool.{true≢false}
 use Rattle.std.proofs.lemmas.List.{append_assoc, length-map, map-append}
 use Rattle.std.proofs.lemmas.Option.{same_Some}
-use Rattle.je_disk.specs.Moments.{History, now}
+use Rattle.je_disk.specs.DiskMeaning.{DiskMeaning}
+use Rattle.je_disk.specs.Moments.{now}
 use Rattle.je_lsn.specs.Naming.{last_file}
 use Rattle.je_order.specs.declared.txn_id.TxnId.{TxnId}
 use Rattle.je_order.proofs.Lists.{all_weaker}
@@ -92,9 +93,9 @@ none_starts m p (e ∷ entries) all = (all.0, none_starts m (end_after m p (size
 
 -- ---- the log
 
-module _ {D : Type 0} (observable : Bool) (history : D → History) where
+module _ {D : Type 0} (meaning : DiskMeaning D) where
   -- entries that are appended to a log can follow its own
-  pub can_follow : (x : LogBuffer D) (entries : List Entry) (log : Log) (base : ℕ) → HasLog observable (now (history (disk_of x))) x log → Rattle.log_file.specs.Log.IsLog (longer x entries log) → base ≤ pos_lsn (end_of x) →
+  pub can_follow : (x : LogBuffer D) (entries : List Entry) (log : Log) (base : ℕ) → HasLog meaning.observable (now (meaning.history (disk_of x))) x log → Rattle.log_file.specs.Log.IsLog (longer x entries log) → base ≤ pos_lsn (end_of x) →
       (end_after_all (file_max_of x) (end_of x) (map size_of entries)).file ≤ last_file → CanFollow (placed log) base (file_max_of x) (end_of x) entries
   can_follow x entries log base has long begun files = record {
     behind = all_weaker (λ (p : Placed). p.0 < pos_lsn (end_of x) - 1) (λ p. AreBehind p.0 more) (λ p h. (rises p.0 (omega (arith, h))).0) (placed log) under.below;
@@ -148,9 +149,9 @@ cells_replaced old new db tree has d = by_number (level_cases d db)
 
 -- ---- the call
 
-module _ {D : Type 0} (observable : Bool) (history : D → History) (sync_out read_out : D → Option ℕ) (read_of : D → ℕ) (faults : D → ℕ) where
+module _ {D : Type 0} (meaning : DiskMeaning D) where
   module _ (txn : TxnId) (c : TreeChange) (rows : List TreeChange) (db owed : ℕ) (room : SlotRoom) (filled : Filled) (old ready new : LogTrees D) (makes : c.makes ≡ Some db) (fills : AreFilling (is_there old.trees.forest) (c ∷ rows))
-      (same : IsUnchanged old.log ready.log) (r : IsReadyToFill old ready txn c rows db owed room filled) (logged : IsLoggedNew observable history sync_out read_out read_of faults txn c rows db room filled ready new) where
+      (same : IsUnchanged old.log ready.log) (r : IsReadyToFill old ready txn c rows db owed room filled) (logged : IsLoggedNew meaning txn c rows db room filled ready new) where
     abbrev mid : LogTrees D
     mid = r.mid
 
@@ -214,11 +215,11 @@ module _ {D : Type 0} (observable : Bool) (history : D → History) (sync_out re
     abbrev rest : List Entry
     rest = entries_with txn rows filled.images.items
 
-    grew_first : GrewForest observable history sync_out read_out read_of faults ready.log logged.log ready.trees.forest logged.forest (λ d. due_one c.db room.images.items d ++ none_due d) none_due first
+    grew_first : GrewForest meaning ready.log logged.log ready.trees.forest logged.forest (λ d. due_one c.db room.images.items d ++ none_due d) none_due first
     grew_first = logged.first.3 none_due
 
-    kept : GrewFitting observable history sync_out read_out read_of faults old.log ready.log []
-    kept = fitting_unchanged observable history sync_out read_out read_of faults old.log ready.log same
+    kept : GrewFitting meaning old.log ready.log []
+    kept = fitting_unchanged meaning old.log ready.log same
 
     max_is : file_max_of mid.log ≡ file_max_of logged.log
     max_is = ap (λ (l : LogBuffer D). file_max_of l) r.log ∙ sym (grew_first.fitting.grew.max ∙ same.kept.max)
@@ -256,13 +257,13 @@ module _ {D : Type 0} (observable : Bool) (history : D → History) (sync_out re
     abbrev After : LogFact
     After es base = ForestFits es base new.trees.last_node (trees_at new.trees.forest)
 
-    rest_carries : Carries observable history logged.log rest (IsForestDue root logged.forest none_due) (λ es base. ForestFits es base new.trees.last_node (trees_at new.trees.forest))
+    rest_carries : Carries meaning logged.log rest (IsForestDue root logged.forest none_due) (λ es base. ForestFits es base new.trees.last_node (trees_at new.trees.forest))
     rest_carries log base has begun f =
         let own = own_home (placed log) base f in
         let more : List Placed = placed_by (file_max_of logged.log) (end_of logged.log) rest in
         let long = logged.rest.grew.log log has in
-        let fits = ahead (placed log) base f.home own small (can_follow observable history logged.log rest log base has long.is_log begun logged.rest.fits.room) in
-        subst (λ (es : List Placed). ForestFits es base new.trees.last_node (trees_at new.trees.forest)) (sym (more_placed observable history sync_out read_out read_of faults logged.log rest log has))
+        let fits = ahead (placed log) base f.home own small (can_follow meaning logged.log rest log base has long.is_log begun logged.rest.fits.room) in
+        subst (λ (es : List Placed). ForestFits es base new.trees.last_node (trees_at new.trees.forest)) (sym (more_placed meaning logged.log rest log has))
         (subst (λ (n : ℕ). ForestFits (placed log ++ more) base n (trees_at new.trees.forest)) (sym (logged.last ∙ r.up.last ∙ exact_is))
         (forest_step (placed log) more base root exact db (trees_at logged.forest) (trees_at new.trees.forest) none_due none_due fits.0 f fits.1 root_small
         (λ d away. others_away logged.forest new.trees.forest db (Some filled.tree) logged.has d away) (λ d away. refl)
@@ -302,15 +303,15 @@ module _ {D : Type 0} (observable : Bool) (history : D → History) (sync_out re
 
     -- ---- the whole
 
-    pub fill_grows : (a : List Entry) × LogsChanges txn (c ∷ rows) a × TreesGrew observable history sync_out read_out read_of faults old.log new.log (last_node_of old) (last_node_of new) (trees_of old) (trees_of new) a
+    pub fill_grows : (a : List Entry) × LogsChanges txn (c ∷ rows) a × TreesGrew meaning old.log new.log (last_node_of old) (last_node_of new) (trees_of old) (trees_of new) a
         × (length a + waits_in new.trees.forest ≤ waits_in old.trees.forest + most_entries (length (c ∷ rows)))
     fill_grows = (
       first ++ rest,
       (logged.first.0, rest, logged.first.1, append_assoc logged.first.0 (entry_for txn c.db c.name c.value ∷ []) rest, logs_with txn rows filled.images.items r.up.is_filled.paired r.up.is_filled.loggable),
       record {
-        fitting = fitting_then observable history sync_out read_out read_of faults old.log logged.log new.log first rest two logged.rest;
-        fits = carries_then observable history sync_out read_out read_of faults old.log logged.log first rest Before (IsForestDue root logged.forest none_due) After two
-            (carries_then observable history sync_out read_out read_of faults old.log ready.log [] first Before (IsForestDue root ready.trees.forest (λ d. due_one c.db room.images.items d ++ none_due d)) (IsForestDue root logged.forest none_due) kept
+        fitting = fitting_then meaning old.log logged.log new.log first rest two logged.rest;
+        fits = carries_then meaning old.log logged.log first rest Before (IsForestDue root logged.forest none_due) After two
+            (carries_then meaning old.log ready.log [] first Before (IsForestDue root ready.trees.forest (λ d. due_one c.db room.images.items d ++ none_due d)) (IsForestDue root logged.forest none_due) kept
             (λ log base has begun f. ready_due (placed log) base f) (grew_first.fits root))
             rest_carries;
         still = λ none. absurd (let empty = ap (λ (l : List Entry). length l) none in let all = length_more first rest in let own = length_more logged.first.0 (entry_for txn c.db c.name c.value ∷ []) in omega (arith, empty, all, own));
@@ -318,8 +319,8 @@ module _ {D : Type 0} (observable : Bool) (history : D → History) (sync_out re
       waits_few,
     )
       where
-        two : GrewFitting observable history sync_out read_out read_of faults old.log logged.log first
-        two = fitting_then observable history sync_out read_out read_of faults old.log ready.log logged.log [] first kept grew_first.fitting
+        two : GrewFitting meaning old.log logged.log first
+        two = fitting_then meaning old.log ready.log logged.log [] first kept grew_first.fitting
 
     pub fill_trees : (d : ℕ) → is_there new.trees.forest d ≡ (is_made d (c ∷ rows) || is_there old.trees.forest d)
     fill_trees d =

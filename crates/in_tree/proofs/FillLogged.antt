@@ -1,9 +1,9 @@
 -- Entries that were worked out before are logged, one after the other.
-use Rattle.std.proofs.Common.{◌≡◌, ◌+◌, ◌<◌, ◌++◌, ◌∙◌, ℕ, zero, suc, Bool, map, drop, get_or, length, List, [], ◌∷◌, Option, Vec, refl, ap, ap₂, sym, subst, arith}
+use Rattle.std.proofs.Common.{◌≡◌, ◌+◌, ◌<◌, ◌++◌, ◌∙◌, ℕ, zero, suc, map, drop, get_or, length, List, [], ◌∷◌, Vec, refl, ap, ap₂, sym, subst, arith}
 use Rattle.std.specs.Global.{Global}
 use Rattle.std.specs.List.{AllByRecursion}
 use Rattle.std.proofs.lemmas.List.{append_assoc, append-nil, map-append}
-use Rattle.je_disk.specs.Moments.{History}
+use Rattle.je_disk.specs.DiskMeaning.{DiskMeaning}
 use Rattle.je_order.specs.declared.txn_id.TxnId.{TxnId}
 use Rattle.log_entry.specs.Encoding.{size_of}
 use Rattle.log_entry.specs.declared.entry.Entry.{Entry}
@@ -33,38 +33,38 @@ with_next txn rows images i c own in_rows c_is in_images own_is = ap₂ (entries
 pub room_parts : {D : Type 0} (log : LogBuffer D) (a b : List Entry) (sizes : List ℕ) → HasRoomFor log (map size_of (a ++ b) ++ sizes) → HasRoomFor log (map size_of a ++ (map size_of b ++ sizes))
 room_parts log a b sizes room = subst (HasRoomFor log) (ap (λ (l : List ℕ). l ++ sizes) (map-append size_of a b) ∙ append_assoc (map size_of a) (map size_of b) sizes) room
 
-module _ {D : Type 0} (observable : Bool) (history : D → History) (sync_out read_out : D → Option ℕ) (read_of : D → ℕ) (faults : D → ℕ) where
+module _ {D : Type 0} (meaning : DiskMeaning D) where
   -- some entries were logged, and others are left
   pub record LogsLeft (old log : LogBuffer D) (all left : List Entry) : Type 0 where
     pub some_room : (sizes : List ℕ) × HasRoomFor log (map size_of left ++ sizes)
     pub room : (sizes : List ℕ) → HasRoomFor old (map size_of all ++ sizes) → HasRoomFor log (map size_of left ++ sizes)
     pub done : List Entry
     pub whole : done ++ left ≡ all
-    pub grew : GrewFitting observable history sync_out read_out read_of faults old log done
+    pub grew : GrewFitting meaning old log done
 
   pub logs_start : (log : LogBuffer D) (all : List Entry) → (sizes : List ℕ) × HasRoomFor log (map size_of all ++ sizes) → LogsLeft log log all all
-  logs_start log all some = record { some_room = some; room = λ sizes room. room; done = []; whole = refl; grew = fitting_none observable history sync_out read_out read_of faults log }
+  logs_start log all some = record { some_room = some; room = λ sizes room. room; done = []; whole = refl; grew = fitting_none meaning log }
 
-  pub logs_more : (old log new : LogBuffer D) (all a left : List Entry) → LogsLeft old log all (a ++ left) → GrewFitting observable history sync_out read_out read_of faults log new a →
+  pub logs_more : (old log new : LogBuffer D) (all a left : List Entry) → LogsLeft old log all (a ++ left) → GrewFitting meaning log new a →
       ((sizes : List ℕ) → HasRoomFor log (map size_of a ++ sizes) → HasRoomFor new sizes) → LogsLeft old new all left
   logs_more old log new all a left so_far grew room = record {
     some_room = (so_far.some_room.0, room (map size_of left ++ so_far.some_room.0) (room_parts log a left so_far.some_room.0 so_far.some_room.1));
     room = λ sizes for. room (map size_of left ++ sizes) (room_parts log a left sizes (so_far.room sizes for));
     done = so_far.done ++ a;
     whole = append_assoc so_far.done a left ∙ so_far.whole;
-    grew = fitting_then observable history sync_out read_out read_of faults old log new so_far.done a so_far.grew grew;
+    grew = fitting_then meaning old log new so_far.done a so_far.grew grew;
   }
 
-  pub logs_fail : (old log new : LogBuffer D) (all left front : List Entry) → LogsLeft old log all left → IsFront front left → TriedFitting observable history sync_out read_out read_of faults log new front →
-      (f : List Entry) × IsFront f all × TriedFitting observable history sync_out read_out read_of faults old new f
+  pub logs_fail : (old log new : LogBuffer D) (all left front : List Entry) → LogsLeft old log all left → IsFront front left → TriedFitting meaning log new front →
+      (f : List Entry) × IsFront f all × TriedFitting meaning old new f
   logs_fail old log new all left front so_far is tried = (
     so_far.done ++ front,
     (is.0, append_assoc so_far.done front is.0 ∙ ap (λ (l : List Entry). so_far.done ++ l) is.1 ∙ so_far.whole),
-    fitting_tried observable history sync_out read_out read_of faults old log new so_far.done front so_far.grew tried,
+    fitting_tried meaning old log new so_far.done front so_far.grew tried,
   )
 
-  pub logs_end : (old log : LogBuffer D) (all : List Entry) → LogsLeft old log all [] → GrewFitting observable history sync_out read_out read_of faults old log all
-  logs_end old log all so_far = subst (GrewFitting observable history sync_out read_out read_of faults old log) (sym (append-nil so_far.done) ∙ so_far.whole) so_far.grew
+  pub logs_end : (old log : LogBuffer D) (all : List Entry) → LogsLeft old log all [] → GrewFitting meaning old log all
+  logs_end old log all so_far = subst (GrewFitting meaning old log) (sym (append-nil so_far.done) ∙ so_far.whole) so_far.grew
 
   -- the entries of the next change, with the images before it as they are handed over
   pub logs_turn : (old log : LogBuffer D) (txn : TxnId) (rows : List TreeChange) (images : List (Vec Entry Global)) (i : ℕ) (c : TreeChange) (own : Vec Entry Global) (slice : List Entry) → i < length rows → c ≡ get_or rows i c →
@@ -106,10 +106,10 @@ logs_with txn (c ∷ rows) (own ∷ images) even all = (
 )
 
 -- a change that met a fault: the others were not logged
-pub first_tried : {D : Type 0} (observable : Bool) (history : D → History) (sync_out read_out : D → Option ℕ) (read_of : D → ℕ) (faults : D → ℕ) (txn : TxnId) (c : TreeChange) (rows : List TreeChange) (old new : LogBuffer D) →
-    TriesChange observable history sync_out read_out read_of faults txn c old new →
-    (entries : List Entry) × (front : List Entry) × LogsChanges txn (c ∷ rows) entries × IsFront front entries × TriedFitting observable history sync_out read_out read_of faults old new front
-first_tried observable history sync_out read_out read_of faults txn c rows old new tries = (
+pub first_tried : {D : Type 0} (meaning : DiskMeaning D) (txn : TxnId) (c : TreeChange) (rows : List TreeChange) (old new : LogBuffer D) →
+    TriesChange meaning txn c old new →
+    (entries : List Entry) × (front : List Entry) × LogsChanges txn (c ∷ rows) entries × IsFront front entries × TriedFitting meaning old new front
+first_tried meaning txn c rows old new tries = (
   tries.0 ++ entry_for txn c.db c.name c.value ∷ entries_of txn rows,
   tries.1,
   (tries.0, entries_of txn rows, tries.2, refl, logs_all txn rows),
@@ -118,18 +118,18 @@ first_tried observable history sync_out read_out read_of faults txn c rows old n
 )
 
 -- the others met a fault behind the first change
-pub rest_tried : {D : Type 0} (observable : Bool) (history : D → History) (sync_out read_out : D → Option ℕ) (read_of : D → ℕ) (faults : D → ℕ) (txn : TxnId) (c : TreeChange) (rows : List TreeChange) (due : List NodeImage) (images : List (Vec Entry Global))
-    (old mid new : LogBuffer D) (before after : Forest) → length images ≡ length rows → AreAllLoggable images → LogsChange observable history sync_out read_out read_of faults due txn c old mid before after →
-    (front : List Entry) × IsFront front (entries_with txn rows images) × TriedFitting observable history sync_out read_out read_of faults mid new front →
-    (entries : List Entry) × (front : List Entry) × LogsChanges txn (c ∷ rows) entries × IsFront front entries × TriedFitting observable history sync_out read_out read_of faults old new front
-rest_tried observable history sync_out read_out read_of faults txn c rows due images old mid new before after even all first tried =
+pub rest_tried : {D : Type 0} (meaning : DiskMeaning D) (txn : TxnId) (c : TreeChange) (rows : List TreeChange) (due : List NodeImage) (images : List (Vec Entry Global))
+    (old mid new : LogBuffer D) (before after : Forest) → length images ≡ length rows → AreAllLoggable images → LogsChange meaning due txn c old mid before after →
+    (front : List Entry) × IsFront front (entries_with txn rows images) × TriedFitting meaning mid new front →
+    (entries : List Entry) × (front : List Entry) × LogsChanges txn (c ∷ rows) entries × IsFront front entries × TriedFitting meaning old new front
+rest_tried meaning txn c rows due images old mid new before after even all first tried =
     let front : List Entry = first.0 ++ entry_for txn c.db c.name c.value ∷ [] in
     let rest : List Entry = entries_with txn rows images in (
       first.0 ++ entry_for txn c.db c.name c.value ∷ rest,
       front ++ tried.0,
       (first.0, rest, first.1, refl, logs_with txn rows images even all),
       (tried.1.0, append_assoc front tried.0 tried.1.0 ∙ ap (λ (l : List Entry). front ++ l) tried.1.1 ∙ append_assoc first.0 (entry_for txn c.db c.name c.value ∷ []) rest),
-      fitting_tried observable history sync_out read_out read_of faults old mid new front tried.0 (first.3 none_due).fitting tried.2,
+      fitting_tried meaning old mid new front tried.0 (first.3 none_due).fitting tried.2,
     )
 
 -- room for all is room for the first change and the others

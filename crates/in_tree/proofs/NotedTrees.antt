@@ -4,7 +4,7 @@ use Rattle.std.specs.Ordering.{nat_cmp}
 use Rattle.std.specs.BTreeMap.{get}
 use Rattle.std.proofs.lemmas.Option.{none-some, same_Some}
 use Rattle.std.proofs.Math.Nat.{le_refl}
-use Rattle.je_disk.specs.Moments.{History}
+use Rattle.je_disk.specs.DiskMeaning.{DiskMeaning}
 use Rattle.je_order.specs.declared.name.Name.{Name}
 use Rattle.log_entry.specs.declared.entry.Entry.{Entry}
 use Rattle.log_buffer.specs.declared.buffer.LogBuffer.{LogBuffer}
@@ -167,16 +167,16 @@ module _ (old new : Forest) (are : AreNotedTrees old new) where
 
 -- ---- over the log
 
-module _ {D : Type 0} (observable : Bool) (history : D → History) (sync_out read_out : D → Option ℕ) (read_of : D → ℕ) (faults : D → ℕ) where
+module _ {D : Type 0} (meaning : DiskMeaning D) where
   -- the log got an entry, and nodes of the trees were noted behind it
-  pub noted_behind : (x y z : LogTrees D) (entry : Entry) (at : ℕ) → HasGot observable history sync_out read_out read_of faults x.log y.log entry at → y.trees ≡ x.trees → AreNotedTrees y.trees.forest z.trees.forest →
-      z.trees.last_node ≡ y.trees.last_node → z.log ≡ y.log → GrewTrees observable history sync_out read_out read_of faults x z (entry ∷ [])
+  pub noted_behind : (x y z : LogTrees D) (entry : Entry) (at : ℕ) → HasGot meaning x.log y.log entry at → y.trees ≡ x.trees → AreNotedTrees y.trees.forest z.trees.forest →
+      z.trees.last_node ≡ y.trees.last_node → z.log ≡ y.log → GrewTrees meaning x z (entry ∷ [])
   noted_behind x y z entry at got trees are last log =
-      subst (λ (l : LogBuffer D). TreesGrew observable history sync_out read_out read_of faults x.log l x.trees.last_node z.trees.last_node (trees_at x.trees.forest) (trees_at z.trees.forest) (entry ∷ [])) (sym log)
-      (subst (λ (n : ℕ). TreesGrew observable history sync_out read_out read_of faults x.log y.log x.trees.last_node n (trees_at x.trees.forest) (trees_at z.trees.forest) (entry ∷ [])) (sym (last ∙ ap (λ (t : Trees). t.last_node) trees)) here)
+      subst (λ (l : LogBuffer D). TreesGrew meaning x.log l x.trees.last_node z.trees.last_node (trees_at x.trees.forest) (trees_at z.trees.forest) (entry ∷ [])) (sym log)
+      (subst (λ (n : ℕ). TreesGrew meaning x.log y.log x.trees.last_node n (trees_at x.trees.forest) (trees_at z.trees.forest) (entry ∷ [])) (sym (last ∙ ap (λ (t : Trees). t.last_node) trees)) here)
     where
-      kept : GrewFitting observable history sync_out read_out read_of faults x.log got.mid []
-      kept = fitting_unchanged observable history sync_out read_out read_of faults x.log got.mid got.same
+      kept : GrewFitting meaning x.log got.mid []
+      kept = fitting_unchanged meaning x.log got.mid got.same
 
       noted : AreNotedTrees x.trees.forest z.trees.forest
       noted = subst (λ (t : Trees). AreNotedTrees t.forest z.trees.forest) trees are
@@ -187,11 +187,11 @@ module _ {D : Type 0} (observable : Bool) (history : D → History) (sync_out re
       After : LogFact
       After es base = ForestFits es base x.trees.last_node (trees_at z.trees.forest)
 
-      here : TreesGrew observable history sync_out read_out read_of faults x.log y.log x.trees.last_node x.trees.last_node (trees_at x.trees.forest) (trees_at z.trees.forest) (entry ∷ [])
+      here : TreesGrew meaning x.log y.log x.trees.last_node x.trees.last_node (trees_at x.trees.forest) (trees_at z.trees.forest) (entry ∷ [])
       here = record {
-        fitting = fitting_then observable history sync_out read_out read_of faults x.log got.mid y.log [] (entry ∷ []) kept got.grew;
-        fits = carries_then observable history sync_out read_out read_of faults x.log got.mid [] (entry ∷ []) Before Before After kept (λ l base has begun f. f)
-            (λ l base has begun f. (let a = is_appended observable history sync_out read_out read_of faults got.mid y.log entry l base at got.grew got.at_is has begun in
+        fitting = fitting_then meaning x.log got.mid y.log [] (entry ∷ []) kept got.grew;
+        fits = carries_then meaning x.log got.mid [] (entry ∷ []) Before Before After kept (λ l base has begun f. f)
+            (λ l base has begun f. (let a = is_appended meaning got.mid y.log entry l base at got.grew got.at_is has begun in
             subst (λ (es : List Placed). After es base) (sym a.is) (noted_fits x.trees.forest z.trees.forest noted (placed l) ((at, entry) ∷ []) base x.trees.last_node f)));
         still = λ none. absurd (some_entry entry none);
       }

@@ -9,7 +9,7 @@ use Rattle.std.proofs.lemmas.Bool.{eq-eqb, eqb-true, cond-true}
 use Rattle.std.proofs.lemmas.List.{append-nil}
 use Rattle.std.proofs.lemmas.Option.{none-some}
 use Rattle.std.proofs.Math.Nat.{le_refl}
-use Rattle.je_disk.specs.Moments.{History}
+use Rattle.je_disk.specs.DiskMeaning.{DiskMeaning}
 use Rattle.je_order.specs.Order.{name_cmp}
 use Rattle.je_order.specs.declared.name.Name.{Name}
 use Rattle.je_order.specs.declared.txn_id.TxnId.{TxnId}
@@ -198,12 +198,12 @@ drop_fits es base last db old new gone f = record {
 
 -- ---- calls
 
-module _ {D : Type 0} (observable : Bool) (history : D → History) (sync_out read_out : D → Option ℕ) (read_of : D → ℕ) (faults : D → ℕ) where
+module _ {D : Type 0} (meaning : DiskMeaning D) where
   -- trees and their log are as they were
   pub trees_stay : (old new : LogBuffer D) (last later : ℕ) (before after : Forest) → IsUnchanged old new → IsSameForest before after → later ≡ last →
-      TreesGrew observable history sync_out read_out read_of faults old new last later (trees_at before) (trees_at after) []
+      TreesGrew meaning old new last later (trees_at before) (trees_at after) []
   trees_stay old new last later before after same trees last_is = record {
-    fitting = fitting_unchanged observable history sync_out read_out read_of faults old new same;
+    fitting = fitting_unchanged meaning old new same;
     fits = λ log base has begun f. subst (λ (n : ℕ). ForestFits (placed log) base n (trees_at after)) (sym last_is) (forest_same (placed log) base last (trees_at before) (trees_at after) none_due trees f);
     still = λ none es base f. subst (λ (n : ℕ). ForestFits es base n (trees_at after)) (sym last_is) (forest_same es base last (trees_at before) (trees_at after) none_due trees f);
   }
@@ -211,16 +211,16 @@ module _ {D : Type 0} (observable : Bool) (history : D → History) (sync_out re
   -- changes were made ready, and logged
   pub changes_grow : (txn : TxnId) (changes : List TreeChange) (rooms : List SlotRoom) (owed : ℕ) (old mid : LogTrees D) (new : LogBuffer D) (forest : Forest) (images before between after : ℕ) (first : Option ℕ) → IsUnchanged old.log mid.log →
       AreFewNew (cells_seen old.trees.forest) changes → IsReady old mid changes rooms owed → images + between ≤ before + 129 * length changes → after ≤ between →
-      (a : List Entry) × LogsChanges txn changes a × GrewForest observable history sync_out read_out read_of faults mid.log new mid.trees.forest forest (due_of changes rooms) none_due a × (length a ≡ images + length changes)
+      (a : List Entry) × LogsChanges txn changes a × GrewForest meaning mid.log new mid.trees.forest forest (due_of changes rooms) none_due a × (length a ≡ images + length changes)
       × (first ≡ first_in mid.log a) →
-      (a : List Entry) × LogsChanges txn changes a × TreesGrew observable history sync_out read_out read_of faults old.log new (last_node_of old) (last_node_of mid) (trees_of old) (trees_at forest) a
+      (a : List Entry) × LogsChanges txn changes a × TreesGrew meaning old.log new (last_node_of old) (last_node_of mid) (trees_of old) (trees_at forest) a
       × (length a + after ≤ before + most_entries (length changes)) × (first ≡ first_in old.log a)
   changes_grow txn changes rooms owed old mid new forest images before between after first same new_few ready few less grew = (
     grew.0,
     grew.1,
     record {
-      fitting = fitting_then observable history sync_out read_out read_of faults old.log mid.log new [] grew.0 kept grew.2.fitting;
-      fits = carries_then observable history sync_out read_out read_of faults old.log mid.log [] grew.0 (IsForestDue (last_node_of old) old.trees.forest none_due) (IsForestDue (last_node_of mid) mid.trees.forest (due_of changes rooms))
+      fitting = fitting_then meaning old.log mid.log new [] grew.0 kept grew.2.fitting;
+      fits = carries_then meaning old.log mid.log [] grew.0 (IsForestDue (last_node_of old) old.trees.forest none_due) (IsForestDue (last_node_of mid) mid.trees.forest (due_of changes rooms))
           (IsForestDue (last_node_of mid) forest none_due) kept (λ log base has begun f. ready.fits (placed log) base new_few f) (grew.2.fits (last_node_of mid));
       still = λ none es base f. grew.2.still none es base (last_node_of mid) (ready.fits es base new_few f);
     },
@@ -228,16 +228,16 @@ module _ {D : Type 0} (observable : Bool) (history : D → History) (sync_out re
     grew.4 ∙ ap₂ (λ (m : ℕ) (end : LogPos). first_change (placed_by m end grew.0)) same.kept.max same.kept.end,
   )
     where
-      kept : GrewFitting observable history sync_out read_out read_of faults old.log mid.log []
-      kept = fitting_unchanged observable history sync_out read_out read_of faults old.log mid.log same
+      kept : GrewFitting meaning old.log mid.log []
+      kept = fitting_unchanged meaning old.log mid.log same
 
   -- a Commit was logged, and its names committed
-  pub commit_grows : (t : TxnId) (at : ℕ) (names : List TreeName) (old new : LogBuffer D) (last : ℕ) (before after : Forest) → GrewFitting observable history sync_out read_out read_of faults old new (Commit t ∷ []) →
+  pub commit_grows : (t : TxnId) (at : ℕ) (names : List TreeName) (old new : LogBuffer D) (last : ℕ) (before after : Forest) → GrewFitting meaning old new (Commit t ∷ []) →
       at ≡ pos_lsn (placed_at (file_max_of old) (end_of old) (size_of (Commit t))) → AreFree t before names → MakesSteps (CommitsName at) names before after →
-      TreesGrew observable history sync_out read_out read_of faults old new last last (trees_at before) (trees_at after) (Commit t ∷ [])
+      TreesGrew meaning old new last last (trees_at before) (trees_at after) (Commit t ∷ [])
   commit_grows t at names old new last before after grew at_is free steps = record {
     fitting = grew;
-    fits = λ log base has begun f. (let a = is_appended observable history sync_out read_out read_of faults old new (Commit t) log base at grew at_is has begun in
+    fits = λ log base has begun f. (let a = is_appended meaning old new (Commit t) log base at grew at_is has begun in
         subst (λ (es : List Placed). ForestFits es base last (trees_at after)) (sym a.is)
         (commits_fit (placed log ++ (at, Commit t) ∷ []) base last at t names before after steps free (commit_last (placed log) at t a.behind) (λ d x. commit_latest (placed log) base at t d x a.begun)
         (λ start started lsn changed. late_committed (placed log) base start at lsn t (begun_before (placed log) base start at a.behind (begun_back (placed log) ((at, Commit t) ∷ []) base start (refl, tt) started)) changed)
@@ -247,18 +247,18 @@ module _ {D : Type 0} (observable : Bool) (history : D → History) (sync_out re
 
   -- names were given up
   pub abort_grows : (names : List TreeName) (log : LogBuffer D) (last : ℕ) (before after : Forest) → MakesSteps GivesUpName names before after →
-      TreesGrew observable history sync_out read_out read_of faults log log last last (trees_at before) (trees_at after) []
+      TreesGrew meaning log log last last (trees_at before) (trees_at after) []
   abort_grows names log last before after steps = record {
-    fitting = fitting_none observable history sync_out read_out read_of faults log;
+    fitting = fitting_none meaning log;
     fits = λ l base has begun f. aborts_fit (placed l) base last names before after steps f;
     still = λ none es base f. aborts_fit es base last names before after steps f;
   }
 
   -- a tree was taken out
   pub drop_grows : (db : ℕ) (log : LogBuffer D) (last : ℕ) (before after : Forest) → ((d : ℕ) → get nat_cmp after d ≡ cond (d == db) None (get nat_cmp before d)) →
-      TreesGrew observable history sync_out read_out read_of faults log log last last (trees_at before) (trees_at after) []
+      TreesGrew meaning log log last last (trees_at before) (trees_at after) []
   drop_grows db log last before after gone = record {
-    fitting = fitting_none observable history sync_out read_out read_of faults log;
+    fitting = fitting_none meaning log;
     fits = λ l base has begun f. drop_fits (placed l) base last db before after gone f;
     still = λ none es base f. drop_fits es base last db before after gone f;
   }

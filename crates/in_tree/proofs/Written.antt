@@ -5,7 +5,7 @@ use Rattle.std.specs.List.{AllByRecursion}
 use Rattle.std.specs.Option.{option_or}
 use Rattle.std.proofs.lemmas.List.{append_assoc, append-nil, drop_all, length-map, map-append, reverse-append}
 use Rattle.std.proofs.lemmas.List.Folds.{find-append}
-use Rattle.je_disk.specs.Moments.{History}
+use Rattle.je_disk.specs.DiskMeaning.{DiskMeaning}
 use Rattle.je_order.specs.Order.{name_cmp}
 use Rattle.je_order.specs.declared.name.Name.{Name}
 use Rattle.je_order.specs.declared.txn_id.TxnId.{TxnId}
@@ -217,13 +217,13 @@ first_alone (Some x) = refl
 pub even_sizes : (a : List Entry) (images : List NodeImage) → map size_of a ≡ sizes_in images → length a ≡ length images
 even_sizes a images same = sym (length-map a size_of) ∙ ap (λ (l : List ℕ). length l) same ∙ length-map images (λ (i : NodeImage). size_of i.entry)
 
-module _ {D : Type 0} (observable : Bool) (history : D → History) (sync_out read_out : D → Option ℕ) (read_of : D → ℕ) (faults : D → ℕ) where
+module _ {D : Type 0} (meaning : DiskMeaning D) where
   -- some images were logged, and those that are left were not
   pub record ImagesLeft (old log : LogBuffer D) (before tree : DbTree) (images left : List NodeImage) : Type 0 where
     pub loggable : AllByRecursion (λ i. IsLoggable i.entry) left
     pub some_room : (sizes : List ℕ) × HasRoomFor log (map (λ i. size_of i.entry) left ++ sizes)
     pub room : (sizes : List ℕ) → HasRoomFor old (map (λ i. size_of i.entry) images ++ sizes) → HasRoomFor log (map (λ i. size_of i.entry) left ++ sizes)
-    pub done : (a : List Entry) × AreImages a × (map size_of a ++ sizes_in left ≡ sizes_in images) × GrewTree observable history sync_out read_out read_of faults old log before tree images left a
+    pub done : (a : List Entry) × AreImages a × (map size_of a ++ sizes_in left ≡ sizes_in images) × GrewTree meaning old log before tree images left a
     pub cells : tree.cells ≡ before.cells
     pub waits : count_waiting (shape_in tree) ≤ count_waiting (shape_in before)
 
@@ -231,13 +231,13 @@ module _ {D : Type 0} (observable : Bool) (history : D → History) (sync_out re
       ImagesLeft log log tree tree images left
   images_begin log tree images left is loggable some =
       subst (λ (l : List NodeImage). ImagesLeft log log tree tree images l) (sym is)
-      (record { loggable = loggable; some_room = some; room = λ sizes for. for; done = ([], tt, refl, grew_tree_none observable history sync_out read_out read_of faults log tree images); cells = refl; waits = le_refl (count_waiting (shape_in tree)) })
+      (record { loggable = loggable; some_room = some; room = λ sizes for. for; done = ([], tt, refl, grew_tree_none meaning log tree images); cells = refl; waits = le_refl (count_waiting (shape_in tree)) })
 
   pub images_turn : (old log : LogBuffer D) (before tree : DbTree) (images left more : List NodeImage) → ImagesLeft old log before tree images left → left ≡ more → ImagesLeft old log before tree images more
   images_turn old log before tree images left more so_far is = subst (λ (l : List NodeImage). ImagesLeft old log before tree images l) is so_far
 
   pub images_step : (old log new : LogBuffer D) (before tree after : DbTree) (images left : List NodeImage) (i : NodeImage) → ImagesLeft old log before tree images (i ∷ left) →
-      LogsImage observable history sync_out read_out read_of faults i log new tree after → ((sizes : List ℕ) → HasRoomFor log (size_of i.entry ∷ sizes) → HasRoomFor new sizes) →
+      LogsImage meaning i log new tree after → ((sizes : List ℕ) → HasRoomFor log (size_of i.entry ∷ sizes) → HasRoomFor new sizes) →
       after.cells ≡ tree.cells → count_waiting (shape_in after) ≤ count_waiting (shape_in tree) → ImagesLeft old new before after images left
   images_step old log new before tree after images left i so_far logs room cells waits = record {
     loggable = so_far.loggable.1;
@@ -248,40 +248,40 @@ module _ {D : Type 0} (observable : Bool) (history : D → History) (sync_out re
       images_more so_far.done.0 (logs.0 ∷ []) so_far.done.1 (logs.1, tt),
       ap (λ (l : List ℕ). l ++ sizes_in left) (map-append size_of so_far.done.0 (logs.0 ∷ [])) ∙ append_assoc (map size_of so_far.done.0) (size_of logs.0 ∷ []) (sizes_in left)
           ∙ ap (λ (n : ℕ). map size_of so_far.done.0 ++ n ∷ sizes_in left) logs.2 ∙ so_far.done.2,
-      grew_tree_then observable history sync_out read_out read_of faults old log new before tree after images (i ∷ left) left so_far.done.0 (logs.0 ∷ []) so_far.done.3
+      grew_tree_then meaning old log new before tree after images (i ∷ left) left so_far.done.0 (logs.0 ∷ []) so_far.done.3
           (record { fitting = logs.3.fitting; fits = λ home last d rest. logs.3.fits home last d (left ++ rest); still = λ none es base home last d rest. logs.3.still none es base home last d (left ++ rest) }),
     );
     cells = cells ∙ so_far.cells;
     waits = le_trans waits so_far.waits;
   }
 
-  pub images_fail : (old log new : LogBuffer D) (before tree : DbTree) (images left : List NodeImage) → ImagesLeft old log before tree images left → TriesImage observable history sync_out read_out read_of faults log new →
-      TriesImages observable history sync_out read_out read_of faults old new
+  pub images_fail : (old log new : LogBuffer D) (before tree : DbTree) (images left : List NodeImage) → ImagesLeft old log before tree images left → TriesImage meaning log new →
+      TriesImages meaning old new
   images_fail old log new before tree images left so_far tries = (
     so_far.done.0 ++ tries.0 ∷ [],
     images_more so_far.done.0 (tries.0 ∷ []) so_far.done.1 (tries.1, tt),
-    fitting_tried observable history sync_out read_out read_of faults old log new so_far.done.0 (tries.0 ∷ []) so_far.done.3.fitting tries.2,
+    fitting_tried meaning old log new so_far.done.0 (tries.0 ∷ []) so_far.done.3.fitting tries.2,
   )
 
-  pub images_end : (old log : LogBuffer D) (before tree : DbTree) (images : List NodeImage) → ImagesLeft old log before tree images [] → LogsImages observable history sync_out read_out read_of faults images old log before tree
+  pub images_end : (old log : LogBuffer D) (before tree : DbTree) (images : List NodeImage) → ImagesLeft old log before tree images [] → LogsImages meaning images old log before tree
   images_end old log before tree images so_far = (so_far.done.0, so_far.done.1, sym (append-nil (map size_of so_far.done.0)) ∙ so_far.done.2, so_far.done.3)
 
   -- ---- a change behind its images
 
-  pub change_logged : (due : List NodeImage) (txn : TxnId) (c : TreeChange) (old mid new : LogBuffer D) (before between after : Forest) → LogsRoom observable history sync_out read_out read_of faults c.db due old mid before between →
-      ((more : ℕ → List NodeImage) → GrewForest observable history sync_out read_out read_of faults mid new between after more more (entry_for txn c.db c.name c.value ∷ [])) → LogsChange observable history sync_out read_out read_of faults due txn c old new before after
+  pub change_logged : (due : List NodeImage) (txn : TxnId) (c : TreeChange) (old mid new : LogBuffer D) (before between after : Forest) → LogsRoom meaning c.db due old mid before between →
+      ((more : ℕ → List NodeImage) → GrewForest meaning mid new between after more more (entry_for txn c.db c.name c.value ∷ [])) → LogsChange meaning due txn c old new before after
   change_logged due txn c old mid new before between after images entry = (
     images.0,
     images.1,
     images.2,
-    λ more. grew_forest_then observable history sync_out read_out read_of faults old mid new before between after (λ d. due_one c.db due d ++ more d) more more images.0 (entry_for txn c.db c.name c.value ∷ []) (images.3 more) (entry more),
+    λ more. grew_forest_then meaning old mid new before between after (λ d. due_one c.db due d ++ more d) more more images.0 (entry_for txn c.db c.name c.value ∷ []) (images.3 more) (entry more),
   )
 
   -- and where its entry stands
   pub change_logged_at : (due : List NodeImage) (txn : TxnId) (c : TreeChange) (at : ℕ) (old mid new : LogBuffer D) (before between after : Forest) →
-      LogsRoom observable history sync_out read_out read_of faults c.db due old mid before between → at ≡ pos_lsn (placed_at (file_max_of mid) (end_of mid) (size_of (entry_for txn c.db c.name c.value))) →
-      ((more : ℕ → List NodeImage) → GrewForest observable history sync_out read_out read_of faults mid new between after more more (entry_for txn c.db c.name c.value ∷ [])) →
-      LogsChangeAt observable history sync_out read_out read_of faults due txn c at old new before after
+      LogsRoom meaning c.db due old mid before between → at ≡ pos_lsn (placed_at (file_max_of mid) (end_of mid) (size_of (entry_for txn c.db c.name c.value))) →
+      ((more : ℕ → List NodeImage) → GrewForest meaning mid new between after more more (entry_for txn c.db c.name c.value ∷ [])) →
+      LogsChangeAt meaning due txn c at old new before after
   unfolding change_logged
   change_logged_at due txn c at old mid new before between after images at_is entry = (
     change_logged due txn c old mid new before between after images entry,
@@ -290,17 +290,17 @@ module _ {D : Type 0} (observable : Bool) (history : D → History) (sync_out re
         ∙ ap (λ (n : ℕ). Some n) (sym (at_is ∙ ap₂ (λ (m : ℕ) (end : LogPos). pos_lsn (placed_at m end (size_of (entry_for txn c.db c.name c.value)))) (images.3 none_due).fitting.grew.max (images.3 none_due).fitting.grew.end)),
   )
 
-  pub images_tried : (txn : TxnId) (c : TreeChange) (old new : LogBuffer D) → TriesImages observable history sync_out read_out read_of faults old new → TriesChange observable history sync_out read_out read_of faults txn c old new
+  pub images_tried : (txn : TxnId) (c : TreeChange) (old new : LogBuffer D) → TriesImages meaning old new → TriesChange meaning txn c old new
   images_tried txn c old new tries = (tries.0, tries.0, tries.1, (entry_for txn c.db c.name c.value ∷ [], refl), tries.2)
 
-  pub entry_tried : (due : List NodeImage) (txn : TxnId) (c : TreeChange) (old mid new : LogBuffer D) (before between : Forest) → LogsRoom observable history sync_out read_out read_of faults c.db due old mid before between →
-      TriedFitting observable history sync_out read_out read_of faults mid new (entry_for txn c.db c.name c.value ∷ []) → TriesChange observable history sync_out read_out read_of faults txn c old new
+  pub entry_tried : (due : List NodeImage) (txn : TxnId) (c : TreeChange) (old mid new : LogBuffer D) (before between : Forest) → LogsRoom meaning c.db due old mid before between →
+      TriedFitting meaning mid new (entry_for txn c.db c.name c.value ∷ []) → TriesChange meaning txn c old new
   entry_tried due txn c old mid new before between images entry = (
     images.0,
     images.0 ++ entry_for txn c.db c.name c.value ∷ [],
     images.1,
     ([], append-nil (images.0 ++ entry_for txn c.db c.name c.value ∷ [])),
-    fitting_tried observable history sync_out read_out read_of faults old mid new images.0 (entry_for txn c.db c.name c.value ∷ []) (images.3 none_due).fitting entry,
+    fitting_tried meaning old mid new images.0 (entry_for txn c.db c.name c.value ∷ []) (images.3 none_due).fitting entry,
   )
 
   -- ---- changes
@@ -314,11 +314,11 @@ module _ {D : Type 0} (observable : Bool) (history : D → History) (sync_out re
     pub writes_are : writes ≡ map (write_for txn) left
     pub some_room : (owed : ℕ) × HasRoomFor log (placed_sizes left slots ++ commit_sizes owed)
     pub room : (owed : ℕ) → HasRoomFor old (placed_sizes changes rooms ++ commit_sizes owed) → HasRoomFor log (placed_sizes left slots ++ commit_sizes owed)
-    pub grew : (last : LogBuffer D) (forest : Forest) (b : List Entry) → LogsChanges txn left b → GrewForest observable history sync_out read_out read_of faults log last trees forest (due_of left slots) none_due b → length b ≡ count_images slots + length left →
-        (a : List Entry) × LogsChanges txn changes a × GrewForest observable history sync_out read_out read_of faults old last before forest (due_of changes rooms) none_due a × (length a ≡ count_images rooms + length changes)
+    pub grew : (last : LogBuffer D) (forest : Forest) (b : List Entry) → LogsChanges txn left b → GrewForest meaning log last trees forest (due_of left slots) none_due b → length b ≡ count_images slots + length left →
+        (a : List Entry) × LogsChanges txn changes a × GrewForest meaning old last before forest (due_of changes rooms) none_due a × (length a ≡ count_images rooms + length changes)
         × (first_in old a ≡ option_or first (first_in log b))
-    pub tried : (last : LogBuffer D) (b f : List Entry) → LogsChanges txn left b → IsFront f b → TriedFitting observable history sync_out read_out read_of faults log last f →
-        (a : List Entry) × (g : List Entry) × LogsChanges txn changes a × IsFront g a × TriedFitting observable history sync_out read_out read_of faults old last g
+    pub tried : (last : LogBuffer D) (b f : List Entry) → LogsChanges txn left b → IsFront f b → TriedFitting meaning log last f →
+        (a : List Entry) × (g : List Entry) × LogsChanges txn changes a × IsFront g a × TriedFitting meaning old last g
     pub cells : (last : AllCells) → AreWritten txn left (cells_seen trees) last → AreWritten txn changes (cells_seen before) last
     pub same : HasSameTrees before trees
     pub rising : (d : ℕ) → IsRising (cells_seen before d) → IsRising (cells_seen trees d)
@@ -364,7 +364,7 @@ module _ {D : Type 0} (observable : Bool) (history : D → History) (sync_out re
 
   pub writes_step : (txn : TxnId) (old log new : LogBuffer D) (before trees after : Forest) (changes left : List TreeChange) (c : TreeChange) (rooms slots : List SlotRoom) (slot : SlotRoom) (write : Write) (writes : List Write) (first later : Option ℕ) (at : ℕ) →
       WritesLeft txn old log before trees changes (c ∷ left) rooms (slot ∷ slots) (write ∷ writes) first → writes ≡ map (write_for txn) left → later ≡ option_or first (Some at) →
-      LogsChangeAt observable history sync_out read_out read_of faults slot.images.items txn c at log new trees after → ((sizes : List ℕ) → HasRoomFor log (room_sizes slot ++ change_size c ∷ sizes) → HasRoomFor new sizes) →
+      LogsChangeAt meaning slot.images.items txn c at log new trees after → ((sizes : List ℕ) → HasRoomFor log (room_sizes slot ++ change_size c ∷ sizes) → HasRoomFor new sizes) →
       (at : ℕ) × HasChange (cells_seen trees) (cells_seen after) c.db c.name (with_change (record { txn = txn; at = at; value = c.value })) → KeepsCells trees after → HasSameTrees trees after →
       ((d : ℕ) → IsRising (cells_seen trees d) → IsRising (cells_seen after d)) → waits_in after ≤ waits_in trees →
       WritesLeft txn old new before after changes left rooms slots writes later
@@ -378,13 +378,13 @@ module _ {D : Type 0} (observable : Bool) (history : D → History) (sync_out re
     room = λ owed for. room (placed_sizes left slots ++ commit_sizes owed) (room_of_next log c left slot slots owed (so_far.room owed for));
     grew = λ last forest b of_left more count.
         let whole = so_far.grew last forest (logs.0 ++ entry ∷ b) (logs.0, b, logs.1, refl, of_left)
-        (subst (λ (l : List Entry). GrewForest observable history sync_out read_out read_of faults log last trees forest (due_of (c ∷ left) (slot ∷ slots)) none_due l) (append_assoc logs.0 (entry ∷ []) b)
-        (grew_forest_then observable history sync_out read_out read_of faults log new last trees after forest (due_of (c ∷ left) (slot ∷ slots)) (due_of left slots) none_due (logs.0 ++ entry ∷ []) b (logs.3 (due_of left slots)) more))
+        (subst (λ (l : List Entry). GrewForest meaning log last trees forest (due_of (c ∷ left) (slot ∷ slots)) none_due l) (append_assoc logs.0 (entry ∷ []) b)
+        (grew_forest_then meaning log new last trees after forest (due_of (c ∷ left) (slot ∷ slots)) (due_of left slots) none_due (logs.0 ++ entry ∷ []) b (logs.3 (due_of left slots)) more))
         (let whole = length_more logs.0 (entry ∷ b) in let front = even_sizes logs.0 slot.images.items logs.2 in omega (arith, whole, front, count)) in
         (whole.0, whole.1, whole.2, whole.3, whole.4 ∙ ap (λ (o : Option ℕ). option_or first o) (logged.1 b) ∙ first_three first (first_in new b) at ∙ sym (ap (λ (o : Option ℕ). option_or o (first_in new b)) later_is));
     tried = λ last b f of_left front more. so_far.tried last (logs.0 ++ entry ∷ b) ((logs.0 ++ entry ∷ []) ++ f) (logs.0, b, logs.1, refl, of_left)
         (front.0, append_assoc (logs.0 ++ entry ∷ []) f front.0 ∙ ap (λ (l : List Entry). (logs.0 ++ entry ∷ []) ++ l) front.1 ∙ append_assoc logs.0 (entry ∷ []) b)
-        (fitting_tried observable history sync_out read_out read_of faults log new last (logs.0 ++ entry ∷ []) f (logs.3 none_due).fitting more);
+        (fitting_tried meaning log new last (logs.0 ++ entry ∷ []) f (logs.3 none_due).fitting more);
     cells = λ last written. so_far.cells last (written_step txn c left (cells_seen trees) (cells_seen after) last change.0 change.1 written);
     same = λ d. same d ∙ so_far.same d;
     rising = λ d up. rising d (so_far.rising d up);
@@ -394,13 +394,13 @@ module _ {D : Type 0} (observable : Bool) (history : D → History) (sync_out re
       entry : Entry
       entry = entry_for txn c.db c.name c.value
 
-      logs : LogsChange observable history sync_out read_out read_of faults slot.images.items txn c log new trees after
+      logs : LogsChange meaning slot.images.items txn c log new trees after
       logs = logged.0
 
   -- a change that met a fault
   pub writes_fail : (txn : TxnId) (old log new : LogBuffer D) (before trees : Forest) (changes left : List TreeChange) (c : TreeChange) (rooms slots : List SlotRoom) (writes : List Write) (first : Option ℕ) →
-      WritesLeft txn old log before trees changes (c ∷ left) rooms slots writes first → TriesChange observable history sync_out read_out read_of faults txn c log new →
-      (a : List Entry) × (g : List Entry) × LogsChanges txn changes a × IsFront g a × TriedFitting observable history sync_out read_out read_of faults old new g
+      WritesLeft txn old log before trees changes (c ∷ left) rooms slots writes first → TriesChange meaning txn c log new →
+      (a : List Entry) × (g : List Entry) × LogsChanges txn changes a × IsFront g a × TriedFitting meaning old new g
   writes_fail txn old log new before trees changes left c rooms slots writes first so_far tries =
       so_far.tried new (tries.0 ++ entry ∷ entries_of txn left) tries.1 (tries.0, entries_of txn left, tries.2, refl, logs_all txn left)
       (tries.3.0 ++ entries_of txn left, sym (append_assoc tries.1 tries.3.0 (entries_of txn left)) ∙ ap (λ (l : List Entry). l ++ entries_of txn left) tries.3.1 ∙ append_assoc tries.0 (entry ∷ []) (entries_of txn left)) tries.4
@@ -410,7 +410,7 @@ module _ {D : Type 0} (observable : Bool) (history : D → History) (sync_out re
 
   -- all changes were written
   pub record AllWritten (txn : TxnId) (old log : LogBuffer D) (before trees : Forest) (changes : List TreeChange) (rooms : List SlotRoom) (first : Option ℕ) : Type 0 where
-    pub grew : (a : List Entry) × LogsChanges txn changes a × GrewForest observable history sync_out read_out read_of faults old log before trees (due_of changes rooms) none_due a × (length a ≡ count_images rooms + length changes)
+    pub grew : (a : List Entry) × LogsChanges txn changes a × GrewForest meaning old log before trees (due_of changes rooms) none_due a × (length a ≡ count_images rooms + length changes)
         × (first ≡ first_in old a)
     pub left : (owed : ℕ) → HasRoomFor old (placed_sizes changes rooms ++ commit_sizes owed) → HasRoomFor log (commit_sizes owed)
     pub cells : AreWritten txn changes (cells_seen before) (cells_seen trees)
@@ -424,7 +424,7 @@ module _ {D : Type 0} (observable : Bool) (history : D → History) (sync_out re
       by_slots : (l : List SlotRoom) → WritesLeft txn old log before trees changes [] rooms l writes first → AllWritten txn old log before trees changes rooms first
       by_slots [] ended = record {
         grew =
-            let whole = ended.grew log trees [] refl (grew_forest_none observable history sync_out read_out read_of faults log trees none_due) refl in
+            let whole = ended.grew log trees [] refl (grew_forest_none meaning log trees none_due) refl in
             (whole.0, whole.1, whole.2, whole.3, sym (whole.4 ∙ first_alone first));
         left = ended.room;
         cells = ended.cells (cells_seen trees) (nothing_written txn (cells_seen trees));

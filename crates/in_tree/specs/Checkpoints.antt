@@ -1,8 +1,8 @@
 -- What a checkpoint logs of the trees.
-use Rattle.std.specs.Prelude.{◌≡◌, ◌≤◌, ◌<◌, ◌++◌, ℕ, Bool, false, List, [], ◌∷◌, Option, Some, IsSome, map}
+use Rattle.std.specs.Prelude.{◌≡◌, ◌≤◌, ◌<◌, ◌++◌, ℕ, false, List, [], ◌∷◌, Option, Some, IsSome, map}
 use Rattle.std.specs.Ordering.{nat_cmp}
 use Rattle.std.specs.BTreeMap.{get}
-use Rattle.je_disk.specs.Moments.{History}
+use Rattle.je_disk.specs.DiskMeaning.{DiskMeaning}
 use Rattle.je_lsn.specs.Naming.{last_file}
 use Rattle.je_order.specs.declared.name.Name.{Name}
 use Rattle.log_entry.specs.Body.{IsEntry}
@@ -79,10 +79,10 @@ pub record IsEndEntry {D : Type 0} (log : LogBuffer D) (trees : Trees) (end : Ch
   pub roots_are : AreRootsOf (trees_at trees.forest) roots
   pub below : bound < pos_lsn (end_of log)
 
-module _ {D : Type 0} (observable : Bool) (history : D → History) (sync_out read_out : D → Option ℕ) (read_of : D → ℕ) (faults : D → ℕ) where
+module _ {D : Type 0} (meaning : DiskMeaning D) where
   -- the log got an entry at an LSN, behind what it had
   pub record HasGot (old new : LogBuffer D) (entry : Entry) (at : ℕ) : Type 0 where
     pub mid : LogBuffer D
     pub same : IsUnchanged old mid
-    pub grew : GrewFitting observable history sync_out read_out read_of faults mid new (entry ∷ [])
+    pub grew : GrewFitting meaning mid new (entry ∷ [])
     pub at_is : at ≡ pos_lsn (placed_at (file_max_of mid) (end_of mid) (size_of entry))

@@ -1,9 +1,9 @@
 -- A new database's tree that is filled before it is one of the trees: as it is once the images of its nodes and its changes are logged.
-use Rattle.std.specs.Prelude.{◌≡◌, ◌==◌, ◌<◌, ◌≤◌, ◌+◌, ◌^◌, ◌++◌, nat_lt, ℕ, Bool, false, List, [], ◌∷◌, Option, Some, IsSome, map, length, min, if◌then◌else◌, Vec, Box}
+use Rattle.std.specs.Prelude.{◌≡◌, ◌==◌, ◌<◌, ◌≤◌, ◌+◌, ◌^◌, ◌++◌, nat_lt, ℕ, false, List, [], ◌∷◌, Option, Some, IsSome, map, length, min, if◌then◌else◌, Vec, Box}
 use Rattle.std.specs.List.{AllByRecursion}
 use Rattle.std.specs.Global.{Global}
 use Rattle.std.specs.Ordering.{is_eq}
-use Rattle.je_disk.specs.Moments.{History}
+use Rattle.je_disk.specs.DiskMeaning.{DiskMeaning}
 use Rattle.je_order.specs.Order.{name_cmp}
 use Rattle.je_order.specs.declared.name.Name.{Name}
 use Rattle.je_order.specs.declared.txn_id.TxnId.{TxnId}
@@ -225,16 +225,16 @@ module _ {D : Type 0} where
     pub fanout : mid.trees.fanout ≡ old.trees.fanout
     pub up : IsFilledUp mid new txn c rows room db owed filled
 
-  module _ (observable : Bool) (history : D → History) (sync_out read_out : D → Option ℕ) (read_of : D → ℕ) (faults : D → ℕ) where
+  module _ (meaning : DiskMeaning D) where
     -- the change that makes the database was logged behind the images of its slot, then the others, and the database has the filled tree
     pub record IsLoggedNew (txn : TxnId) (c : TreeChange) (rows : List TreeChange) (db : ℕ) (room : SlotRoom) (filled : Filled) (old new : LogTrees D) : Type 0 where
       pub log : LogBuffer D
       pub forest : Forest
-      pub first : LogsChange observable history sync_out read_out read_of faults room.images.items txn c old.log log old.trees.forest forest
+      pub first : LogsChange meaning room.images.items txn c old.log log old.trees.forest forest
       pub changed : (at : ℕ) × HasChange (cells_seen old.trees.forest) (cells_seen forest) c.db c.name (with_change (record { txn = txn; at = at; value = c.value }))
       pub others : HasSameOthers c.db old.trees.forest forest
       pub trees : HasSameTrees old.trees.forest forest
       pub waits : waits_in forest ≤ waits_in old.trees.forest
-      pub rest : GrewFitting observable history sync_out read_out read_of faults log new.log (entries_with txn rows filled.images.items)
+      pub rest : GrewFitting meaning log new.log (entries_with txn rows filled.images.items)
       pub has : Replaces forest new.trees.forest db (Some filled.tree)
       pub last : new.trees.last_node ≡ old.trees.last_node

@@ -1,9 +1,9 @@
 -- Entries that fit a log: none, and those of one call and then of another.
-use Rattle.std.proofs.Common.{◌≡◌, ◌≤◌, ◌∙◌, ℕ, List, [], ◌∷◌, ◌++◌, Bool, Option, Result, Err, map, refl, ap, ap₂, sym, subst}
+use Rattle.std.proofs.Common.{◌≡◌, ◌≤◌, ◌∙◌, ℕ, List, [], ◌∷◌, ◌++◌, Result, Err, map, refl, ap, ap₂, sym, subst}
 use Rattle.std.proofs.Math.Nat.{le_refl, le_trans}
 use Rattle.std.proofs.lemmas.List.{map-append}
 use Rattle.std.specs.List.{AllByRecursion}
-use Rattle.je_disk.specs.Moments.{History}
+use Rattle.je_disk.specs.DiskMeaning.{DiskMeaning}
 use Rattle.log_entry.specs.Encoding.{size_of}
 use Rattle.log_entry.specs.declared.entry.Entry.{Entry}
 use Rattle.log_buffer.specs.declared.buffer.LogBuffer.{LogBuffer}
@@ -56,46 +56,46 @@ module _ {D : Type 0} where
   pub fits_none : (log : LogBuffer D) → FitsLog log []
   fits_none log = record { entries_are = tt; room = log.last_file }
 
-  module _ (observable : Bool) (history : D → History) (sync_out read_out : D → Option ℕ) (read_of : D → ℕ) (faults : D → ℕ) where
+  module _ (meaning : DiskMeaning D) where
     -- entries that fit a log, and behind them those that fit the log with them
-    fits_then : (x y : LogBuffer D) (a b : List Entry) → GrewFitting observable history sync_out read_out read_of faults x y a → FitsLog y b → FitsLog x (a ++ b)
+    fits_then : (x y : LogBuffer D) (a b : List Entry) → GrewFitting meaning x y a → FitsLog y b → FitsLog x (a ++ b)
     fits_then x y a b first second = record {
       entries_are = all_both _ a b first.fits.entries_are second.entries_are;
       room = subst (λ (n : ℕ). n ≤ 0xfffffffe) (same first.grew) second.room;
     }
       where
-        same : Grew observable history sync_out read_out read_of x y a → (end_after_all (file_max_of y) (end_of y) (map size_of b)).file ≡ (end_after_all (file_max_of x) (end_of x) (map size_of (a ++ b))).file
+        same : Grew meaning x y a → (end_after_all (file_max_of y) (end_of y) (map size_of b)).file ≡ (end_after_all (file_max_of x) (end_of x) (map size_of (a ++ b))).file
         same grew =
             ap (λ (p : LogPos). p.file)
             (ap₂ (λ (m : ℕ) (p : LogPos). end_after_all m p (map size_of b)) grew.max grew.end
             ∙ sym (appends_join (file_max_of x) (end_of x) (map size_of a) (map size_of b))
             ∙ ap (end_after_all (file_max_of x) (end_of x)) (sym (map-append size_of a b)))
 
-    pub fitting_unchanged : (x y : LogBuffer D) → IsUnchanged x y → GrewFitting observable history sync_out read_out read_of faults x y []
+    pub fitting_unchanged : (x y : LogBuffer D) → IsUnchanged x y → GrewFitting meaning x y []
     fitting_unchanged x y same = record {
-      grew = grew_unchanged observable history sync_out read_out read_of x y same;
+      grew = grew_unchanged meaning x y same;
       fits = fits_none x;
       none = λ e. same;
-      never_falls = subst (λ (n : ℕ). faults (disk_of x) ≤ n) (sym (ap faults same.disk)) (le_refl (faults (disk_of x)));
+      never_falls = subst (λ (n : ℕ). meaning.faults (disk_of x) ≤ n) (sym (ap meaning.faults same.disk)) (le_refl (meaning.faults (disk_of x)));
     }
 
-    pub fitting_none : (x : LogBuffer D) → GrewFitting observable history sync_out read_out read_of faults x x []
-    fitting_none x = record { grew = grew_none observable history sync_out read_out read_of x; fits = fits_none x; none = λ e. unchanged_itself x; never_falls = le_refl (faults (disk_of x)) }
+    pub fitting_none : (x : LogBuffer D) → GrewFitting meaning x x []
+    fitting_none x = record { grew = grew_none meaning x; fits = fits_none x; none = λ e. unchanged_itself x; never_falls = le_refl (meaning.faults (disk_of x)) }
 
-    pub fitting_then : (x y z : LogBuffer D) (a b : List Entry) → GrewFitting observable history sync_out read_out read_of faults x y a → GrewFitting observable history sync_out read_out read_of faults y z b →
-        GrewFitting observable history sync_out read_out read_of faults x z (a ++ b)
+    pub fitting_then : (x y z : LogBuffer D) (a b : List Entry) → GrewFitting meaning x y a → GrewFitting meaning y z b →
+        GrewFitting meaning x z (a ++ b)
     fitting_then x y z a b first second = record {
-      grew = grew_then observable history sync_out read_out read_of x y z a b first.grew second.grew;
+      grew = grew_then meaning x y z a b first.grew second.grew;
       fits = fits_then x y a b first second.fits;
       none = λ e. (let parts = none_both a b e in unchanged_then x y z (first.none parts.0) (second.none parts.1));
       never_falls = le_trans first.never_falls second.never_falls;
     }
 
-    pub fitting_tried : (x y z : LogBuffer D) (a b : List Entry) → GrewFitting observable history sync_out read_out read_of faults x y a → TriedFitting observable history sync_out read_out read_of faults y z b →
-        TriedFitting observable history sync_out read_out read_of faults x z (a ++ b)
+    pub fitting_tried : (x y z : LogBuffer D) (a b : List Entry) → GrewFitting meaning x y a → TriedFitting meaning y z b →
+        TriedFitting meaning x z (a ++ b)
     fitting_tried x y z a b first second = record {
-      tried = tried_then observable history sync_out read_out read_of x y z a b first.grew second.tried;
+      tried = tried_then meaning x y z a b first.grew second.tried;
       fits = fits_then x y a b first second.fits;
       never_falls = le_trans first.never_falls second.never_falls;
-      rose = λ works. rose_later (faults (disk_of x)) (faults (disk_of y)) (faults (disk_of z)) first.never_falls second.never_falls (second.rose (first.grew.failed ∙ works));
+      rose = λ works. rose_later (meaning.faults (disk_of x)) (meaning.faults (disk_of y)) (meaning.faults (disk_of z)) first.never_falls second.never_falls (second.rose (first.grew.failed ∙ works));
     }

@@ -1,7 +1,7 @@
 -- Which limit changes meet, and what the log has room for.
 use Rattle.std.specs.Prelude.{◌≡◌, ◌+◌, ◌≤◌, ◌||◌, ℕ, zero, suc, nat_lt, if◌then◌else◌, List, [], ◌∷◌, ◌++◌, map, Option, Some, None, Bool, true, false}
 use Rattle.std.specs.List.{AllByRecursion}
-use Rattle.je_disk.specs.Moments.{History}
+use Rattle.je_disk.specs.DiskMeaning.{DiskMeaning}
 use Rattle.je_lsn.specs.Naming.{last_file}
 use Rattle.je_order.specs.Counts.{HasRisen}
 use Rattle.je_order.specs.declared.txn_id.TxnId.{TxnId}
@@ -97,15 +97,15 @@ module _ {D : Type 0} where
     pub room : (end_after_all (file_max_of log) (end_of log) (map size_of entries)).file ≤ last_file
 
   -- the log got these entries, which fit it, and nothing happened where there are none; no count of the disk's faults fell
-  pub record GrewFitting (observable : Bool) (history : D → History) (sync_out read_out : D → Option ℕ) (read_of : D → ℕ) (faults : D → ℕ) (old new : LogBuffer D) (entries : List Entry) : Type 0 where
-    pub grew : Grew observable history sync_out read_out read_of old new entries
+  pub record GrewFitting (meaning : DiskMeaning D) (old new : LogBuffer D) (entries : List Entry) : Type 0 where
+    pub grew : Grew meaning old new entries
     pub fits : FitsLog old entries
     pub none : entries ≡ [] → IsUnchanged old new
-    pub never_falls : faults (disk_of old) ≤ faults (disk_of new)
+    pub never_falls : meaning.faults (disk_of old) ≤ meaning.faults (disk_of new)
 
   -- the log failed with these entries, which fit it: the disk counted a fault, or the log had failed before
-  pub record TriedFitting (observable : Bool) (history : D → History) (sync_out read_out : D → Option ℕ) (read_of : D → ℕ) (faults : D → ℕ) (old new : LogBuffer D) (entries : List Entry) : Type 0 where
-    pub tried : Tried observable history sync_out read_out read_of old new entries
+  pub record TriedFitting (meaning : DiskMeaning D) (old new : LogBuffer D) (entries : List Entry) : Type 0 where
+    pub tried : Tried meaning old new entries
     pub fits : FitsLog old entries
-    pub never_falls : faults (disk_of old) ≤ faults (disk_of new)
-    pub rose : has_failed old ≡ false → HasRisen (faults (disk_of old)) (faults (disk_of new))
+    pub never_falls : meaning.faults (disk_of old) ≤ meaning.faults (disk_of new)
+    pub rose : has_failed old ≡ false → HasRisen (meaning.faults (disk_of old)) (meaning.faults (disk_of new))

@@ -1,6 +1,6 @@
 -- What the log gets while changes are written: images of nodes, and the entries of changes behind them.
-use Rattle.std.specs.Prelude.{◌≡◌, ◌++◌, ◌∷◌, ℕ, Bool, List, [], Option, Some, map}
-use Rattle.je_disk.specs.Moments.{History}
+use Rattle.std.specs.Prelude.{◌≡◌, ◌++◌, ◌∷◌, ℕ, List, [], Option, Some, map}
+use Rattle.je_disk.specs.DiskMeaning.{DiskMeaning}
 use Rattle.je_order.specs.declared.txn_id.TxnId.{TxnId}
 use Rattle.log_entry.specs.Encoding.{size_of}
 use Rattle.log_entry.specs.declared.entry.Entry.{Entry}
@@ -20,32 +20,32 @@ use Rattle.in_tree.specs.Limits.{TriedFitting}
 abbrev pub first_in : {D : Type 0} → LogBuffer D → List Entry → Option ℕ
 first_in log entries = first_change (placed_by (file_max_of log) (end_of log) entries)
 
-module _ {D : Type 0} (observable : Bool) (history : D → History) (sync_out read_out : D → Option ℕ) (read_of : D → ℕ) (faults : D → ℕ) where
+module _ {D : Type 0} (meaning : DiskMeaning D) where
   -- the log got an image that was due, or failed with one
   abbrev pub LogsImage : NodeImage → LogBuffer D → LogBuffer D → DbTree → DbTree → Type 0
-  LogsImage image old new before after = (e : Entry) × IsImage e × (size_of e ≡ size_of image.entry) × GrewTree observable history sync_out read_out read_of faults old new before after (image ∷ []) [] (e ∷ [])
+  LogsImage image old new before after = (e : Entry) × IsImage e × (size_of e ≡ size_of image.entry) × GrewTree meaning old new before after (image ∷ []) [] (e ∷ [])
 
   abbrev pub TriesImage : LogBuffer D → LogBuffer D → Type 0
-  TriesImage old new = (e : Entry) × IsImage e × TriedFitting observable history sync_out read_out read_of faults old new (e ∷ [])
+  TriesImage old new = (e : Entry) × IsImage e × TriedFitting meaning old new (e ∷ [])
 
   -- the log got the images that were due of a tree, or failed with some
   abbrev pub LogsImages : List NodeImage → LogBuffer D → LogBuffer D → DbTree → DbTree → Type 0
   LogsImages due old new before after =
-      (images : List Entry) × AreImages images × (map size_of images ≡ sizes_in due) × GrewTree observable history sync_out read_out read_of faults old new before after due [] images
+      (images : List Entry) × AreImages images × (map size_of images ≡ sizes_in due) × GrewTree meaning old new before after due [] images
 
   abbrev pub TriesImages : LogBuffer D → LogBuffer D → Type 0
-  TriesImages old new = (images : List Entry) × AreImages images × TriedFitting observable history sync_out read_out read_of faults old new images
+  TriesImages old new = (images : List Entry) × AreImages images × TriedFitting meaning old new images
 
   -- the log got the images that were due for a slot of a database
   abbrev pub LogsRoom : ℕ → List NodeImage → LogBuffer D → LogBuffer D → Forest → Forest → Type 0
   LogsRoom db due old new before after =
-      (images : List Entry) × AreImages images × (map size_of images ≡ sizes_in due) × GrewSlot observable history sync_out read_out read_of faults old new before after db due images
+      (images : List Entry) × AreImages images × (map size_of images ≡ sizes_in due) × GrewSlot meaning old new before after db due images
 
   -- the log got a change's entry behind the images that were due for its slot
   abbrev pub LogsChange : List NodeImage → TxnId → TreeChange → LogBuffer D → LogBuffer D → Forest → Forest → Type 0
   LogsChange due txn c old new before after =
       (images : List Entry) × AreImages images × (map size_of images ≡ sizes_in due)
-      × GrewSlot observable history sync_out read_out read_of faults old new before after c.db due (images ++ entry_for txn c.db c.name c.value ∷ [])
+      × GrewSlot meaning old new before after c.db due (images ++ entry_for txn c.db c.name c.value ∷ [])
 
   -- and this entry stands at an LSN, whatever comes behind it
   abbrev pub LogsChangeAt : List NodeImage → TxnId → TreeChange → ℕ → LogBuffer D → LogBuffer D → Forest → Forest → Type 0
@@ -55,4 +55,4 @@ module _ {D : Type 0} (observable : Bool) (history : D → History) (sync_out re
   -- or the log failed with some of these
   abbrev pub TriesChange : TxnId → TreeChange → LogBuffer D → LogBuffer D → Type 0
   TriesChange txn c old new =
-      (images : List Entry) × (front : List Entry) × AreImages images × IsFront front (images ++ entry_for txn c.db c.name c.value ∷ []) × TriedFitting observable history sync_out read_out read_of faults old new front
+      (images : List Entry) × (front : List Entry) × AreImages images × IsFront front (images ++ entry_for txn c.db c.name c.value ∷ []) × TriedFitting meaning old new front

@@ -1,6 +1,6 @@
 -- What the crates above see of the trees of an environment over their log, whose fields are private.
 use Rattle.std.specs.Prelude.{◌++◌, ℕ, Bool, List, [], Option}
-use Rattle.je_disk.specs.Moments.{History}
+use Rattle.je_disk.specs.DiskMeaning.{DiskMeaning}
 use Rattle.log_entry.specs.declared.entry.Entry.{Entry}
 use Rattle.db_tree.specs.declared.tree.DbTree.{DbTree}
 use Rattle.record_tree.specs.Occupied.{AllCells}
@@ -43,17 +43,17 @@ module _ {D : Type 0} where
   abbrev pub last_node_of : LogTrees D → ℕ
   last_node_of x = x.trees.last_node
 
-  module _ (observable : Bool) (history : D → History) (sync_out read_out : D → Option ℕ) (read_of : D → ℕ) (faults : D → ℕ) where
+  module _ (meaning : DiskMeaning D) where
     -- the log got these entries, which fit it; trees that fitted it fit the longer one
     abbrev pub GrewTrees : LogTrees D → LogTrees D → List Entry → Type 0
-    GrewTrees old new entries = TreesGrew observable history sync_out read_out read_of faults old.log new.log (last_node_of old) (last_node_of new) (trees_of old) (trees_of new) entries
+    GrewTrees old new entries = TreesGrew meaning old.log new.log (last_node_of old) (last_node_of new) (trees_of old) (trees_of new) entries
 
     pub grew_none : (x : LogTrees D) → GrewTrees x x []
-    grew_none x = trees_grew_none observable history sync_out read_out read_of faults x.log (last_node_of x) (trees_of x)
+    grew_none x = trees_grew_none meaning x.log (last_node_of x) (trees_of x)
 
     pub grew_then : (x y z : LogTrees D) (a b : List Entry) → GrewTrees x y a → GrewTrees y z b → GrewTrees x z (a ++ b)
     grew_then x y z a b first second =
-        trees_grew_then observable history sync_out read_out read_of faults x.log y.log z.log (last_node_of x) (last_node_of y) (last_node_of z) (trees_of x) (trees_of y) (trees_of z) a b first second
+        trees_grew_then meaning x.log y.log z.log (last_node_of x) (last_node_of y) (last_node_of z) (trees_of x) (trees_of y) (trees_of z) a b first second
 
-    pub tried_then : (x y z : LogTrees D) (a b : List Entry) → GrewTrees x y a → TriedFitting observable history sync_out read_out read_of faults y.log z.log b → TriedFitting observable history sync_out read_out read_of faults x.log z.log (a ++ b)
-    tried_then x y z a b first tried = fitting_tried observable history sync_out read_out read_of faults x.log y.log z.log a b first.fitting tried
+    pub tried_then : (x y z : LogTrees D) (a b : List Entry) → GrewTrees x y a → TriedFitting meaning y.log z.log b → TriedFitting meaning x.log z.log (a ++ b)
+    tried_then x y z a b first tried = fitting_tried meaning x.log y.log z.log a b first.fitting tried

@@ -176,20 +176,6 @@ pub(crate) fn make(
     Ok(())
 }
 
-// Puts a tree in, for a database that has none.
-pub(crate) fn put_new(
-    trees: &mut BTreeMap<u32, DbTree>,
-    db: u32,
-    tree: DbTree,
-) -> Result<(), AllocError>
-    ensures has { OnOk result (Replaces trees.old trees.new db (Some tree)) }
-    ensures within { db < 2 ^ 32 }
-    ensures err { OnErr result (IsSameForest trees.old trees.new) }
-{
-    drop(trees.insert(db, tree)?);
-    Ok(())
-}
-
 // Makes a slot for the name, where nodes are split for it with the numbers from `number` on if there is one, and sets what is
 // committed of the name. It gives how many nodes were made.
 fn redo_in(

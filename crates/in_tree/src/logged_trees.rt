@@ -65,9 +65,9 @@ impl<D: Disk> Records for LogTrees<D> {
 
     ghost has_tree = { λ x d. is_there x.trees.forest d };
 
-    ghost grew = { λ old new entries. GrewTrees D.observable D.history D.sync_out D.read_out D.read_of D.faults old new entries };
+    ghost grew = { λ old new entries. GrewTrees D.meaning old new entries };
 
-    ghost tried = { λ old new entries. TriedFitting D.observable D.history D.sync_out D.read_out D.read_of D.faults old.log new.log entries };
+    ghost tried = { λ old new entries. TriedFitting D.meaning old.log new.log entries };
 
     ghost limit = { λ x changes owed. limit_of x.log x.trees.fanout x.trees.last_node (shapes_of x.trees.forest) changes owed };
 
@@ -79,11 +79,11 @@ impl<D: Disk> Records for LogTrees<D> {
 
     ghost no_cells = { λ x d none. none_seen (get nat_cmp x.trees.forest d) none };
 
-    ghost grew_none = { λ x. none_grew D.observable D.history D.sync_out D.read_out D.read_of D.faults x };
+    ghost grew_none = { λ x. none_grew D.meaning x };
 
-    ghost grew_then = { λ x y z a b first rest. grew_on D.observable D.history D.sync_out D.read_out D.read_of D.faults x y z a b first rest };
+    ghost grew_then = { λ x y z a b first rest. grew_on D.meaning x y z a b first rest };
 
-    ghost tried_then = { λ x y z a b first rest. tried_on D.observable D.history D.sync_out D.read_out D.read_of D.faults x y z a b first rest };
+    ghost tried_then = { λ x y z a b first rest. tried_on D.meaning x y z a b first rest };
 
     fn get(&self, db: u32, name: &SortKey) -> Result<Option<&Cell>, Lacks> {
         Ok(reading::get(&self.trees.forest, db, name))

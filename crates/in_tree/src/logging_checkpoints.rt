@@ -71,9 +71,9 @@ fn append_plain<D: Disk>(log: &mut LogBuffer<D>, entry: &Entry) -> Result<Lsn, T
     requires plain { IsCheckpointEntry entry.now }
     requires room { (sizes : List ℕ) × HasRoomFor log.old (size_of entry.now ∷ sizes) }
     ensures at { IfOk result (λ at. at ≡ pos_lsn (placed_at (file_max_of log.old) (end_of log.old) (size_of entry.now))) }
-    ensures grew { OnOk result (GrewFitting D.observable D.history D.sync_out D.read_out D.read_of D.faults log.old log.new (entry.now ∷ [])) }
+    ensures grew { OnOk result (GrewFitting D.meaning log.old log.new (entry.now ∷ [])) }
     ensures left { (sizes : List ℕ) → HasRoomFor log.old (size_of entry.now ∷ sizes) → OnOk result (HasRoomFor log.new sizes) }
-    ensures tried { OnErr result (TriedFitting D.observable D.history D.sync_out D.read_out D.read_of D.faults log.old log.new (entry.now ∷ [])) }
+    ensures tried { OnErr result (TriedFitting D.meaning log.old log.new (entry.now ∷ [])) }
     ensures by_fault { IfErr result (λ e. e ≡ Reason.Fault) }
 {
     match log.append_reserved(&EntryRef::Whole(entry)) {
@@ -93,9 +93,9 @@ pub(crate) fn log_alone<D: Disk>(
     requires own { place.now.db ≡ db }
     requires alone { IsAloneIn trees.old place.now image }
     requires room { (sizes : List ℕ) × HasRoomFor log.old (size_of image.entry ∷ sizes) }
-    ensures grew { OnOk result (LogsRoom D.observable D.history D.sync_out D.read_out D.read_of D.faults db (image ∷ []) log.old log.new trees.old trees.new) }
+    ensures grew { OnOk result (LogsRoom D.meaning db (image ∷ []) log.old log.new trees.old trees.new) }
     ensures left { (sizes : List ℕ) → HasRoomFor log.old (size_of image.entry ∷ sizes) → OnOk result (HasRoomFor log.new sizes) }
-    ensures tried { OnErr result (TriesImage D.observable D.history D.sync_out D.read_out D.read_of D.faults log.old log.new) }
+    ensures tried { OnErr result (TriesImage D.meaning log.old log.new) }
     ensures by_fault { IfErr result (λ e. e ≡ Reason.Fault) }
     ensures cells { HasSameCells trees.old trees.new }
     ensures trees { HasSameTrees trees.old trees.new }
@@ -149,13 +149,13 @@ impl<D: Disk> LogTrees<D> {
         requires entry { IsEntry entry.now }
         requires plain { IsCheckpointEntry entry.now }
         ensures trees { self.new.trees ≡ self.old.trees }
-        ensures got { IfOk result (HasGot D.observable D.history D.sync_out D.read_out D.read_of D.faults self.old.log self.new.log entry.now) }
+        ensures got { IfOk result (HasGot D.meaning self.old.log self.new.log entry.now) }
         ensures left { OnOk result (HasRoomFor self.new.log (commit_sizes owed)) }
         ensures room { OnOk result (IsFullFor self.old.log (entry.now ∷ []) owed → ⊥) }
-        ensures tried { IsEndOf Reason.Fault result ((front : List Logged) × IsFront front (entry.now ∷ []) × TriedFitting D.observable D.history D.sync_out D.read_out D.read_of D.faults self.old.log self.new.log front) }
+        ensures tried { IsEndOf Reason.Fault result ((front : List Logged) × IsFront front (entry.now ∷ []) × TriedFitting D.meaning self.old.log self.new.log front) }
         ensures full { IsEndOf Reason.Full result (IsFullFor self.old.log (entry.now ∷ []) owed) }
         ensures numbers { IsEndOf Reason.IdsEnded result ⊥ }
-        ensures same { IfErr result (λ e. IsUndone e → GrewTrees D.observable D.history D.sync_out D.read_out D.read_of D.faults self.old self.new []) }
+        ensures same { IfErr result (λ e. IsUndone e → GrewTrees D.meaning self.old self.new []) }
     {
         if self.log.has_failed() {
             return Err(TreeErr::Fault);

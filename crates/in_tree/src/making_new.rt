@@ -98,9 +98,9 @@ fn place_behind(place: NextPlace, sizes: &[u32]) -> NextPlace
 fn log_entries<D: Disk>(log: &mut LogBuffer<D>, entries: &[Entry]) -> Result<(), TreeErr>
     requires loggable { AllByRecursion IsLoggable entries.now }
     requires room { (sizes : List ℕ) × HasRoomFor log.old (map size_of entries.now ++ sizes) }
-    ensures grew { OnOk result (GrewFitting D.observable D.history D.sync_out D.read_out D.read_of D.faults log.old log.new entries.now) }
+    ensures grew { OnOk result (GrewFitting D.meaning log.old log.new entries.now) }
     ensures left { (sizes : List ℕ) → HasRoomFor log.old (map size_of entries.now ++ sizes) → OnOk result (HasRoomFor log.new sizes) }
-    ensures tried { OnErr result ((front : List Entry) × IsFront front entries.now × TriedFitting D.observable D.history D.sync_out D.read_out D.read_of D.faults log.old log.new front) }
+    ensures tried { OnErr result ((front : List Entry) × IsFront front entries.now × TriedFitting D.meaning log.old log.new front) }
     ensures by_fault { IfErr result (λ e. e ≡ Reason.Fault) }
 {
     for entry in entries {
@@ -120,9 +120,9 @@ fn log_rows<D: Disk>(
     requires loggable { AreAllLoggable images.now }
     requires paired { length images.now ≡ length rows.now }
     requires room { (sizes : List ℕ) × HasRoomFor log.old (map size_of (entries_with txn rows.now images.now) ++ sizes) }
-    ensures grew { OnOk result (GrewFitting D.observable D.history D.sync_out D.read_out D.read_of D.faults log.old log.new (entries_with txn rows.now images.now)) }
+    ensures grew { OnOk result (GrewFitting D.meaning log.old log.new (entries_with txn rows.now images.now)) }
     ensures left { (sizes : List ℕ) → HasRoomFor log.old (map size_of (entries_with txn rows.now images.now) ++ sizes) → OnOk result (HasRoomFor log.new sizes) }
-    ensures tried { OnErr result ((front : List Entry) × IsFront front (entries_with txn rows.now images.now) × TriedFitting D.observable D.history D.sync_out D.read_out D.read_of D.faults log.old log.new front) }
+    ensures tried { OnErr result ((front : List Entry) × IsFront front (entries_with txn rows.now images.now) × TriedFitting D.meaning log.old log.new front) }
     ensures by_fault { IfErr result (λ e. e ≡ Reason.Fault) }
 {
     for i in 0..rows.len() {
@@ -343,15 +343,15 @@ impl<D: Disk> LogTrees<D> {
         requires entries { AllByRecursion (λ c. IsEntry (entry_for txn c.db c.name c.value)) changes.now }
         ensures cells { OnOk result (AreWritten txn changes.now (cells_of self.old) (cells_of self.new)) }
         ensures trees { OnOk result ((d : ℕ) → has_tree_of self.new d ≡ (is_made d changes.now || has_tree_of self.old d)) }
-        ensures grew { OnOk result ((entries : List Entry) × LogsChanges txn changes.now entries × GrewTrees D.observable D.history D.sync_out D.read_out D.read_of D.faults self.old self.new entries × (length entries + waits_of self.new ≤ waits_of self.old + most_entries (length changes.now))) }
+        ensures grew { OnOk result ((entries : List Entry) × LogsChanges txn changes.now entries × GrewTrees D.meaning self.old self.new entries × (length entries + waits_of self.new ≤ waits_of self.old + most_entries (length changes.now))) }
         ensures waits { OnOk result (waits_of self.new ≤ waits_of self.old) }
         ensures left { OnOk result (HasRoomFor self.new.log (commit_sizes owed)) }
-        ensures tried { IsEndOf Reason.Fault result ((entries : List Entry) × (front : List Entry) × LogsChanges txn changes.now entries × IsFront front entries × TriedFitting D.observable D.history D.sync_out D.read_out D.read_of D.faults self.old.log self.new.log front) }
+        ensures tried { IsEndOf Reason.Fault result ((entries : List Entry) × (front : List Entry) × LogsChanges txn changes.now entries × IsFront front entries × TriedFitting D.meaning self.old.log self.new.log front) }
         ensures limited { IfErr result (λ e. IsLimit e → limit_filling_in self.old changes.now owed ≡ Some e) }
         ensures room { OnOk result (limit_filling_in self.old changes.now owed ≡ None) }
         ensures fault_room { IsEndOf Reason.Fault result (limit_filling_in self.old changes.now owed ≡ None) }
         ensures same { IfErr result (λ e. IsUndone e → AreSame (cells_of self.old) (cells_of self.new) × ((d : ℕ) → has_tree_of self.new d ≡ has_tree_of self.old d)
-            × GrewTrees D.observable D.history D.sync_out D.read_out D.read_of D.faults self.old self.new [] × (waits_of self.new ≡ waits_of self.old)) }
+            × GrewTrees D.meaning self.old self.new [] × (waits_of self.new ≡ waits_of self.old)) }
     {
         if self.log.has_failed() {
             return Err(TreeErr::Fault);
@@ -396,9 +396,9 @@ impl<D: Disk> LogTrees<D> {
         requires apart { change.now.db ≡ db → ⊥ }
         requires rising { IsRising (occupied filled.tree.cells) }
         requires write { write.value ≡ write_for txn change.now }
-        ensures logged { OnOk result (IsLoggedNew D.observable D.history D.sync_out D.read_out D.read_of D.faults txn change.now rows.now db room filled self.old self.new) }
+        ensures logged { OnOk result (IsLoggedNew D.meaning txn change.now rows.now db room filled self.old self.new) }
         ensures left { (owed : ℕ) → HasRoomFor self.old.log (all_sizes txn change.now rows.now room filled owed) → OnOk result (HasRoomFor self.new.log (commit_sizes owed)) }
-        ensures tried { OnErr result ((entries : List Entry) × (front : List Entry) × LogsChanges txn (change.now ∷ rows.now) entries × IsFront front entries × TriedFitting D.observable D.history D.sync_out D.read_out D.read_of D.faults self.old.log self.new.log front) }
+        ensures tried { OnErr result ((entries : List Entry) × (front : List Entry) × LogsChanges txn (change.now ∷ rows.now) entries × IsFront front entries × TriedFitting D.meaning self.old.log self.new.log front) }
         ensures by_fault { IfErr result (λ e. e ≡ Reason.Fault) }
     {
         let forest = &mut self.trees.forest;

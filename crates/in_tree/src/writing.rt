@@ -142,9 +142,9 @@ pub(crate) fn append_image<D: Disk>(log: &mut LogBuffer<D>, entry: &Entry) -> Re
     requires loggable { IsLoggable entry.now }
     requires room { (sizes : List ℕ) × HasRoomFor log.old (size_of entry.now ∷ sizes) }
     ensures at { IfOk result (λ at. at ≡ pos_lsn (placed_at (file_max_of log.old) (end_of log.old) (size_of entry.now))) }
-    ensures grew { OnOk result (GrewFitting D.observable D.history D.sync_out D.read_out D.read_of D.faults log.old log.new (entry.now ∷ [])) }
+    ensures grew { OnOk result (GrewFitting D.meaning log.old log.new (entry.now ∷ [])) }
     ensures left { (sizes : List ℕ) → HasRoomFor log.old (size_of entry.now ∷ sizes) → OnOk result (HasRoomFor log.new sizes) }
-    ensures tried { OnErr result (TriedFitting D.observable D.history D.sync_out D.read_out D.read_of D.faults log.old log.new (entry.now ∷ [])) }
+    ensures tried { OnErr result (TriedFitting D.meaning log.old log.new (entry.now ∷ [])) }
     ensures by_fault { IfErr result (λ e. e ≡ Reason.Fault) }
 {
     match log.append_reserved(&EntryRef::Whole(entry)) {
@@ -161,9 +161,9 @@ pub(crate) fn log_image<D: Disk>(
 ) -> Result<(), TreeErr>
     requires loggable { IsLoggable image.entry }
     requires room { (sizes : List ℕ) × HasRoomFor log.old (size_of image.entry ∷ sizes) }
-    ensures grew { OnOk result (LogsImage D.observable D.history D.sync_out D.read_out D.read_of D.faults image log.old log.new tree.old tree.new) }
+    ensures grew { OnOk result (LogsImage D.meaning image log.old log.new tree.old tree.new) }
     ensures left { (sizes : List ℕ) → HasRoomFor log.old (size_of image.entry ∷ sizes) → OnOk result (HasRoomFor log.new sizes) }
-    ensures tried { OnErr result (TriesImage D.observable D.history D.sync_out D.read_out D.read_of D.faults log.old log.new) }
+    ensures tried { OnErr result (TriesImage D.meaning log.old log.new) }
     ensures by_fault { IfErr result (λ e. e ≡ Reason.Fault) }
     ensures clean { IsSome (value_at image.low (row_of tree.old.levels image.level)) → OnOk result (IsClean tree.new.levels image.level image.low) }
     ensures notes { AreNotesKept tree.old.levels tree.new.levels }
@@ -185,9 +185,9 @@ fn log_images<D: Disk>(
 ) -> Result<(), TreeErr>
     requires loggable { AllByRecursion (λ i. IsLoggable i.entry) images.items }
     requires room { (sizes : List ℕ) × HasRoomFor log.old (map (λ i. size_of i.entry) images.items ++ sizes) }
-    ensures grew { OnOk result (LogsImages D.observable D.history D.sync_out D.read_out D.read_of D.faults images.items log.old log.new tree.old tree.new) }
+    ensures grew { OnOk result (LogsImages D.meaning images.items log.old log.new tree.old tree.new) }
     ensures left { (sizes : List ℕ) → HasRoomFor log.old (map (λ i. size_of i.entry) images.items ++ sizes) → OnOk result (HasRoomFor log.new sizes) }
-    ensures tried { OnErr result (TriesImages D.observable D.history D.sync_out D.read_out D.read_of D.faults log.old log.new) }
+    ensures tried { OnErr result (TriesImages D.meaning log.old log.new) }
     ensures by_fault { IfErr result (λ e. e ≡ Reason.Fault) }
     ensures cells { tree.new.cells ≡ tree.old.cells }
     ensures waits { count_waiting (shape_in tree.new) ≤ count_waiting (shape_in tree.old) }
@@ -208,9 +208,9 @@ fn log_room<D: Disk>(
     requires loggable { AllByRecursion (λ i. IsLoggable i.entry) room.images.items }
     requires room { (sizes : List ℕ) × HasRoomFor log.old (room_sizes room ++ sizes) }
     requires there { is_there trees.old db ≡ true }
-    ensures grew { OnOk result (LogsRoom D.observable D.history D.sync_out D.read_out D.read_of D.faults db room.images.items log.old log.new trees.old trees.new) }
+    ensures grew { OnOk result (LogsRoom D.meaning db room.images.items log.old log.new trees.old trees.new) }
     ensures left { (sizes : List ℕ) → HasRoomFor log.old (room_sizes room ++ sizes) → OnOk result (HasRoomFor log.new sizes) }
-    ensures tried { OnErr result (TriesImages D.observable D.history D.sync_out D.read_out D.read_of D.faults log.old log.new) }
+    ensures tried { OnErr result (TriesImages D.meaning log.old log.new) }
     ensures by_fault { IfErr result (λ e. e ≡ Reason.Fault) }
     ensures cells { HasSameCells trees.old trees.new }
     ensures trees { HasSameTrees trees.old trees.new }
@@ -232,9 +232,9 @@ pub(crate) fn log_one<D: Disk>(
     requires entry { IsEntry (entry_for txn change.now.db change.now.name change.now.value) }
     requires room { (sizes : List ℕ) × HasRoomFor log.old (change_size change.now ∷ sizes) }
     ensures at { IfOk result (λ at. at ≡ pos_lsn (placed_at (file_max_of log.old) (end_of log.old) (size_of (entry_for txn change.now.db change.now.name change.now.value)))) }
-    ensures grew { OnOk result (GrewFitting D.observable D.history D.sync_out D.read_out D.read_of D.faults log.old log.new (entry_for txn change.now.db change.now.name change.now.value ∷ [])) }
+    ensures grew { OnOk result (GrewFitting D.meaning log.old log.new (entry_for txn change.now.db change.now.name change.now.value ∷ [])) }
     ensures left { (sizes : List ℕ) → HasRoomFor log.old (change_size change.now ∷ sizes) → OnOk result (HasRoomFor log.new sizes) }
-    ensures tried { OnErr result (TriedFitting D.observable D.history D.sync_out D.read_out D.read_of D.faults log.old log.new (entry_for txn change.now.db change.now.name change.now.value ∷ [])) }
+    ensures tried { OnErr result (TriedFitting D.meaning log.old log.new (entry_for txn change.now.db change.now.name change.now.value ∷ [])) }
     ensures by_fault { IfErr result (λ e. e ≡ Reason.Fault) }
 {
     match log.append_reserved(&entry_of(txn, change)) {
@@ -256,9 +256,9 @@ fn write_entry<D: Disk>(
     requires there { HasOne trees.old change.now.db change.now.name }
     requires write { write.value ≡ write_for txn change.now }
     ensures at { IfOk result (λ at. at ≡ pos_lsn (placed_at (file_max_of log.old) (end_of log.old) (size_of (entry_for txn change.now.db change.now.name change.now.value)))) }
-    ensures grew { OnOk result ((due : ℕ → List Due) → GrewForest D.observable D.history D.sync_out D.read_out D.read_of D.faults log.old log.new trees.old trees.new due due (entry_for txn change.now.db change.now.name change.now.value ∷ [])) }
+    ensures grew { OnOk result ((due : ℕ → List Due) → GrewForest D.meaning log.old log.new trees.old trees.new due due (entry_for txn change.now.db change.now.name change.now.value ∷ [])) }
     ensures left { (sizes : List ℕ) → HasRoomFor log.old (change_size change.now ∷ sizes) → OnOk result (HasRoomFor log.new sizes) }
-    ensures tried { OnErr result (TriedFitting D.observable D.history D.sync_out D.read_out D.read_of D.faults log.old log.new (entry_for txn change.now.db change.now.name change.now.value ∷ [])) }
+    ensures tried { OnErr result (TriedFitting D.meaning log.old log.new (entry_for txn change.now.db change.now.name change.now.value ∷ [])) }
     ensures by_fault { IfErr result (λ e. e ≡ Reason.Fault) }
     ensures cells { OnOk result ((at : ℕ) × HasChange (cells_seen trees.old) (cells_seen trees.new) change.now.db change.now.name (with_change (record { txn = txn; at = at; value = change.now.value }))) }
     ensures kept { KeepsCells trees.old trees.new }
@@ -288,9 +288,9 @@ pub(crate) fn write_one<D: Disk>(
     requires room { (sizes : List ℕ) × HasRoomFor log.old (room_sizes room ++ change_size change.now ∷ sizes) }
     requires there { HasOne trees.old change.now.db change.now.name }
     requires write { write.value ≡ write_for txn change.now }
-    ensures grew { IfOk result (λ at. LogsChangeAt D.observable D.history D.sync_out D.read_out D.read_of D.faults room.images.items txn change.now at log.old log.new trees.old trees.new) }
+    ensures grew { IfOk result (λ at. LogsChangeAt D.meaning room.images.items txn change.now at log.old log.new trees.old trees.new) }
     ensures left { (sizes : List ℕ) → HasRoomFor log.old (room_sizes room ++ change_size change.now ∷ sizes) → OnOk result (HasRoomFor log.new sizes) }
-    ensures tried { OnErr result (TriesChange D.observable D.history D.sync_out D.read_out D.read_of D.faults txn change.now log.old log.new) }
+    ensures tried { OnErr result (TriesChange D.meaning txn change.now log.old log.new) }
     ensures by_fault { IfErr result (λ e. e ≡ Reason.Fault) }
     ensures cells { OnOk result ((at : ℕ) × HasChange (cells_seen trees.old) (cells_seen trees.new) change.now.db change.now.name (with_change (record { txn = txn; at = at; value = change.now.value }))) }
     ensures kept { KeepsCells trees.old trees.new }
@@ -332,9 +332,9 @@ pub(crate) fn write_each<D: Disk>(
     requires room { (owed : ℕ) × HasRoomFor log.old (placed_sizes changes.now rooms.items ++ commit_sizes owed) }
     requires there { AllByRecursion (λ c. HasOne trees.old c.db c.name) changes.now }
     requires writes { map (λ b. b.value) writes.items ≡ map (write_for txn) changes.now }
-    ensures grew { IfOk result (λ first. (entries : List Entry) × LogsChanges txn changes.now entries × GrewForest D.observable D.history D.sync_out D.read_out D.read_of D.faults log.old log.new trees.old trees.new (due_of changes.now rooms.items) none_due entries × (length entries ≡ count_images rooms.items + length changes.now) × (first ≡ first_in log.old entries)) }
+    ensures grew { IfOk result (λ first. (entries : List Entry) × LogsChanges txn changes.now entries × GrewForest D.meaning log.old log.new trees.old trees.new (due_of changes.now rooms.items) none_due entries × (length entries ≡ count_images rooms.items + length changes.now) × (first ≡ first_in log.old entries)) }
     ensures left { (owed : ℕ) → HasRoomFor log.old (placed_sizes changes.now rooms.items ++ commit_sizes owed) → OnOk result (HasRoomFor log.new (commit_sizes owed)) }
-    ensures tried { OnErr result ((entries : List Entry) × (front : List Entry) × LogsChanges txn changes.now entries × IsFront front entries × TriedFitting D.observable D.history D.sync_out D.read_out D.read_of D.faults log.old log.new front) }
+    ensures tried { OnErr result ((entries : List Entry) × (front : List Entry) × LogsChanges txn changes.now entries × IsFront front entries × TriedFitting D.meaning log.old log.new front) }
     ensures by_fault { IfErr result (λ e. e ≡ Reason.Fault) }
     ensures cells { OnOk result (AreWritten txn changes.now (cells_seen trees.old) (cells_seen trees.new)) }
     ensures trees { HasSameTrees trees.old trees.new }
@@ -361,9 +361,9 @@ pub(crate) fn write_each<D: Disk>(
 pub(crate) fn log_commit<D: Disk>(log: &mut LogBuffer<D>, txn: TxnId) -> Result<Lsn, TreeErr>
     requires { (sizes : List ℕ) × HasRoomFor log.old (commit_size ∷ sizes) }
     ensures at { IfOk result (λ at. at ≡ pos_lsn (placed_at (file_max_of log.old) (end_of log.old) commit_size)) }
-    ensures grew { OnOk result (GrewFitting D.observable D.history D.sync_out D.read_out D.read_of D.faults log.old log.new (Committed txn ∷ [])) }
+    ensures grew { OnOk result (GrewFitting D.meaning log.old log.new (Committed txn ∷ [])) }
     ensures left { (sizes : List ℕ) → HasRoomFor log.old (commit_size ∷ sizes) → OnOk result (HasRoomFor log.new sizes) }
-    ensures tried { OnErr result (TriedFitting D.observable D.history D.sync_out D.read_out D.read_of D.faults log.old log.new (Committed txn ∷ [])) }
+    ensures tried { OnErr result (TriedFitting D.meaning log.old log.new (Committed txn ∷ [])) }
     ensures by_fault { IfErr result (λ e. e ≡ Reason.Fault) }
 {
     let commit = Entry::Commit { txn };

@@ -3,7 +3,7 @@ ghost use Rattle.std.specs.Prelude.{◌≡◌, length, IfOk, IsTrue};
 ghost use Rattle.std.specs.List.{list_all};
 ghost use Rattle.je_order.specs.Words.{is_word, is_word_character};
 
-use crate::Exact;
+use crate::{Exact, Octets};
 use std::alloc::{AllocError, Global};
 use std::marker::Model;
 
@@ -11,7 +11,7 @@ use std::marker::Model;
 /// `Word` (this project's own rule).
 #[derive(Debug, Drop)]
 pub struct Word {
-    characters: Vec<u8>,
+    characters: Octets,
 }
 
 impl Model for Word {
@@ -20,9 +20,9 @@ impl Model for Word {
 
     ghost Value = { List ℕ };
 
-    ghost view = { λ a. a.characters.items };
+    ghost view = { λ a. a.characters };
 
-    ghost invariant = { λ a. IsTrue (is_word a.characters.items) };
+    ghost invariant = { λ a. IsTrue (is_word a.characters) };
 }
 
 fn is_word_byte(character: u8) -> bool
@@ -50,7 +50,7 @@ impl Word {
         requires { IsTrue (is_word text.now) }
         ensures { IfOk result (λ word. word ≡ text.now) }
     {
-        let characters = Vec::from_slice(alloc, text)?;
+        let characters = Octets::from_slice(alloc, text)?;
         Ok(Word { characters })
     }
 

@@ -1,5 +1,6 @@
 -- Where a run begins.
 use Rattle.std.proofs.Common.{◌≡◌, ◌<◌, ℕ, Bool, true, false, [], None, refl, ap, sym, ◌∙◌, subst}
+use Rattle.je_disk.specs.DiskMeaning.{DiskMeaning}
 use Rattle.je_disk.specs.States.{Files, synced_crash_states}
 use Rattle.je_disk.specs.Moments.{History, now}
 use Rattle.store_model.specs.declared.store.Store.{Store}
@@ -43,13 +44,13 @@ module _ {D : Type 0} where
   opened_as_one most false files opening history environment opened safely =
       record { st = opened.0; starts = opened.1.starts; here = opened.1.here; reach = opened.1.reach; safe = λ o. cc }
 
-module _ {D : Type 0} (observable : Bool) (history : D → History) (faults : D → ℕ) where
+module _ {D : Type 0} (meaning : DiskMeaning D) where
   -- where the run of an environment begins in which the model stands here
   abbrev pub beginning : ℕ → Environment D → Standing → Beginning
-  beginning most environment st = record { most = most; first = reach_of environment; st = st; start = history (disk_of environment); faults = faults (disk_of environment) }
+  beginning most environment st = record { most = most; first = reach_of environment; st = st; start = meaning.history (disk_of environment); faults = meaning.faults (disk_of environment) }
 
-  pub begins : (most : ℕ) (files : Files) (opening : Store) (environment : Environment D) (one : IsOpenedAsOne most observable files opening (history (disk_of environment)) environment) → CanGoOn environment →
-      Begins observable history faults (beginning most environment one.st) environment
+  pub begins : (most : ℕ) (files : Files) (opening : Store) (environment : Environment D) (one : IsOpenedAsOne most meaning.observable files opening (meaning.history (disk_of environment)) environment) → CanGoOn environment →
+      Begins meaning (beginning most environment one.st) environment
   begins most files opening environment one bounds = record {
     running = record {
       here = one.here;
@@ -63,8 +64,8 @@ module _ {D : Type 0} (observable : Bool) (history : D → History) (faults : D 
       steps = tt;
       sessions = subst (λ (s : Standing). AreOf (λ n. n < 256) s.actives) (sym one.starts.st_is) tt;
       bounds = bounds;
-      caused = caused_none (faults (disk_of environment));
+      caused = caused_none (meaning.faults (disk_of environment));
     };
     guarded = λ observed. (one.safe observed).guarded;
-    calm = starts_calm observable files opening one.st one.starts;
+    calm = starts_calm meaning.observable files opening one.st one.starts;
   }

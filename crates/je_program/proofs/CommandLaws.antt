@@ -1,7 +1,8 @@
 -- What a program came to, command by command.
 use Rattle.std.proofs.Common.{◌≡◌, ◌≢◌, ◌<◌, ◌≤◌, ◌⊎◌, ◌∙◌, ℕ, Bool, true, false, true≢false, List, [], Option, None, Some, IfSome, Result, Ok, Err, is_some, length, refl, ap, sym, subst, inl, inr, arith}
 use Rattle.je_order.specs.Counts.{HasRisen, HasRisen as Failing}
-use Rattle.je_disk.specs.Moments.{History, now}
+use Rattle.je_disk.specs.DiskMeaning.{DiskMeaning}
+use Rattle.je_disk.specs.Moments.{now}
 use Rattle.je_disk.specs.States.{Files}
 use Rattle.store_model.specs.declared.event.Event.{Event}
 use Rattle.store_model.specs.declared.plan.RunPlan.{RunPlan}
@@ -200,14 +201,14 @@ unrun before after journal cause later none failed = record {
   failed = failed;
 }
 
-module _ {D : Type 0} (observable : Bool) (history : D → History) (faults : D → ℕ) where
+module _ {D : Type 0} (meaning : DiskMeaning D) where
   -- the arguments or the input gave nothing to do
   pub none_comes : (command : Option Command) (left rest : Option (List ℕ)) (before after : ℕ) (disk : D) (r : RunResult D) → IsNoRequest command left before after r.cause →
       before ≤ after → r.opened ≡ false → r.disk ≡ disk → r.journal.items ≡ [] → r.opening ≡ no_databases →
-      ComesTo command observable history faults left rest before after disk r Nothing
+      ComesTo command meaning left rest before after disk r Nothing
   none_comes command left rest before after disk r none later shut same no_journal nothing =
       let is = early command left before after r.cause none in
-      let still : (d : D) → d ≡ disk → IsUntouched (history disk) (history d) = λ d e. subst (λ (d : D). IsUntouched (history disk) (history d)) (sym e) (untouched_itself (history disk)) in
+      let still : (d : D) → d ≡ disk → IsUntouched (meaning.history disk) (meaning.history d) = λ d e. subst (λ (d : D). IsUntouched (meaning.history disk) (meaning.history d)) (sym e) (untouched_itself (meaning.history disk)) in
       record {
         may = none_may command left before after r.cause none;
         stopped = none_stopped command left before after r.cause none;
@@ -226,19 +227,19 @@ module _ {D : Type 0} (observable : Bool) (history : D → History) (faults : D 
         no_database = λ e. absurd (not_early r.cause NoDatabase is e);
         has_database = λ e. absurd (not_early r.cause Done is e);
         ends = λ opened. absurd (true≢false (sym opened ∙ shut));
-        caused = unrun (faults disk) (faults r.disk) r.journal.items r.cause (subst (λ (d : D). faults disk ≤ faults d) (sym same) (omega arith)) no_journal (λ e. absurd (not_early r.cause Disk is e));
-        left_alone = λ observed. left_alone r.cause (history disk) (history r.disk) (still r.disk same);
+        caused = unrun (meaning.faults disk) (meaning.faults r.disk) r.journal.items r.cause (subst (λ (d : D). meaning.faults disk ≤ meaning.faults d) (sym same) (omega arith)) no_journal (λ e. absurd (not_early r.cause Disk is e));
+        left_alone = λ observed. left_alone r.cause (meaning.history disk) (meaning.history r.disk) (still r.disk same);
         reads_only = λ closed observed. still r.disk same;
-        crash_unopened = λ observed none_opened. subst (λ (d : D). KeepsEntry (history disk) (history d)) (sym same) (entry_none (history disk));
-        text_is = subst (λ (b : Bool). IsTextOf command (record { observable = observable; files = (now (history disk)).reads; opened = b; opening = r.opening; journal = r.journal.items; totals = r.totals; cause = r.cause }) [])
-            (sym shut) (early_text command observable (now (history disk)).reads r.cause r.opening r.journal.items r.totals is);
+        crash_unopened = λ observed none_opened. subst (λ (d : D). KeepsEntry (meaning.history disk) (meaning.history d)) (sym same) (entry_none (meaning.history disk));
+        text_is = subst (λ (b : Bool). IsTextOf command (record { observable = meaning.observable; files = (now (meaning.history disk)).reads; opened = b; opening = r.opening; journal = r.journal.items; totals = r.totals; cause = r.cause }) [])
+            (sym shut) (early_text command meaning.observable (now (meaning.history disk)).reads r.cause r.opening r.journal.items r.totals is);
         source = later;
       }
 
   -- ---- a log was to be printed
 
-  printed_log : (files : Files) (before after : ℕ) (cause : Cause) (text : Text) (opened : Bool) (journal : List Event) (totals : Totals) → ends_reading cause ≡ true → IsPrinted observable files before after cause text →
-      IsLogText cause observable files (text_of text opened journal totals)
+  printed_log : (files : Files) (before after : ℕ) (cause : Cause) (text : Text) (opened : Bool) (journal : List Event) (totals : Totals) → ends_reading cause ≡ true → IsPrinted meaning.observable files before after cause text →
+      IsLogText cause meaning.observable files (text_of text opened journal totals)
   printed_log files before after Done (Log lines) opened journal totals may printed = (printed.held, printed.are, printed.text)
   printed_log files before after Done text opened journal totals may printed = absurd printed
   printed_log files before after Disk text opened journal totals may printed = ap (λ (t : Text). text_of t opened journal totals) printed.1
@@ -247,12 +248,12 @@ module _ {D : Type 0} (observable : Bool) (history : D → History) (faults : D 
   printed_log files before after (Unreadable corruption) text opened journal totals may printed = ap (λ (t : Text). text_of t opened journal totals) printed.1
   printed_log files before after cause text opened journal totals may printed = absurd printed
 
-  printed_sound : (files : Files) (before after : ℕ) (text : Text) → IsPrinted observable files before after Done text → observable ≡ true → AreSound files
+  printed_sound : (files : Files) (before after : ℕ) (text : Text) → IsPrinted meaning.observable files before after Done text → meaning.observable ≡ true → AreSound files
   printed_sound files before after (Log lines) printed observed = record { held = printed.held; are = printed.are observed; some = printed.some; none = printed.none }
   printed_sound files before after text printed observed = absurd printed
 
   -- a file was there
-  printed_file : (files : Files) (before after : ℕ) (cause : Cause) (text : Text) → ends_reading cause ≡ true → IsPrinted observable files before after cause text → needs_file cause ≡ true → observable ≡ true →
+  printed_file : (files : Files) (before after : ℕ) (cause : Cause) (text : Text) → ends_reading cause ≡ true → IsPrinted meaning.observable files before after cause text → needs_file cause ≡ true → meaning.observable ≡ true →
       HasNoFile files → ⊥
   printed_file files before after Done text may printed needs observed none = sound_has_files files (printed_sound files before after text printed observed) none
   printed_file files before after (Unreadable corruption) text may printed needs observed none =
@@ -276,12 +277,12 @@ module _ {D : Type 0} (observable : Bool) (history : D → History) (faults : D 
   reading_after cause is = refl
 
   pub print_comes : (left : Option (List ℕ)) (before after : ℕ) (disk : D) (r : RunResult D) (text : Text) → before ≤ after → ends_reading r.cause ≡ true →
-      IsPrinted observable (now (history disk)).reads (faults disk) (faults r.disk) r.cause text → r.opened ≡ false → r.journal.items ≡ [] → r.opening ≡ no_databases →
-      (observable ≡ true → IsUntouched (history disk) (history r.disk)) → faults disk ≤ faults r.disk →
-      ComesTo (Some PrintLog) observable history faults left left before after disk r text
+      IsPrinted meaning.observable (now (meaning.history disk)).reads (meaning.faults disk) (meaning.faults r.disk) r.cause text → r.opened ≡ false → r.journal.items ≡ [] → r.opening ≡ no_databases →
+      (meaning.observable ≡ true → IsUntouched (meaning.history disk) (meaning.history r.disk)) → meaning.faults disk ≤ meaning.faults r.disk →
+      ComesTo (Some PrintLog) meaning left left before after disk r text
   print_comes left before after disk r text later may printed shut no_journal nothing untouched never_falls =
-      let files = (now (history disk)).reads in
-      let at : (cause : Cause) → r.cause ≡ cause → IsPrinted observable files (faults disk) (faults r.disk) cause text = λ cause e. subst (λ (c : Cause). IsPrinted observable files (faults disk) (faults r.disk) c text) e printed in
+      let files = (now (meaning.history disk)).reads in
+      let at : (cause : Cause) → r.cause ≡ cause → IsPrinted meaning.observable files (meaning.faults disk) (meaning.faults r.disk) cause text = λ cause e. subst (λ (c : Cause). IsPrinted meaning.observable files (meaning.faults disk) (meaning.faults r.disk) c text) e printed in
       let other : (cause : Cause) → r.cause ≡ cause → ends_reading cause ≡ true = λ cause e. subst (λ (c : Cause). ends_reading c ≡ true) e may in
       record {
         may = may;
@@ -293,19 +294,19 @@ module _ {D : Type 0} (observable : Bool) (history : D → History) (faults : D 
         run = λ opened. absurd (true≢false (sym opened ∙ shut));
         unopened = λ none_opened. (nothing, no_journal);
         unreadable = λ corruption e observed. (let damage = (at (Unreadable corruption) e).0 in record { held = damage.held; are = damage.are observed; found = damage.found });
-        sound = λ command_is e observed. printed_sound files (faults disk) (faults r.disk) text (at Done e) observed;
+        sound = λ command_is e observed. printed_sound files (meaning.faults disk) (meaning.faults r.disk) text (at Done e) observed;
         wrong_index = λ name e. absurd (true≢false (sym (other (WrongIndex name) e)));
         ids_ended = λ e. absurd (true≢false (sym (other IdsEnded e)));
         no_environment = λ e. (at NoEnvironment e).0;
-        some_file = λ needs file observed none. printed_file files (faults disk) (faults r.disk) r.cause text may printed file observed none;
+        some_file = λ needs file observed none. printed_file files (meaning.faults disk) (meaning.faults r.disk) r.cause text may printed file observed none;
         no_database = λ e. absurd (true≢false (sym (other NoDatabase e)));
         has_database = λ e. tt;
         ends = λ opened. absurd (true≢false (sym opened ∙ shut));
-        caused = unrun (faults disk) (faults r.disk) r.journal.items r.cause never_falls no_journal (λ e. (at Disk e).0);
-        left_alone = λ observed. left_alone r.cause (history disk) (history r.disk) (untouched observed);
+        caused = unrun (meaning.faults disk) (meaning.faults r.disk) r.journal.items r.cause never_falls no_journal (λ e. (at Disk e).0);
+        left_alone = λ observed. left_alone r.cause (meaning.history disk) (meaning.history r.disk) (untouched observed);
         reads_only = λ closed. untouched;
-        crash_unopened = λ observed none_opened. (let u = untouched observed in entry_still (history disk) (history r.disk) u.moments u.same);
-        text_is = printed_log files (faults disk) (faults r.disk) r.cause text r.opened r.journal.items r.totals may printed;
+        crash_unopened = λ observed none_opened. (let u = untouched observed in entry_still (meaning.history disk) (meaning.history r.disk) u.moments u.same);
+        text_is = printed_log files (meaning.faults disk) (meaning.faults r.disk) r.cause text r.opened r.journal.items r.totals may printed;
         source = later;
       }
 
@@ -358,12 +359,12 @@ module _ (left rest : Option (List ℕ)) (before after : ℕ) where
       inl (ap BadScript (ap line_or (sym here.1 ∙ bad)))
   bad_line_by cause bytes line is short bad may stopped read = absurd (not_plan bytes line is bad (read refl (λ e. cc)))
 
-module _ {D : Type 0} {observable : Bool} {history : D → History} {faults : D → ℕ} {left rest : Option (List ℕ)} {before after : ℕ} {disk : D} {r : RunResult D} {text : Text} where
+module _ {D : Type 0} {meaning : DiskMeaning D} {left rest : Option (List ℕ)} {before after : ℕ} {disk : D} {r : RunResult D} {text : Text} where
   -- a cause that is one of reading came by reading
-  pub came_stopped : {command : Option Command} {cause : Cause} → ComesTo command observable history faults left rest before after disk r text → r.cause ≡ cause → IsStopped left before after cause
+  pub came_stopped : {command : Option Command} {cause : Cause} → ComesTo command meaning left rest before after disk r text → r.cause ≡ cause → IsStopped left before after cause
   came_stopped c is = subst (IsStopped left before after) is c.stopped
 
-  pub came_too_long : (command : Option Command) → ComesTo command observable history faults left rest before after disk r text → (bytes : List ℕ) → reads_input command ≡ true → left ≡ Some bytes →
+  pub came_too_long : (command : Option Command) → ComesTo command meaning left rest before after disk r text → (bytes : List ℕ) → reads_input command ≡ true → left ≡ Some bytes →
       MOST_INPUT < length bytes → (r.cause ≡ InputTooLong) ⊎ (r.cause ≡ Memory) ⊎ Failing before after
   came_too_long None c bytes reads is long = cc
   came_too_long (Some (Run settings)) c bytes reads is long = too_long_by left rest before after r.cause bytes is long c.may c.stopped c.read
@@ -371,7 +372,7 @@ module _ {D : Type 0} {observable : Bool} {history : D → History} {faults : D 
   came_too_long (Some (Dump db printed)) c bytes reads is long = cc
   came_too_long (Some PrintLog) c bytes reads is long = cc
 
-  pub came_bad : (command : Option Command) → ComesTo command observable history faults left rest before after disk r text → (settings : RunSettings) (bytes : List ℕ) (line : ℕ) → command ≡ Some (Run settings) →
+  pub came_bad : (command : Option Command) → ComesTo command meaning left rest before after disk r text → (settings : RunSettings) (bytes : List ℕ) (line : ℕ) → command ≡ Some (Run settings) →
       left ≡ Some bytes → length bytes ≤ MOST_INPUT → plan_of bytes ≡ Err line → (r.cause ≡ BadScript line) ⊎ (r.cause ≡ Memory) ⊎ Failing before after
   came_bad None c settings bytes line run is short bad = cc
   came_bad (Some (Run settings)) c others bytes line run is short bad = bad_line_by left rest before after r.cause bytes line is short bad c.may c.stopped c.read
@@ -380,8 +381,8 @@ module _ {D : Type 0} {observable : Bool} {history : D → History} {faults : D 
   came_bad (Some PrintLog) c settings bytes line run is short bad = cc
 
   -- where a run began its files meant something
-  began : (command : Option Command) → ComesTo command observable history faults left rest before after disk r text → observable ≡ true → r.opened ≡ true →
-      (meaning : Meaning) × Means (now (history disk)).reads meaning × (wrong_index meaning.store ≡ None)
+  began : (command : Option Command) → ComesTo command meaning left rest before after disk r text → meaning.observable ≡ true → r.opened ≡ true →
+      (read : Meaning) × Means (now (meaning.history disk)).reads read × (wrong_index read.store ≡ None)
   began command c observed opened =
       let starts = (c.run opened).3.starts in (
         starts.meaning,
@@ -389,83 +390,83 @@ module _ {D : Type 0} {observable : Bool} {history : D → History} {faults : D 
         ap wrong_index starts.means_store ∙ sym starts.indexed.first,
       )
 
-  run_ends : (command : Option Command) → ComesTo command observable history faults left rest before after disk r text → opens command ≡ true →
-      ((corruption : Corruption) → r.cause ≡ Unreadable corruption → observable ≡ true → HasCorruption (now (history disk)).reads corruption) → (needs_environment command ≡ true → r.cause ≢ NoEnvironment) →
-      r.cause ≢ NoDatabase → HasInput command left → observable ≡ true →
-      CanBeOpened (now (history disk)).reads → EndsRun r.cause r.opened r.journal.items ⊎ (r.cause ≡ Memory) ⊎ Failing before after ⊎ HasRisen (faults disk) (faults r.disk)
+  run_ends : (command : Option Command) → ComesTo command meaning left rest before after disk r text → opens command ≡ true →
+      ((corruption : Corruption) → r.cause ≡ Unreadable corruption → meaning.observable ≡ true → HasCorruption (now (meaning.history disk)).reads corruption) → (needs_environment command ≡ true → r.cause ≢ NoEnvironment) →
+      r.cause ≢ NoDatabase → HasInput command left → meaning.observable ≡ true →
+      CanBeOpened (now (meaning.history disk)).reads → EndsRun r.cause r.opened r.journal.items ⊎ (r.cause ≡ Memory) ⊎ Failing before after ⊎ HasRisen (meaning.faults disk) (meaning.faults r.disk)
   run_ends command c opened unreadable there other input observed can =
-      completes (now (history disk)).reads before after (faults disk) (faults r.disk) r.cause r.opened r.journal.items can (past_input command left before after r.cause opened input c.may c.stopped there)
+      completes (now (meaning.history disk)).reads before after (meaning.faults disk) (meaning.faults r.disk) r.cause r.opened r.journal.items can (past_input command left before after r.cause opened input c.may c.stopped there)
       (subst (λ (b : Bool). RunsBy b r.cause r.opened) opened c.runs) (λ corruption is. unreadable corruption is observed) (λ name is. c.wrong_index name is observed) c.ends c.caused.failed other
 
-  pub came_well : (command : Option Command) → ComesTo command observable history faults left rest before after disk r text → HasInput command left → observable ≡ true →
-      AreReady command (now (history disk)).reads → EndsWell command r.cause r.opened r.opening r.journal.items ⊎ (r.cause ≡ Memory) ⊎ Failing before after ⊎ HasRisen (faults disk) (faults r.disk)
+  pub came_well : (command : Option Command) → ComesTo command meaning left rest before after disk r text → HasInput command left → meaning.observable ≡ true →
+      AreReady command (now (meaning.history disk)).reads → EndsWell command r.cause r.opened r.opening r.journal.items ⊎ (r.cause ≡ Memory) ⊎ Failing before after ⊎ HasRisen (meaning.faults disk) (meaning.faults r.disk)
   came_well None c input observed ready = absurd input
   came_well (Some (Run settings)) c input observed ready =
       run_ends (Some (Run settings)) c refl c.unreadable (λ needs. cc) (λ is. true≢false (sym c.may ∙ ap ends_script is)) input observed ready
   came_well (Some (Soak seed settings)) c input observed ready =
       run_ends (Some (Soak seed settings)) c refl c.unreadable (λ needs. cc) (λ is. true≢false (sym c.may ∙ ap ends_soak is)) input observed ready
   came_well (Some (Dump db printed)) c input observed ready =
-      dump_completes (now (history disk)).reads before after (faults disk) (faults r.disk) r.cause r.opened r.journal.items (database_of db r.opening) ready.0 ready.1 c.may c.runs
+      dump_completes (now (meaning.history disk)).reads before after (meaning.faults disk) (meaning.faults r.disk) r.cause r.opened r.journal.items (database_of db r.opening) ready.0 ready.1 c.may c.runs
       (λ corruption is. c.unreadable corruption is observed) (λ name is. c.wrong_index name is observed) (λ is. c.no_environment is observed) (λ opened. (c.given opened).none refl) c.ends c.caused.failed
       c.has_database c.no_database
   came_well (Some PrintLog) c input observed ready =
-      reads_well (now (history disk)).reads before after (faults disk) (faults r.disk) r.cause ready c.may (λ corruption is. c.unreadable corruption is observed) (λ is. c.no_environment is observed) c.caused.failed
+      reads_well (now (meaning.history disk)).reads before after (meaning.faults disk) (meaning.faults r.disk) r.cause ready c.may (λ corruption is. c.unreadable corruption is observed) (λ is. c.no_environment is observed) c.caused.failed
 
-  run_finds : (command : Option Command) → ComesTo command observable history faults left rest before after disk r text → opens command ≡ true →
-      ((corruption : Corruption) → r.cause ≡ Unreadable corruption → observable ≡ true → HasCorruption (now (history disk)).reads corruption) → (needs_environment command ≡ true → r.cause ≢ NoEnvironment) →
-      (corruption : Corruption) → HasInput command left → observable ≡ true →
-      HasCorruption (now (history disk)).reads corruption → (r.cause ≡ Unreadable corruption) ⊎ (r.cause ≡ Memory) ⊎ Failing before after ⊎ HasRisen (faults disk) (faults r.disk)
+  run_finds : (command : Option Command) → ComesTo command meaning left rest before after disk r text → opens command ≡ true →
+      ((corruption : Corruption) → r.cause ≡ Unreadable corruption → meaning.observable ≡ true → HasCorruption (now (meaning.history disk)).reads corruption) → (needs_environment command ≡ true → r.cause ≢ NoEnvironment) →
+      (corruption : Corruption) → HasInput command left → meaning.observable ≡ true →
+      HasCorruption (now (meaning.history disk)).reads corruption → (r.cause ≡ Unreadable corruption) ⊎ (r.cause ≡ Memory) ⊎ Failing before after ⊎ HasRisen (meaning.faults disk) (meaning.faults r.disk)
   run_finds command c opened unreadable there corruption input observed has =
-      finds (now (history disk)).reads before after (faults disk) (faults r.disk) r.cause r.opened corruption has (past_input command left before after r.cause opened input c.may c.stopped there)
+      finds (now (meaning.history disk)).reads before after (meaning.faults disk) (meaning.faults r.disk) r.cause r.opened corruption has (past_input command left before after r.cause opened input c.may c.stopped there)
       (subst (λ (b : Bool). RunsBy b r.cause r.opened) opened c.runs) (λ f is. unreadable f is observed) (λ name is. c.wrong_index name is observed)
       (λ is_opened. (let m = began command c observed is_opened in (m.0, m.1))) (λ is none. c.ids_ended is none observed) c.caused.failed
 
-  pub came_found : (command : Option Command) → ComesTo command observable history faults left rest before after disk r text → (corruption : Corruption) → HasInput command left → observable ≡ true →
-      IsFound command (now (history disk)).reads corruption → (r.cause ≡ Unreadable corruption) ⊎ (r.cause ≡ Memory) ⊎ Failing before after ⊎ HasRisen (faults disk) (faults r.disk)
+  pub came_found : (command : Option Command) → ComesTo command meaning left rest before after disk r text → (corruption : Corruption) → HasInput command left → meaning.observable ≡ true →
+      IsFound command (now (meaning.history disk)).reads corruption → (r.cause ≡ Unreadable corruption) ⊎ (r.cause ≡ Memory) ⊎ Failing before after ⊎ HasRisen (meaning.faults disk) (meaning.faults r.disk)
   came_found None c corruption input observed found = absurd input
   came_found (Some (Run settings)) c corruption input observed found = run_finds (Some (Run settings)) c refl c.unreadable (λ needs. cc) corruption input observed found
   came_found (Some (Soak seed settings)) c corruption input observed found = run_finds (Some (Soak seed settings)) c refl c.unreadable (λ needs. cc) corruption input observed found
   came_found (Some (Dump db printed)) c corruption input observed found =
-      run_finds (Some (Dump db printed)) c refl c.unreadable (λ needs is. corrupt_has_files (now (history disk)).reads corruption found (c.no_environment is observed)) corruption input observed found
+      run_finds (Some (Dump db printed)) c refl c.unreadable (λ needs is. corrupt_has_files (now (meaning.history disk)).reads corruption found (c.no_environment is observed)) corruption input observed found
   came_found (Some PrintLog) c corruption input observed found =
-      reads_damage (now (history disk)).reads before after (faults disk) (faults r.disk) r.cause corruption found c.may (λ is. c.sound refl is observed) (λ f is. c.unreadable f is observed)
+      reads_damage (now (meaning.history disk)).reads before after (meaning.faults disk) (meaning.faults r.disk) r.cause corruption found c.may (λ is. c.sound refl is observed) (λ f is. c.unreadable f is observed)
       (λ is. c.no_environment is observed) c.caused.failed
 
-  run_finds_wrong : (command : Option Command) → ComesTo command observable history faults left rest before after disk r text → opens command ≡ true →
-      ((corruption : Corruption) → r.cause ≡ Unreadable corruption → observable ≡ true → HasCorruption (now (history disk)).reads corruption) → (needs_environment command ≡ true → r.cause ≢ NoEnvironment) →
-      (name : List ℕ) → HasInput command left → observable ≡ true →
-      HasWrongIndex (now (history disk)).reads name → (r.cause ≡ WrongIndex name) ⊎ (r.cause ≡ Memory) ⊎ Failing before after ⊎ HasRisen (faults disk) (faults r.disk)
+  run_finds_wrong : (command : Option Command) → ComesTo command meaning left rest before after disk r text → opens command ≡ true →
+      ((corruption : Corruption) → r.cause ≡ Unreadable corruption → meaning.observable ≡ true → HasCorruption (now (meaning.history disk)).reads corruption) → (needs_environment command ≡ true → r.cause ≢ NoEnvironment) →
+      (name : List ℕ) → HasInput command left → meaning.observable ≡ true →
+      HasWrongIndex (now (meaning.history disk)).reads name → (r.cause ≡ WrongIndex name) ⊎ (r.cause ≡ Memory) ⊎ Failing before after ⊎ HasRisen (meaning.faults disk) (meaning.faults r.disk)
   run_finds_wrong command c opened unreadable there name input observed has =
-      finds_wrong (now (history disk)).reads before after (faults disk) (faults r.disk) r.cause r.opened name has (past_input command left before after r.cause opened input c.may c.stopped there)
+      finds_wrong (now (meaning.history disk)).reads before after (meaning.faults disk) (meaning.faults r.disk) r.cause r.opened name has (past_input command left before after r.cause opened input c.may c.stopped there)
       (subst (λ (b : Bool). RunsBy b r.cause r.opened) opened c.runs) (λ f is. unreadable f is observed) (λ other is. c.wrong_index other is observed)
       (λ is_opened. began command c observed is_opened) (λ is none. c.ids_ended is none observed) c.caused.failed
 
-  pub came_wrong : (command : Option Command) → ComesTo command observable history faults left rest before after disk r text → (name : List ℕ) → HasInput command left → opens command ≡ true → observable ≡ true →
-      HasWrongIndex (now (history disk)).reads name → (r.cause ≡ WrongIndex name) ⊎ (r.cause ≡ Memory) ⊎ Failing before after ⊎ HasRisen (faults disk) (faults r.disk)
+  pub came_wrong : (command : Option Command) → ComesTo command meaning left rest before after disk r text → (name : List ℕ) → HasInput command left → opens command ≡ true → meaning.observable ≡ true →
+      HasWrongIndex (now (meaning.history disk)).reads name → (r.cause ≡ WrongIndex name) ⊎ (r.cause ≡ Memory) ⊎ Failing before after ⊎ HasRisen (meaning.faults disk) (meaning.faults r.disk)
   came_wrong None c name input opened observed has = absurd input
   came_wrong (Some (Run settings)) c name input opened observed has = run_finds_wrong (Some (Run settings)) c refl c.unreadable (λ needs. cc) name input observed has
   came_wrong (Some (Soak seed settings)) c name input opened observed has = run_finds_wrong (Some (Soak seed settings)) c refl c.unreadable (λ needs. cc) name input observed has
   came_wrong (Some (Dump db printed)) c name input opened observed has =
-      run_finds_wrong (Some (Dump db printed)) c refl c.unreadable (λ needs is. wrong_has_files (now (history disk)).reads name has (c.no_environment is observed)) name input observed has
+      run_finds_wrong (Some (Dump db printed)) c refl c.unreadable (λ needs is. wrong_has_files (now (meaning.history disk)).reads name has (c.no_environment is observed)) name input observed has
   came_wrong (Some PrintLog) c name input opened observed has = cc
 
-  pub came_nothing : (command : Option Command) → ComesTo command observable history faults left rest before after disk r text → needs_environment command ≡ true → observable ≡ true →
-      HasNoFile (now (history disk)).reads → (r.cause ≡ NoEnvironment) ⊎ (r.cause ≡ Memory) ⊎ HasRisen (faults disk) (faults r.disk)
+  pub came_nothing : (command : Option Command) → ComesTo command meaning left rest before after disk r text → needs_environment command ≡ true → meaning.observable ≡ true →
+      HasNoFile (now (meaning.history disk)).reads → (r.cause ≡ NoEnvironment) ⊎ (r.cause ≡ Memory) ⊎ HasRisen (meaning.faults disk) (meaning.faults r.disk)
   came_nothing None c needs observed none = cc
   came_nothing (Some (Run settings)) c needs observed none = cc
   came_nothing (Some (Soak seed settings)) c needs observed none = cc
-  came_nothing (Some (Dump db printed)) c needs observed none = dump_nothing (now (history disk)).reads (faults disk) (faults r.disk) r.cause none c.may (λ file. c.some_file refl file observed) c.caused.failed
+  came_nothing (Some (Dump db printed)) c needs observed none = dump_nothing (now (meaning.history disk)).reads (meaning.faults disk) (meaning.faults r.disk) r.cause none c.may (λ file. c.some_file refl file observed) c.caused.failed
   came_nothing (Some PrintLog) c needs observed none =
-      reads_nothing (now (history disk)).reads before after (faults disk) (faults r.disk) r.cause none c.may (λ is. c.sound refl is observed) (λ f is. c.unreadable f is observed) c.caused.failed
+      reads_nothing (now (meaning.history disk)).reads before after (meaning.faults disk) (meaning.faults r.disk) r.cause none c.may (λ is. c.sound refl is observed) (λ f is. c.unreadable f is observed) c.caused.failed
 
-  pub came_usage : (command : Option Command) → ComesTo command observable history faults left rest before after disk r text → r.cause ≡ Usage → is_some command ≡ false
+  pub came_usage : (command : Option Command) → ComesTo command meaning left rest before after disk r text → r.cause ≡ Usage → is_some command ≡ false
   came_usage None c is = refl
   came_usage (Some (Run settings)) c is = (let e : false ≡ true = sym (ap ends_script is) ∙ c.may in cc)
   came_usage (Some (Soak seed settings)) c is = (let e : false ≡ true = sym (ap ends_soak is) ∙ c.may in cc)
   came_usage (Some (Dump db printed)) c is = (let e : false ≡ true = sym (ap ends_dump is) ∙ c.may in cc)
   came_usage (Some PrintLog) c is = (let e : false ≡ true = sym (ap ends_reading is) ∙ c.may in cc)
 
-  pub came_unparsed : (command : Option Command) → ComesTo command observable history faults left rest before after disk r text → is_some command ≡ false → (r.cause ≡ Usage) ⊎ (r.cause ≡ Memory)
+  pub came_unparsed : (command : Option Command) → ComesTo command meaning left rest before after disk r text → is_some command ≡ false → (r.cause ≡ Usage) ⊎ (r.cause ≡ Memory)
   came_unparsed None c none = unparsed r.cause c.may
     where
       unparsed : (cause : Cause) → ends_unparsed cause ≡ true → (cause ≡ Usage) ⊎ (cause ≡ Memory)

@@ -3,6 +3,7 @@ use Rattle.std.proofs.Common.{◌≡◌, ◌≢◌, ◌≤◌, ◌⊎◌, ◌∙
 use Rattle.std.specs.Prelude.{IsSome}
 use Rattle.je_order.specs.Counts.{HasRisen}
 use Rattle.je_order.specs.declared.octets.Octets.{Octets}
+use Rattle.je_disk.specs.DiskMeaning.{DiskMeaning}
 use Rattle.je_disk.specs.Moments.{History, now}
 use Rattle.je_disk.specs.States.{Files, State, IsListing}
 use Rattle.je_lsn.specs.declared.file_no.FileNo.{FileNo}
@@ -353,16 +354,16 @@ stopped_other error cause is = subst IsOpeningCause is (stopped_cause error)
 
 -- ---- the whole
 
-module _ {D : Type 0} (observable : Bool) (history : D → History) (faults : D → ℕ) where
+module _ {D : Type 0} (meaning : DiskMeaning D) where
   -- a run that goes on under its fields
   pub run_of_same : (most : ℕ) (old : History) (before : ℕ) (first r : RunResult D) (end : Cause) (st : Standing) → IsSameRun first r →
-      IsRunOf most observable old (history first.disk) before (faults first.disk) first.opening first.totals first.journal.items end st →
-      IsRunOf most observable old (history r.disk) before (faults r.disk) r.opening r.totals r.journal.items end st
+      IsRunOf most meaning.observable old (meaning.history first.disk) before (meaning.faults first.disk) first.opening first.totals first.journal.items end st →
+      IsRunOf most meaning.observable old (meaning.history r.disk) before (meaning.faults r.disk) r.opening r.totals r.journal.items end st
   run_of_same most old before first r end st same run =
-      subst (λ (d : D). IsRunOf most observable old (history d) before (faults d) r.opening r.totals r.journal.items end st) (sym same.disk)
-      (subst (λ (o : Store). IsRunOf most observable old (history first.disk) before (faults first.disk) o r.totals r.journal.items end st) (sym same.opening)
-      (subst (λ (t : Totals). IsRunOf most observable old (history first.disk) before (faults first.disk) first.opening t r.journal.items end st) (sym same.totals)
-      (subst (λ (j : List Event). IsRunOf most observable old (history first.disk) before (faults first.disk) first.opening first.totals j end st) (sym same.journal) run)))
+      subst (λ (d : D). IsRunOf most meaning.observable old (meaning.history d) before (meaning.faults d) r.opening r.totals r.journal.items end st) (sym same.disk)
+      (subst (λ (o : Store). IsRunOf most meaning.observable old (meaning.history first.disk) before (meaning.faults first.disk) o r.totals r.journal.items end st) (sym same.opening)
+      (subst (λ (t : Totals). IsRunOf most meaning.observable old (meaning.history first.disk) before (meaning.faults first.disk) first.opening t r.journal.items end st) (sym same.totals)
+      (subst (λ (j : List Event). IsRunOf most meaning.observable old (meaning.history first.disk) before (meaning.faults first.disk) first.opening first.totals j end st) (sym same.journal) run)))
 
   module _ (db : List ℕ) (printed : Bool) (left : Option (List ℕ)) (before after : ℕ) (later : before ≤ after) where
     given_none : (journal : List Event) (cause : Cause) → journal ≡ [] → IsGivenTo (Some (Dump db printed)) left left journal cause
@@ -376,12 +377,12 @@ module _ {D : Type 0} (observable : Bool) (history : D → History) (faults : D 
     })
 
     -- the environment was opened, and closed again
-    pub dump_comes : (disk : D) (r : RunResult D) (text : Text) (st : Standing) (end : Cause) (rows : Rows) (known : Option FoundDatabase) → (observable ≡ true → HasNoFile (now (history disk)).reads → ⊥) →
+    pub dump_comes : (disk : D) (r : RunResult D) (text : Text) (st : Standing) (end : Cause) (rows : Rows) (known : Option FoundDatabase) → (meaning.observable ≡ true → HasNoFile (now (meaning.history disk)).reads → ⊥) →
         r.cause ≡ cause_with known end → (end ≡ Done) ⊎ (end ≡ Disk) → r.opened ≡ true → r.journal.items ≡ [] →
-        IsRunOf usual_file_max observable (history disk) (history r.disk) (faults disk) (faults r.disk) r.opening r.totals r.journal.items end st →
-        ClosesRun (faults disk) (faults r.disk) r.journal.items end → IsFoundIn rows (database_of db r.opening) known →
+        IsRunOf usual_file_max meaning.observable (meaning.history disk) (meaning.history r.disk) (meaning.faults disk) (meaning.faults r.disk) r.opening r.totals r.journal.items end st →
+        ClosesRun (meaning.faults disk) (meaning.faults r.disk) r.journal.items end → IsFoundIn rows (database_of db r.opening) known →
         text_of text r.opened r.journal.items r.totals ≡ dump_given end printed rows known →
-        ComesTo (Some (Dump db printed)) observable history faults left left before after disk r text
+        ComesTo (Some (Dump db printed)) meaning left left before after disk r text
     dump_comes disk r text st end rows known there cause_is end_is opened empty run caused found text_is =
         let database = database_of db r.opening in
         let e : DumpEnd end r.cause database = subst (λ (c : Cause). DumpEnd end c database) (sym cause_is) (dump_end rows known database end found end_is) in
@@ -396,7 +397,7 @@ module _ {D : Type 0} (observable : Bool) (history : D → History) (faults : D 
             usual_file_max,
             st,
             refl,
-            run_with_cause usual_file_max observable (history disk) (history r.disk) (faults disk) (faults r.disk) r.opening r.totals r.journal.items st end r.cause run e.no_memory e.through,
+            run_with_cause usual_file_max meaning.observable (meaning.history disk) (meaning.history r.disk) (meaning.faults disk) (meaning.faults r.disk) r.opening r.totals r.journal.items st end r.cause run e.no_memory e.through,
           );
           unopened = λ shut. absurd (true≢false (sym opened ∙ shut));
           unreadable = λ corruption is. absurd (e.not_unreadable corruption is);
@@ -409,7 +410,7 @@ module _ {D : Type 0} (observable : Bool) (history : D → History) (faults : D 
           has_database = e.has;
           ends = λ o other. subst (λ (j : List Event). EndsWith j r.cause) (sym empty) e.ends;
           caused = record { never_falls = caused.never_falls; fault = caused.fault; failed = λ is. caused.failed (e.failed is) };
-          left_alone = λ observed. e.untouched (history disk) (history r.disk);
+          left_alone = λ observed. e.untouched (meaning.history disk) (meaning.history r.disk);
           reads_only = λ closed. absurd (true≢false closed);
           crash_unopened = λ observed shut. absurd (true≢false (sym opened ∙ shut));
           text_is = text_is ∙ text_is_dump rows known database end printed found end_is ∙ ap (λ (c : Cause). dump_at c printed database) (sym cause_is);
@@ -417,17 +418,17 @@ module _ {D : Type 0} (observable : Bool) (history : D → History) (faults : D 
         }
 
     -- no file was there, or that was not to be known
-    pub look_comes : (disk : D) (r : RunResult D) (found : Cause) (mid : D) → IsLook observable (now (history disk)).reads (faults disk) (faults mid) (Some found) →
-        (observable ≡ true → IsUntouched (history disk) (history mid)) → faults disk ≤ faults mid → r.cause ≡ found → r.opened ≡ false → r.disk ≡ mid → r.journal.items ≡ [] → r.opening ≡ no_databases →
-        ComesTo (Some (Dump db printed)) observable history faults left left before after disk r Nothing
+    pub look_comes : (disk : D) (r : RunResult D) (found : Cause) (mid : D) → IsLook meaning.observable (now (meaning.history disk)).reads (meaning.faults disk) (meaning.faults mid) (Some found) →
+        (meaning.observable ≡ true → IsUntouched (meaning.history disk) (meaning.history mid)) → meaning.faults disk ≤ meaning.faults mid → r.cause ≡ found → r.opened ≡ false → r.disk ≡ mid → r.journal.items ≡ [] → r.opening ≡ no_databases →
+        ComesTo (Some (Dump db printed)) meaning left left before after disk r Nothing
     look_comes disk r found mid looked at_mid never_falls cause_is shut disk_is empty nothing =
-        let files = (now (history disk)).reads in
-        let look : IsLook observable files (faults disk) (faults r.disk) (Some r.cause) = subst (λ (d : D). IsLook observable files (faults disk) (faults d) (Some r.cause)) (sym disk_is)
-        (subst (λ (c : Cause). IsLook observable files (faults disk) (faults mid) (Some c)) (sym cause_is) looked) in
-        let still : observable ≡ true → IsUntouched (history disk) (history r.disk) = λ observed. subst (λ (d : D). IsUntouched (history disk) (history d)) (sym disk_is) (at_mid observed) in
-        let is = look_cause observable files (faults disk) (faults r.disk) r.cause look in
-        let at : (cause : Cause) → r.cause ≡ cause → IsLook observable files (faults disk) (faults r.disk) (Some cause) =
-        λ cause e. subst (λ (c : Cause). IsLook observable files (faults disk) (faults r.disk) (Some c)) e look in
+        let files = (now (meaning.history disk)).reads in
+        let look : IsLook meaning.observable files (meaning.faults disk) (meaning.faults r.disk) (Some r.cause) = subst (λ (d : D). IsLook meaning.observable files (meaning.faults disk) (meaning.faults d) (Some r.cause)) (sym disk_is)
+        (subst (λ (c : Cause). IsLook meaning.observable files (meaning.faults disk) (meaning.faults mid) (Some c)) (sym cause_is) looked) in
+        let still : meaning.observable ≡ true → IsUntouched (meaning.history disk) (meaning.history r.disk) = λ observed. subst (λ (d : D). IsUntouched (meaning.history disk) (meaning.history d)) (sym disk_is) (at_mid observed) in
+        let is = look_cause meaning.observable files (meaning.faults disk) (meaning.faults r.disk) r.cause look in
+        let at : (cause : Cause) → r.cause ≡ cause → IsLook meaning.observable files (meaning.faults disk) (meaning.faults r.disk) (Some cause) =
+        λ cause e. subst (λ (c : Cause). IsLook meaning.observable files (meaning.faults disk) (meaning.faults r.disk) (Some c)) e look in
         let may = look_may r.cause is in
         record {
           may = may;
@@ -447,22 +448,22 @@ module _ {D : Type 0} (observable : Bool) (history : D → History) (faults : D 
           no_database = λ e. absurd (look_is r.cause NoDatabase is e);
           has_database = λ e. absurd (look_is r.cause Done is e);
           ends = λ opened. absurd (true≢false (sym opened ∙ shut));
-          caused = unrun (faults disk) (faults r.disk) r.journal.items r.cause (subst (λ (d : D). faults disk ≤ faults d) (sym disk_is) never_falls) empty (λ e. at Disk e);
-          left_alone = λ observed. left_alone r.cause (history disk) (history r.disk) (still observed);
+          caused = unrun (meaning.faults disk) (meaning.faults r.disk) r.journal.items r.cause (subst (λ (d : D). meaning.faults disk ≤ meaning.faults d) (sym disk_is) never_falls) empty (λ e. at Disk e);
+          left_alone = λ observed. left_alone r.cause (meaning.history disk) (meaning.history r.disk) (still observed);
           reads_only = λ closed. absurd (true≢false closed);
-          crash_unopened = λ observed none_opened. (let u = still observed in entry_still (history disk) (history r.disk) u.moments u.same);
+          crash_unopened = λ observed none_opened. (let u = still observed in entry_still (meaning.history disk) (meaning.history r.disk) u.moments u.same);
           text_is = look_text r.cause printed (database_of db r.opening) is;
           source = later;
         }
 
     -- the environment was not opened
-    pub stopped_comes : (disk : D) (r : RunResult D) (error : OpenErr) (end : D) → (observable ≡ true → HasNoFile (now (history disk)).reads → ⊥) →
-        StopsBy observable (now (history disk)).reads (faults disk) (faults end) error → (observable ≡ true → IsLeftAlone error (history disk) (history end)) →
-        (observable ≡ true → KeepsEntry (history disk) (history end)) → faults disk ≤ faults end → r.cause ≡ cause_of_opening error → r.opened ≡ false → r.disk ≡ end → r.journal.items ≡ [] →
-        r.opening ≡ no_databases → ComesTo (Some (Dump db printed)) observable history faults left left before after disk r Nothing
+    pub stopped_comes : (disk : D) (r : RunResult D) (error : OpenErr) (end : D) → (meaning.observable ≡ true → HasNoFile (now (meaning.history disk)).reads → ⊥) →
+        StopsBy meaning.observable (now (meaning.history disk)).reads (meaning.faults disk) (meaning.faults end) error → (meaning.observable ≡ true → IsLeftAlone error (meaning.history disk) (meaning.history end)) →
+        (meaning.observable ≡ true → KeepsEntry (meaning.history disk) (meaning.history end)) → meaning.faults disk ≤ meaning.faults end → r.cause ≡ cause_of_opening error → r.opened ≡ false → r.disk ≡ end → r.journal.items ≡ [] →
+        r.opening ≡ no_databases → ComesTo (Some (Dump db printed)) meaning left left before after disk r Nothing
     stopped_comes disk r error end there stops_at alone_at entry_at never_falls cause_is shut disk_is empty nothing =
-        let files = (now (history disk)).reads in
-        let stops : StopsBy observable files (faults disk) (faults r.disk) error = subst (λ (d : D). StopsBy observable files (faults disk) (faults d) error) (sym disk_is) stops_at in
+        let files = (now (meaning.history disk)).reads in
+        let stops : StopsBy meaning.observable files (meaning.faults disk) (meaning.faults r.disk) error = subst (λ (d : D). StopsBy meaning.observable files (meaning.faults disk) (meaning.faults d) error) (sym disk_is) stops_at in
         let may : ends_dump r.cause ≡ true = ap ends_dump cause_is ∙ stopped_dump error in
         record {
           may = may;
@@ -473,30 +474,30 @@ module _ {D : Type 0} (observable : Bool) (history : D → History) (faults : D 
           runs = subst (λ (c : Cause). RunsIf c r.opened) (sym cause_is) (stopped_runs error r.opened shut);
           run = λ opened. absurd (true≢false (sym opened ∙ shut));
           unopened = λ none_opened. (nothing, empty);
-          unreadable = λ corruption is observed. stopped_unreadable observable files (faults disk) (faults r.disk) error corruption stops (sym cause_is ∙ is) observed;
+          unreadable = λ corruption is observed. stopped_unreadable meaning.observable files (meaning.faults disk) (meaning.faults r.disk) error corruption stops (sym cause_is ∙ is) observed;
           sound = λ is. life_is_no_reading (Some (Dump db printed)) refl is;
-          wrong_index = λ name is observed. stopped_wrong observable files (faults disk) (faults r.disk) error name stops (sym cause_is ∙ is) observed;
-          ids_ended = λ is none_opened observed. stopped_numbers observable files (faults disk) (faults r.disk) error stops (sym cause_is ∙ is) observed;
+          wrong_index = λ name is observed. stopped_wrong meaning.observable files (meaning.faults disk) (meaning.faults r.disk) error name stops (sym cause_is ∙ is) observed;
+          ids_ended = λ is none_opened observed. stopped_numbers meaning.observable files (meaning.faults disk) (meaning.faults r.disk) error stops (sym cause_is ∙ is) observed;
           no_environment = λ is. absurd (stopped_other error NoEnvironment (sym cause_is ∙ is));
           some_file = λ needs file observed. there observed;
           no_database = λ is. absurd (stopped_other error NoDatabase (sym cause_is ∙ is));
           has_database = λ is. absurd (stopped_other error Done (sym cause_is ∙ is));
           ends = λ opened. absurd (true≢false (sym opened ∙ shut));
-          caused = unrun (faults disk) (faults r.disk) r.journal.items r.cause (subst (λ (d : D). faults disk ≤ faults d) (sym disk_is) never_falls) empty
-              (λ is. stopped_failed observable files (faults disk) (faults r.disk) error stops (sym cause_is ∙ is));
-          left_alone = λ observed. subst (λ (c : Cause). LeavesUnreadable c (history disk) (history r.disk)) (sym cause_is)
-              (subst (λ (d : D). LeavesUnreadable (cause_of_opening error) (history disk) (history d)) (sym disk_is) (stopped_alone error (history disk) (history end) (alone_at observed)));
+          caused = unrun (meaning.faults disk) (meaning.faults r.disk) r.journal.items r.cause (subst (λ (d : D). meaning.faults disk ≤ meaning.faults d) (sym disk_is) never_falls) empty
+              (λ is. stopped_failed meaning.observable files (meaning.faults disk) (meaning.faults r.disk) error stops (sym cause_is ∙ is));
+          left_alone = λ observed. subst (λ (c : Cause). LeavesUnreadable c (meaning.history disk) (meaning.history r.disk)) (sym cause_is)
+              (subst (λ (d : D). LeavesUnreadable (cause_of_opening error) (meaning.history disk) (meaning.history d)) (sym disk_is) (stopped_alone error (meaning.history disk) (meaning.history end) (alone_at observed)));
           reads_only = λ closed. absurd (true≢false closed);
-          crash_unopened = λ observed none_opened. subst (λ (d : D). KeepsEntry (history disk) (history d)) (sym disk_is) (entry_at observed);
+          crash_unopened = λ observed none_opened. subst (λ (d : D). KeepsEntry (meaning.history disk) (meaning.history d)) (sym disk_is) (entry_at observed);
           text_is = stopped_text error printed (database_of db r.opening) ∙ ap (λ (c : Cause). dump_at c printed (database_of db r.opening)) (sym cause_is);
           source = later;
         }
 
     -- the same of a disk on which nothing was done before
-    pub later_comes : (disk mid : D) (r : RunResult D) (text : Text) → (observable ≡ true → IsUntouched (history disk) (history mid)) → faults disk ≤ faults mid →
-        ComesTo (Some (Dump db printed)) observable history faults left left before after mid r text → ComesTo (Some (Dump db printed)) observable history faults left left before after disk r text
+    pub later_comes : (disk mid : D) (r : RunResult D) (text : Text) → (meaning.observable ≡ true → IsUntouched (meaning.history disk) (meaning.history mid)) → meaning.faults disk ≤ meaning.faults mid →
+        ComesTo (Some (Dump db printed)) meaning left left before after mid r text → ComesTo (Some (Dump db printed)) meaning left left before after disk r text
     later_comes disk mid r text still less c =
-        let reads : observable ≡ true → (now (history mid)).reads ≡ (now (history disk)).reads = λ observed. ap (λ (s : State). s.reads) (still observed).same in
+        let reads : meaning.observable ≡ true → (now (meaning.history mid)).reads ≡ (now (meaning.history disk)).reads = λ observed. ap (λ (s : State). s.reads) (still observed).same in
         record {
           may = c.may;
           stopped = c.stopped;
@@ -508,7 +509,7 @@ module _ {D : Type 0} (observable : Bool) (history : D → History) (faults : D 
             x.0,
             x.1,
             x.2,
-            run_later x.0 observable (history mid) (history r.disk) (faults mid) (faults r.disk) r.opening r.totals r.journal.items x.1 (history disk) (faults disk) r.cause still less c.caused.never_falls x.3,
+            run_later x.0 meaning.observable (meaning.history mid) (meaning.history r.disk) (meaning.faults mid) (meaning.faults r.disk) r.opening r.totals r.journal.items x.1 (meaning.history disk) (meaning.faults disk) r.cause still less c.caused.never_falls x.3,
           ));
           unopened = c.unopened;
           unreadable = λ corruption is observed. subst (λ (f : Files). HasCorruption f corruption) (reads observed) (c.unreadable corruption is observed);
@@ -522,12 +523,12 @@ module _ {D : Type 0} (observable : Bool) (history : D → History) (faults : D 
           ends = c.ends;
           caused = record {
             never_falls = (let next = c.caused.never_falls in omega (arith, less, next));
-            fault = λ h. rose_earlier (faults disk) (faults mid) (faults r.disk) less (c.caused.fault h) c.caused.never_falls;
-            failed = λ is. rose_earlier (faults disk) (faults mid) (faults r.disk) less (c.caused.failed is) c.caused.never_falls;
+            fault = λ h. rose_earlier (meaning.faults disk) (meaning.faults mid) (meaning.faults r.disk) less (c.caused.fault h) c.caused.never_falls;
+            failed = λ is. rose_earlier (meaning.faults disk) (meaning.faults mid) (meaning.faults r.disk) less (c.caused.failed is) c.caused.never_falls;
           };
-          left_alone = λ observed. alone_later r.cause (history disk) (history mid) (history r.disk) (still observed) (c.left_alone observed);
+          left_alone = λ observed. alone_later r.cause (meaning.history disk) (meaning.history mid) (meaning.history r.disk) (still observed) (c.left_alone observed);
           reads_only = λ closed. absurd (true≢false closed);
-          crash_unopened = λ observed shut. entry_later (history disk) (history mid) (history r.disk) (still observed).moments (still observed).same (c.crash_unopened observed shut);
+          crash_unopened = λ observed shut. entry_later (meaning.history disk) (meaning.history mid) (meaning.history r.disk) (still observed).moments (still observed).same (c.crash_unopened observed shut);
           text_is = c.text_is;
           source = c.source;
         }

@@ -1,6 +1,7 @@
 -- What a program came to before its output is written.
 use Rattle.std.specs.Prelude.{ℕ, ◌≡◌, ◌≢◌, ◌≤◌, [], List, Option, Some, Bool, true, false}
-use Rattle.je_disk.specs.Moments.{History, now}
+use Rattle.je_disk.specs.DiskMeaning.{DiskMeaning}
+use Rattle.je_disk.specs.Moments.{now}
 use Rattle.je_disk.specs.States.{Files}
 use Rattle.store_model.specs.Store.{no_databases}
 use Rattle.je_answers.specs.Standing.{Standing}
@@ -34,27 +35,27 @@ abbrev pub work_of : {D : Type 0} → Bool → Files → RunResult D → Work
 work_of observable files r = record { observable = observable; files = files; opened = r.opened; opening = r.opening; journal = r.journal.items; totals = r.totals; cause = r.cause }
 
 -- what a command came to, of which so much of the input was left and is, over a disk: each part is a clause of the top call
-pub record ComesTo {D : Type 0} (command : Option Command) (observable : Bool) (history : D → History) (faults : D → ℕ) (left rest : Option (List ℕ)) (before after : ℕ) (disk : D) (r : RunResult D) (text : Text) : Type 0 where
+pub record ComesTo {D : Type 0} (command : Option Command) (meaning : DiskMeaning D) (left rest : Option (List ℕ)) (before after : ℕ) (disk : D) (r : RunResult D) (text : Text) : Type 0 where
   pub may : may_end command r.cause ≡ true
   pub stopped : IsStopped left before after r.cause
   pub read : is_before_disk r.cause ≡ false → r.cause ≢ Memory → ReadsInput command left rest
   pub given : r.opened ≡ true → IsGivenTo command left rest r.journal.items r.cause
   pub untouched : is_before_disk r.cause ≡ true → r.disk ≡ disk
   pub runs : RunsBy (opens command) r.cause r.opened
-  pub run : r.opened ≡ true → (file_max : ℕ) × (st : Standing) × (file_max_of command ≡ Some file_max) × IsRunOf file_max observable (history disk) (history r.disk) (faults disk) (faults r.disk) r.opening r.totals r.journal.items r.cause st
+  pub run : r.opened ≡ true → (file_max : ℕ) × (st : Standing) × (file_max_of command ≡ Some file_max) × IsRunOf file_max meaning.observable (meaning.history disk) (meaning.history r.disk) (meaning.faults disk) (meaning.faults r.disk) r.opening r.totals r.journal.items r.cause st
   pub unopened : r.opened ≡ false → (r.opening ≡ no_databases) × (r.journal.items ≡ [])
-  pub unreadable : (corruption : Corruption) → r.cause ≡ Unreadable corruption → observable ≡ true → IsFound command (now (history disk)).reads corruption
-  pub sound : command ≡ Some PrintLog → r.cause ≡ Done → observable ≡ true → AreSound (now (history disk)).reads
-  pub wrong_index : (name : List ℕ) → r.cause ≡ WrongIndex name → observable ≡ true → HasWrongIndex (now (history disk)).reads name
-  pub ids_ended : r.cause ≡ IdsEnded → r.opened ≡ false → observable ≡ true → HasNoNumbers (now (history disk)).reads
-  pub no_environment : r.cause ≡ NoEnvironment → observable ≡ true → HasNoFile (now (history disk)).reads
-  pub some_file : needs_environment command ≡ true → needs_file r.cause ≡ true → observable ≡ true → HasNoFile (now (history disk)).reads → ⊥
+  pub unreadable : (corruption : Corruption) → r.cause ≡ Unreadable corruption → meaning.observable ≡ true → IsFound command (now (meaning.history disk)).reads corruption
+  pub sound : command ≡ Some PrintLog → r.cause ≡ Done → meaning.observable ≡ true → AreSound (now (meaning.history disk)).reads
+  pub wrong_index : (name : List ℕ) → r.cause ≡ WrongIndex name → meaning.observable ≡ true → HasWrongIndex (now (meaning.history disk)).reads name
+  pub ids_ended : r.cause ≡ IdsEnded → r.opened ≡ false → meaning.observable ≡ true → HasNoNumbers (now (meaning.history disk)).reads
+  pub no_environment : r.cause ≡ NoEnvironment → meaning.observable ≡ true → HasNoFile (now (meaning.history disk)).reads
+  pub some_file : needs_environment command ≡ true → needs_file r.cause ≡ true → meaning.observable ≡ true → HasNoFile (now (meaning.history disk)).reads → ⊥
   pub no_database : r.cause ≡ NoDatabase → LacksDatabase command r.opening
   pub has_database : r.cause ≡ Done → HasDatabase command r.opening
   pub ends : r.opened ≡ true → r.cause ≢ Memory → EndsWith r.journal.items r.cause
-  pub caused : ClosesRun (faults disk) (faults r.disk) r.journal.items r.cause
-  pub left_alone : observable ≡ true → LeavesUnreadable r.cause (history disk) (history r.disk)
-  pub reads_only : opens command ≡ false → observable ≡ true → IsUntouched (history disk) (history r.disk)
-  pub crash_unopened : observable ≡ true → r.opened ≡ false → KeepsEntry (history disk) (history r.disk)
-  pub text_is : IsTextOf command (work_of observable (now (history disk)).reads r) (text_of text r.opened r.journal.items r.totals)
+  pub caused : ClosesRun (meaning.faults disk) (meaning.faults r.disk) r.journal.items r.cause
+  pub left_alone : meaning.observable ≡ true → LeavesUnreadable r.cause (meaning.history disk) (meaning.history r.disk)
+  pub reads_only : opens command ≡ false → meaning.observable ≡ true → IsUntouched (meaning.history disk) (meaning.history r.disk)
+  pub crash_unopened : meaning.observable ≡ true → r.opened ≡ false → KeepsEntry (meaning.history disk) (meaning.history r.disk)
+  pub text_is : IsTextOf command (work_of meaning.observable (now (meaning.history disk)).reads r) (text_of text r.opened r.journal.items r.totals)
   pub source : before ≤ after

@@ -39,9 +39,9 @@ fn usual_config() -> Config
 
 // Mounts the disk, and lists its files.
 fn list_files<D: Disk>(alloc: Global, disk: &mut D) -> Result<Vec<FileNo>, DiskErr>
-    ensures listed { D.observable ≡ true → IfOk result (λ files. IsListing (now (D.history disk.old)).reads files.items) }
-    ensures untouched { D.observable ≡ true → IsUntouched (D.history disk.old) (D.history disk.new) }
-    ensures cause { HasCause (D.faults disk.old) (D.faults disk.new) result }
+    ensures listed { D.meaning.observable ≡ true → IfOk result (λ files. IsListing (now (D.meaning.history disk.old)).reads files.items) }
+    ensures untouched { D.meaning.observable ≡ true → IsUntouched (D.meaning.history disk.old) (D.meaning.history disk.new) }
+    ensures cause { HasCause (D.meaning.faults disk.old) (D.meaning.faults disk.new) result }
 {
     disk.mount()?;
     disk.list(alloc)
@@ -50,9 +50,9 @@ fn list_files<D: Disk>(alloc: Global, disk: &mut D) -> Result<Vec<FileNo>, DiskE
 // Why the disk has no environment to open: no file is there, it failed, or there was no memory; None where a file is
 // there.
 fn look<D: Disk>(alloc: Global, disk: &mut D) -> Option<Cause>
-    ensures look { IsLook D.observable (now (D.history disk.old)).reads (D.faults disk.old) (D.faults disk.new) result }
-    ensures untouched { D.observable ≡ true → IsUntouched (D.history disk.old) (D.history disk.new) }
-    ensures never_falls { D.faults disk.old ≤ D.faults disk.new }
+    ensures look { IsLook D.meaning.observable (now (D.meaning.history disk.old)).reads (D.meaning.faults disk.old) (D.meaning.faults disk.new) result }
+    ensures untouched { D.meaning.observable ≡ true → IsUntouched (D.meaning.history disk.old) (D.meaning.history disk.new) }
+    ensures never_falls { D.meaning.faults disk.old ≤ D.meaning.faults disk.new }
 {
     match list_files(alloc, disk) {
         Ok(files) => {
@@ -177,8 +177,8 @@ fn dumped<D: Disk>(run: RunResult<D>, found: Option<FoundDatabase>, printed: boo
 
 // Opens the environment that is there, finds the database, and closes it.
 fn dump_opened<D: Disk>(alloc: Global, disk: D, db: &Word, printed: bool) -> Unprinted<D>
-    ensures { (left : Option (List ℕ)) (before after : ℕ) → before ≤ after → (D.observable ≡ true → HasNoFile (now (D.history disk)).reads → ⊥)
-        → ComesTo (Some (Dump db.now printed)) D.observable D.history D.faults left left before after disk result.run result.text }
+    ensures { (left : Option (List ℕ)) (before after : ℕ) → before ≤ after → (D.meaning.observable ≡ true → HasNoFile (now (D.meaning.history disk)).reads → ⊥)
+        → ComesTo (Some (Dump db.now printed)) D.meaning left left before after disk result.run result.text }
 {
     let config = usual_config();
     match Environment::open(alloc, disk, &config) {
@@ -206,7 +206,7 @@ fn dump_opened<D: Disk>(alloc: Global, disk: D, db: &Word, printed: bool) -> Unp
 /// name as a dump. Where no file is there, none is made.
 pub fn dump<D: Disk>(alloc: Global, disk: D, db: &Word, printed: bool) -> Unprinted<D>
     ensures { (left : Option (List ℕ)) (before after : ℕ) → before ≤ after
-        → ComesTo (Some (Dump db.now printed)) D.observable D.history D.faults left left before after disk result.run result.text }
+        → ComesTo (Some (Dump db.now printed)) D.meaning left left before after disk result.run result.text }
 {
     let mut disk = disk;
     match look(alloc, &mut disk) {

@@ -29,12 +29,12 @@ fn log_cause(error: LogErr) -> Cause
 /// Reads the log of a disk, and nothing else; what it has to write are the log's lines.
 pub fn print_log<D: Disk>(alloc: Global, disk: D) -> Unprinted<D>
     ensures cause { ends_reading result.run.cause ≡ true }
-    ensures printed { IsPrinted D.observable (now (D.history disk)).reads (D.faults disk) (D.faults result.run.disk) result.run.cause result.text }
+    ensures printed { IsPrinted D.meaning.observable (now (D.meaning.history disk)).reads (D.meaning.faults disk) (D.meaning.faults result.run.disk) result.run.cause result.text }
     ensures opened { result.run.opened ≡ false }
     ensures journal { result.run.journal.items ≡ [] }
     ensures opening { result.run.opening ≡ no_databases }
-    ensures untouched { D.observable ≡ true → IsUntouched (D.history disk) (D.history result.run.disk) }
-    ensures never_falls { D.faults disk ≤ D.faults result.run.disk }
+    ensures untouched { D.meaning.observable ≡ true → IsUntouched (D.meaning.history disk) (D.meaning.history result.run.disk) }
+    ensures never_falls { D.meaning.faults disk ≤ D.meaning.faults result.run.disk }
 {
     let mut disk = disk;
     match read_log(alloc, &mut disk) {

@@ -98,22 +98,22 @@ pub fn run_je<D: Disk, S: Source, K: Sink>(
     // that is the cause of the end; a command that only reads files finds what is wrong with them alone. No file is
     // there, and the command needs an environment, exactly where that is the cause. Nor has the store the database
     // that the command names, where that is the cause; and it has it, where all was done.
-    ensures disk_failed { result.cause ≡ Why.Disk → HasRisen (D.faults disk) (D.faults result.disk) }
-    ensures unreadable { (corruption : Wrong) → result.cause ≡ Why.Unreadable corruption → D.observable ≡ true → IsFound (command_in (map string_bytes args.now)) (now (D.history disk)).reads corruption }
-    ensures wrong_index { (name : List ℕ) → result.cause ≡ Why.WrongIndex name → D.observable ≡ true → HasWrongIndex (now (D.history disk)).reads name }
-    ensures no_environment { result.cause ≡ Why.NoEnvironment → D.observable ≡ true → HasNoFile (now (D.history disk)).reads }
+    ensures disk_failed { result.cause ≡ Why.Disk → HasRisen (D.meaning.faults disk) (D.meaning.faults result.disk) }
+    ensures unreadable { (corruption : Wrong) → result.cause ≡ Why.Unreadable corruption → D.meaning.observable ≡ true → IsFound (command_in (map string_bytes args.now)) (now (D.meaning.history disk)).reads corruption }
+    ensures wrong_index { (name : List ℕ) → result.cause ≡ Why.WrongIndex name → D.meaning.observable ≡ true → HasWrongIndex (now (D.meaning.history disk)).reads name }
+    ensures no_environment { result.cause ≡ Why.NoEnvironment → D.meaning.observable ≡ true → HasNoFile (now (D.meaning.history disk)).reads }
     ensures no_database { result.cause ≡ Why.NoDatabase → LacksDatabase (command_in (map string_bytes args.now)) result.opening }
     ensures has_database { result.cause ≡ Why.Done → HasDatabase (command_in (map string_bytes args.now)) result.opening }
 
     // Where no script was run, no number is left only if those of the files' nodes may pass the last one.
-    ensures ids_ended { result.cause ≡ Why.IdsEnded → result.opened ≡ false → D.observable ≡ true → HasNoNumbers (now (D.history disk)).reads }
+    ensures ids_ended { result.cause ≡ Why.IdsEnded → result.opened ≡ false → D.meaning.observable ≡ true → HasNoNumbers (now (D.meaning.history disk)).reads }
 
     // Where the files at entry cannot be opened, or none is there and the command needs one, the disk's state is at each
     // moment what it was; so it is, whatever the cause, where a command opens no environment.
-    ensures unreadable_untouched { (corruption : Wrong) → result.cause ≡ Why.Unreadable corruption → D.observable ≡ true → IsUntouched (D.history disk) (D.history result.disk) }
-    ensures wrong_index_untouched { (name : List ℕ) → result.cause ≡ Why.WrongIndex name → D.observable ≡ true → IsUntouched (D.history disk) (D.history result.disk) }
-    ensures no_environment_untouched { result.cause ≡ Why.NoEnvironment → D.observable ≡ true → IsUntouched (D.history disk) (D.history result.disk) }
-    ensures reads_only { opens (command_in (map string_bytes args.now)) ≡ false → D.observable ≡ true → IsUntouched (D.history disk) (D.history result.disk) }
+    ensures unreadable_untouched { (corruption : Wrong) → result.cause ≡ Why.Unreadable corruption → D.meaning.observable ≡ true → IsUntouched (D.meaning.history disk) (D.meaning.history result.disk) }
+    ensures wrong_index_untouched { (name : List ℕ) → result.cause ≡ Why.WrongIndex name → D.meaning.observable ≡ true → IsUntouched (D.meaning.history disk) (D.meaning.history result.disk) }
+    ensures no_environment_untouched { result.cause ≡ Why.NoEnvironment → D.meaning.observable ≡ true → IsUntouched (D.meaning.history disk) (D.meaning.history result.disk) }
+    ensures reads_only { opens (command_in (map string_bytes args.now)) ≡ false → D.meaning.observable ≡ true → IsUntouched (D.meaning.history disk) (D.meaning.history result.disk) }
 
     // A run: its journal holds the script's lines, or those of the seed; that of a dump is empty. Each answer is the model's, from what the files at entry mean on;
     // each commit is followed at once by its sync or its write-out, as its durability asks; the calls that waited go on
@@ -128,42 +128,42 @@ pub fn run_je<D: Disk, S: Source, K: Sink>(
     // met no fault, each file is as long as its bound lets it be, or one entry behind a header, or no longer than at entry.
     ensures runs { RunsBy (opens (command_in (map string_bytes args.now))) result.cause result.opened }
     ensures given { result.opened ≡ true → IsGivenTo (command_in (map string_bytes args.now)) (S.left input.old) (S.left input.new) result.journal.items result.cause }
-    ensures run { result.opened ≡ true → (file_max : ℕ) × (st : Standing) × (file_max_of (command_in (map string_bytes args.now)) ≡ Some file_max) × IsRunOf file_max D.observable (D.history disk) (D.history result.disk) (D.faults disk) (D.faults result.disk) result.opening result.totals result.journal.items result.cause st }
+    ensures run { result.opened ≡ true → (file_max : ℕ) × (st : Standing) × (file_max_of (command_in (map string_bytes args.now)) ≡ Some file_max) × IsRunOf file_max D.meaning.observable (D.meaning.history disk) (D.meaning.history result.disk) (D.meaning.faults disk) (D.meaning.faults result.disk) result.opening result.totals result.journal.items result.cause st }
     ensures unopened { result.opened ≡ false → (result.opening ≡ no_databases) × (result.journal.items ≡ []) }
     ensures ends { result.opened ≡ true → result.cause ≢ Why.Memory → EndsWith result.journal.items result.cause }
-    ensures faults { has_answer is_disk_fault result.journal.items ≡ true → HasRisen (D.faults disk) (D.faults result.disk) }
+    ensures faults { has_answer is_disk_fault result.journal.items ≡ true → HasRisen (D.meaning.faults disk) (D.meaning.faults result.disk) }
 
     // From entry until the run, and at each moment where nothing was opened: each file reads as it did at entry, but
     // for a torn tail of the last one that was cut off. Where the files at entry mean a store, each image means it
     // too, if nothing was pending at entry; and each image at the end does, if nothing is pending then.
-    ensures crash_unopened { D.observable ≡ true → result.opened ≡ false → KeepsEntry (D.history disk) (D.history result.disk) }
+    ensures crash_unopened { D.meaning.observable ≡ true → result.opened ≡ false → KeepsEntry (D.meaning.history disk) (D.meaning.history result.disk) }
 
     // A command that has its input, and the files that it needs, ends well, unless memory ran out or a count rose: `run`
     // and `soak` in a run, with files that mean a store in which each index has the pairs of its primary's records;
     // `dump` as the database is there or not; `printlog` with all files printed. Where the files are not such, that is
     // the cause.
-    ensures complete { HasInput (command_in (map string_bytes args.now)) (S.left input.old) → D.observable ≡ true → AreReady (command_in (map string_bytes args.now)) (now (D.history disk)).reads
+    ensures complete { HasInput (command_in (map string_bytes args.now)) (S.left input.old) → D.meaning.observable ≡ true → AreReady (command_in (map string_bytes args.now)) (now (D.meaning.history disk)).reads
         → EndsWell (command_in (map string_bytes args.now)) result.cause result.opened result.opening result.journal.items ⊎ (result.cause ≡ Why.Memory)
-        ⊎ Failing (S.faults input.old) (S.faults input.new) ⊎ HasRisen (D.faults disk) (D.faults result.disk) }
-    ensures unreadable_found { (corruption : Wrong) → HasInput (command_in (map string_bytes args.now)) (S.left input.old) → D.observable ≡ true
-        → IsFound (command_in (map string_bytes args.now)) (now (D.history disk)).reads corruption
+        ⊎ Failing (S.faults input.old) (S.faults input.new) ⊎ HasRisen (D.meaning.faults disk) (D.meaning.faults result.disk) }
+    ensures unreadable_found { (corruption : Wrong) → HasInput (command_in (map string_bytes args.now)) (S.left input.old) → D.meaning.observable ≡ true
+        → IsFound (command_in (map string_bytes args.now)) (now (D.meaning.history disk)).reads corruption
         → (result.cause ≡ Why.Unreadable corruption) ⊎ (result.cause ≡ Why.Memory)
-        ⊎ Failing (S.faults input.old) (S.faults input.new) ⊎ HasRisen (D.faults disk) (D.faults result.disk) }
-    ensures wrong_index_found { (name : List ℕ) → HasInput (command_in (map string_bytes args.now)) (S.left input.old) → opens (command_in (map string_bytes args.now)) ≡ true → D.observable ≡ true
-        → HasWrongIndex (now (D.history disk)).reads name
+        ⊎ Failing (S.faults input.old) (S.faults input.new) ⊎ HasRisen (D.meaning.faults disk) (D.meaning.faults result.disk) }
+    ensures wrong_index_found { (name : List ℕ) → HasInput (command_in (map string_bytes args.now)) (S.left input.old) → opens (command_in (map string_bytes args.now)) ≡ true → D.meaning.observable ≡ true
+        → HasWrongIndex (now (D.meaning.history disk)).reads name
         → (result.cause ≡ Why.WrongIndex name) ⊎ (result.cause ≡ Why.Memory)
-        ⊎ Failing (S.faults input.old) (S.faults input.new) ⊎ HasRisen (D.faults disk) (D.faults result.disk) }
-    ensures no_environment_found { needs_environment (command_in (map string_bytes args.now)) ≡ true → D.observable ≡ true → HasNoFile (now (D.history disk)).reads
-        → (result.cause ≡ Why.NoEnvironment) ⊎ (result.cause ≡ Why.Memory) ⊎ HasRisen (D.faults disk) (D.faults result.disk) }
+        ⊎ Failing (S.faults input.old) (S.faults input.new) ⊎ HasRisen (D.meaning.faults disk) (D.meaning.faults result.disk) }
+    ensures no_environment_found { needs_environment (command_in (map string_bytes args.now)) ≡ true → D.meaning.observable ≡ true → HasNoFile (now (D.meaning.history disk)).reads
+        → (result.cause ≡ Why.NoEnvironment) ⊎ (result.cause ≡ Why.Memory) ⊎ HasRisen (D.meaning.faults disk) (D.meaning.faults result.disk) }
 
     // What was written, and the status: the command's text and the fault line, and the cause's status, unless the output
     // failed.
     ensures written { (text : List ℕ) × IsTextOf (command_in (map string_bytes args.now))
-        (record { observable = D.observable; files = (now (D.history disk)).reads; opened = result.opened; opening = result.opening; journal = result.journal.items; totals = result.totals; cause = result.cause }) text
+        (record { observable = D.meaning.observable; files = (now (D.meaning.history disk)).reads; opened = result.opened; opening = result.opening; journal = result.journal.items; totals = result.totals; cause = result.cause }) text
         × IsOutputWritten (K.written output.old) (K.written output.new) (K.faults output.old) (K.faults output.new) (text ++ fault_text result.cause) result.cause result.status }
 
     // No count of faults falls.
-    ensures disk_faults { D.faults disk ≤ D.faults result.disk }
+    ensures disk_faults { D.meaning.faults disk ≤ D.meaning.faults result.disk }
     ensures input_faults { S.faults input.old ≤ S.faults input.new }
     ensures output_faults { K.faults output.old ≤ K.faults output.new }
 {

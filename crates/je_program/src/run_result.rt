@@ -117,19 +117,19 @@ pub fn finish<D: Disk>(running: Running<D>, opening: Opening) -> RunResult<D>
     ensures opening { result.opening ≡ opening }
     ensures journal { result.journal.items ≡ running.recorded.journal.items }
     ensures records { HaveRows result.records (rows_held running.recorded.environment) }
-    ensures run { (old : History) (before : ℕ) (p : Beginning) → HasRun D.observable D.history D.faults old before opening p running
-        → IsRunOf p.most D.observable old (D.history result.disk) before (D.faults result.disk) result.opening result.totals result.journal.items result.cause p.st }
+    ensures run { (old : History) (before : ℕ) (p : Beginning) → HasRun D.meaning old before opening p running
+        → IsRunOf p.most D.meaning.observable old (D.meaning.history result.disk) before (D.meaning.faults result.disk) result.opening result.totals result.journal.items result.cause p.st }
     ensures memory { running.memory_ended ≡ true → result.cause ≡ Why.Memory }
     ensures ends { running.memory_ended ≡ false → EndsBy running.recorded.journal.items result.cause }
-    ensures caused { (before : ℕ) → IsCaused before (D.faults (disk_of running.recorded.environment)) running.recorded.journal.items → ClosesRun before (D.faults result.disk) running.recorded.journal.items result.cause }
-    ensures crash { D.observable ≡ true → (p : Beginning) → IsUnderWay D.observable D.history D.faults p Nothing running.recorded → IsSafeRun p.st p.start (D.history result.disk) running.recorded.journal.items }
-    ensures crash_end { D.observable ≡ true → (p : Beginning) → IsUnderWay D.observable D.history D.faults p Nothing running.recorded → p.st.fault ≡ None → is_run_through result.cause ≡ true
-        → ImagesMean p.start.moment (D.history result.disk) (D.history result.disk).moment (final_store p.st running.recorded.journal.items) }
-    ensures totals { (p : Beginning) → IsUnderWay D.observable D.history D.faults p Nothing running.recorded → result.totals ≡ totals_of (final_store p.st running.recorded.journal.items) }
-    ensures files { (p : Beginning) → IsUnderWay D.observable D.history D.faults p Nothing running.recorded → p.st.fault ≡ None → is_run_through result.cause ≡ true → D.observable ≡ true
-        → MeanStore (now (D.history result.disk)).reads (final_store p.st running.recorded.journal.items) }
-    ensures lengths { (p : Beginning) → IsUnderWay D.observable D.history D.faults p Nothing running.recorded → p.st.fault ≡ None
-        → (is_run_through result.cause ≡ true) ⊎ (HasRisen p.faults (D.faults result.disk) → ⊥) → D.observable ≡ true → AreLengthsWithin p.most (now p.start).reads (now (D.history result.disk)).reads }
+    ensures caused { (before : ℕ) → IsCaused before (D.meaning.faults (disk_of running.recorded.environment)) running.recorded.journal.items → ClosesRun before (D.meaning.faults result.disk) running.recorded.journal.items result.cause }
+    ensures crash { D.meaning.observable ≡ true → (p : Beginning) → IsUnderWay D.meaning p Nothing running.recorded → IsSafeRun p.st p.start (D.meaning.history result.disk) running.recorded.journal.items }
+    ensures crash_end { D.meaning.observable ≡ true → (p : Beginning) → IsUnderWay D.meaning p Nothing running.recorded → p.st.fault ≡ None → is_run_through result.cause ≡ true
+        → ImagesMean p.start.moment (D.meaning.history result.disk) (D.meaning.history result.disk).moment (final_store p.st running.recorded.journal.items) }
+    ensures totals { (p : Beginning) → IsUnderWay D.meaning p Nothing running.recorded → result.totals ≡ totals_of (final_store p.st running.recorded.journal.items) }
+    ensures files { (p : Beginning) → IsUnderWay D.meaning p Nothing running.recorded → p.st.fault ≡ None → is_run_through result.cause ≡ true → D.meaning.observable ≡ true
+        → MeanStore (now (D.meaning.history result.disk)).reads (final_store p.st running.recorded.journal.items) }
+    ensures lengths { (p : Beginning) → IsUnderWay D.meaning p Nothing running.recorded → p.st.fault ≡ None
+        → (is_run_through result.cause ≡ true) ⊎ (HasRisen p.faults (D.meaning.faults result.disk) → ⊥) → D.meaning.observable ≡ true → AreLengthsWithin p.most (now p.start).reads (now (D.meaning.history result.disk)).reads }
 {
     let Running {
         recorded,
@@ -170,18 +170,18 @@ pub fn run_plan<D: Disk>(alloc: Global, disk: D, config: Config, plan: RunPlan) 
     requires lines { list_all is_line plan.lines ≡ true }
     ensures runs { RunsIf result.cause result.opened }
     ensures causes { ends_soak result.cause ≡ true }
-    ensures run { result.opened ≡ true → (st : Standing) × IsRunOf config.file_max D.observable (D.history disk) (D.history result.disk) (D.faults disk) (D.faults result.disk) result.opening result.totals result.journal.items result.cause st }
-    ensures crash_unopened { D.observable ≡ true → result.opened ≡ false → KeepsEntry (D.history disk) (D.history result.disk) }
+    ensures run { result.opened ≡ true → (st : Standing) × IsRunOf config.file_max D.meaning.observable (D.meaning.history disk) (D.meaning.history result.disk) (D.meaning.faults disk) (D.meaning.faults result.disk) result.opening result.totals result.journal.items result.cause st }
+    ensures crash_unopened { D.meaning.observable ≡ true → result.opened ≡ false → KeepsEntry (D.meaning.history disk) (D.meaning.history result.disk) }
     ensures unopened { result.opened ≡ false → (result.opening ≡ no_databases) × (result.journal.items ≡ []) }
-    ensures unreadable { (corruption : Wrong) → result.cause ≡ Why.Unreadable corruption → D.observable ≡ true → HasCorruption (now (D.history disk)).reads corruption }
-    ensures wrong_index { (name : List ℕ) → result.cause ≡ Why.WrongIndex name → D.observable ≡ true → HasWrongIndex (now (D.history disk)).reads name }
-    ensures ids_ended { result.cause ≡ Why.IdsEnded → result.opened ≡ false → D.observable ≡ true → HasNoNumbers (now (D.history disk)).reads }
+    ensures unreadable { (corruption : Wrong) → result.cause ≡ Why.Unreadable corruption → D.meaning.observable ≡ true → HasCorruption (now (D.meaning.history disk)).reads corruption }
+    ensures wrong_index { (name : List ℕ) → result.cause ≡ Why.WrongIndex name → D.meaning.observable ≡ true → HasWrongIndex (now (D.meaning.history disk)).reads name }
+    ensures ids_ended { result.cause ≡ Why.IdsEnded → result.opened ≡ false → D.meaning.observable ≡ true → HasNoNumbers (now (D.meaning.history disk)).reads }
     ensures lines { result.opened ≡ true → result.cause ≢ Why.Memory → lines_of result.journal.items ≡ plan.lines }
     ensures front { result.opened ≡ true → (session : ℕ) → AreFirstLines (of_session session (lines_of result.journal.items)) (of_session session plan.lines) }
     ensures front_steps { result.opened ≡ true → AreFirstLines (of_maintenance (lines_of result.journal.items)) (of_maintenance plan.lines) }
     ensures ends { result.opened ≡ true → result.cause ≢ Why.Memory → EndsBy result.journal.items result.cause }
-    ensures caused { ClosesRun (D.faults disk) (D.faults result.disk) result.journal.items result.cause }
-    ensures left_alone { D.observable ≡ true → LeavesUnreadable result.cause (D.history disk) (D.history result.disk) }
+    ensures caused { ClosesRun (D.meaning.faults disk) (D.meaning.faults result.disk) result.journal.items result.cause }
+    ensures left_alone { D.meaning.observable ≡ true → LeavesUnreadable result.cause (D.meaning.history disk) (D.meaning.history result.disk) }
 {
     match Environment::open(alloc, disk, &config) {
         Ok(opened) => {

@@ -27,7 +27,7 @@ pub fn run_unprinted<D: Disk, S: Source>(
     disk: D,
     input: &mut S,
 ) -> Unprinted<D>
-    ensures comes { ComesTo (command_in (map string_bytes args.now)) D.observable D.history D.faults (S.left input.old) (S.left input.new) (S.faults input.old) (S.faults input.new) disk result.run result.text }
+    ensures comes { ComesTo (command_in (map string_bytes args.now)) D.meaning (S.left input.old) (S.left input.new) (S.faults input.old) (S.faults input.new) disk result.run result.text }
     ensures unread { reads_input (command_in (map string_bytes args.now)) ≡ false → input.new ≡ input.old }
 {
     match read_request(alloc, args, input) {

@@ -5,6 +5,7 @@ use Rattle.std.proofs.lemmas.Bool.{cases_order}
 use Rattle.std.proofs.lemmas.List.{append-nil, map-append}
 use Rattle.std.proofs.lemmas.Map.Keys.{sorted_from_strictly_increasing}
 use Rattle.std.specs.List.Sorted.{IsStrictlySortedBy}
+use Rattle.je_disk.specs.DiskMeaning.{DiskMeaning}
 use Rattle.je_disk.specs.States.{Files, State}
 use Rattle.je_disk.specs.Moments.{History, now}
 use Rattle.je_disk.proofs.MomentLaws.{passes_none, passes_weaken}
@@ -181,109 +182,109 @@ with_all-append file_max end [] b log = refl
 with_all-append file_max end (e ∷ a) b log = with_all-append file_max (end_after file_max end (size_of e)) a b (log_with (placed_at file_max end (size_of e)).file e log)
 
 module _ {D : Type 0} where
-  pub jobs_then : (sync_out read_out : D → Option ℕ) (read_of : D → ℕ) (x y z : D) → SameJobs sync_out read_out read_of x y → SameJobs sync_out read_out read_of y z → SameJobs sync_out read_out read_of x z
-  jobs_then sync_out read_out read_of x y z a b = record { syncs = b.syncs ∙ a.syncs; reads = b.reads ∙ a.reads; file = b.file ∙ a.file }
+  pub jobs_then : (meaning : DiskMeaning D) (x y z : D) → SameJobs meaning x y → SameJobs meaning y z → SameJobs meaning x z
+  jobs_then meaning x y z a b = record { syncs = b.syncs ∙ a.syncs; reads = b.reads ∙ a.reads; file = b.file ∙ a.file }
 
-  pub jobs_same : (sync_out read_out : D → Option ℕ) (read_of : D → ℕ) (x y : D) → y ≡ x → SameJobs sync_out read_out read_of x y
-  jobs_same sync_out read_out read_of x y same = record { syncs = ap sync_out same; reads = ap read_out same; file = ap read_of same }
+  pub jobs_same : (meaning : DiskMeaning D) (x y : D) → y ≡ x → SameJobs meaning x y
+  jobs_same meaning x y same = record { syncs = ap meaning.sync_out same; reads = ap meaning.read_out same; file = ap meaning.read_of same }
 
   -- the longer log of a buffer that has grown
   longer_then : (x y : LogBuffer D) (a b : List Entry) (log : Log) → file_max_of y ≡ file_max_of x → end_of y ≡ end_after_all (file_max_of x) (end_of x) (map size_of a) → longer y b (longer x a log) ≡ longer x (a ++ b) log
   longer_then x y a b log max end =
       ap₂ (λ (m : ℕ) (p : LogPos). log_with_all m p b (longer x a log)) max end ∙ sym (with_all-append (file_max_of x) (end_of x) a b log)
 
-  module _ (observable : Bool) (history : D → History) (sync_out read_out : D → Option ℕ) (read_of : D → ℕ) where
+  module _ (meaning : DiskMeaning D) where
     -- a buffer whose log is put into the write buffer, over the same disk
     pub grew_same : (x y : LogBuffer D) (entries : List Entry) → disk_of y ≡ disk_of x
-        → ((log : Log) → HasLog observable (now (history (disk_of x))) x log → HasLog observable (now (history (disk_of x))) y (longer x entries log))
-        → ((log removed : Log) (least : ℕ) (begun : Option ℕ) → HasLog observable (now (history (disk_of x))) x log → Holds log removed least begun (first_of x) (now (history (disk_of x))) → Holds (longer x entries log) removed least begun (first_of y) (now (history (disk_of x))))
-        → end_of y ≡ end_after_all (file_max_of x) (end_of x) (map size_of entries) → file_max_of y ≡ file_max_of x → has_failed y ≡ has_failed x → Grew observable history sync_out read_out read_of x y entries
+        → ((log : Log) → HasLog meaning.observable (now (meaning.history (disk_of x))) x log → HasLog meaning.observable (now (meaning.history (disk_of x))) y (longer x entries log))
+        → ((log removed : Log) (least : ℕ) (begun : Option ℕ) → HasLog meaning.observable (now (meaning.history (disk_of x))) x log → Holds log removed least begun (first_of x) (now (meaning.history (disk_of x))) → Holds (longer x entries log) removed least begun (first_of y) (now (meaning.history (disk_of x))))
+        → end_of y ≡ end_after_all (file_max_of x) (end_of x) (map size_of entries) → file_max_of y ≡ file_max_of x → has_failed y ≡ has_failed x → Grew meaning x y entries
     grew_same x y entries disk log holds end max failed = record {
-      log = λ l has. subst (λ (d : D). HasLog observable (now (history d)) y (longer x entries l)) (sym disk) (log l has);
-      crash = λ observed l removed least begun has h. subst (λ (d : D). KeptThrough (history (disk_of x)) (history d) (longer x entries l) removed least) (sym disk) (passes_none (history (disk_of x)) _);
-      holds = λ observed l removed least begun has h. subst (λ (d : D). Holds (longer x entries l) removed least begun (first_of y) (now (history d))) (sym disk) (holds l removed least begun has h);
+      log = λ l has. subst (λ (d : D). HasLog meaning.observable (now (meaning.history d)) y (longer x entries l)) (sym disk) (log l has);
+      crash = λ observed l removed least begun has h. subst (λ (d : D). KeptThrough (meaning.history (disk_of x)) (meaning.history d) (longer x entries l) removed least) (sym disk) (passes_none (meaning.history (disk_of x)) _);
+      holds = λ observed l removed least begun has h. subst (λ (d : D). Holds (longer x entries l) removed least begun (first_of y) (now (meaning.history d))) (sym disk) (holds l removed least begun has h);
       end = end;
       max = max;
       failed = failed;
-      jobs = jobs_same sync_out read_out read_of (disk_of x) (disk_of y) disk;
+      jobs = jobs_same meaning (disk_of x) (disk_of y) disk;
     }
 
-    pub grew_unchanged : GrewUnchanged observable history sync_out read_out read_of
-    grew_unchanged x y un = grew_same x y [] un.disk (λ log has. log_kept observable (now (history (disk_of x))) x y log un.kept has)
-        (λ log removed least begun has h. subst (λ (n : ℕ). Holds log removed least begun n (now (history (disk_of x)))) (sym un.kept.first) h) un.kept.end un.kept.max un.failed
+    pub grew_unchanged : GrewUnchanged meaning
+    grew_unchanged x y un = grew_same x y [] un.disk (λ log has. log_kept meaning.observable (now (meaning.history (disk_of x))) x y log un.kept has)
+        (λ log removed least begun has h. subst (λ (n : ℕ). Holds log removed least begun n (now (meaning.history (disk_of x)))) (sym un.kept.first) h) un.kept.end un.kept.max un.failed
 
-    pub grew_none : GrewNone observable history sync_out read_out read_of
+    pub grew_none : GrewNone meaning
     grew_none x = grew_same x x [] refl (λ log has. has) (λ log removed least begun has h. h) refl refl refl
 
     -- a buffer that has failed and was not touched
-    pub tried_failed : (x : LogBuffer D) (entries : List Entry) → has_failed x ≡ true → Tried observable history sync_out read_out read_of x x entries
+    pub tried_failed : (x : LogBuffer D) (entries : List Entry) → has_failed x ≡ true → Tried meaning x x entries
     tried_failed x entries failed = record {
-      crash = λ observed log removed least begun has h. passes_none (history (disk_of x)) _;
+      crash = λ observed log removed least begun has h. passes_none (meaning.history (disk_of x)) _;
       max = refl;
       failed = failed;
-      jobs = jobs_same sync_out read_out read_of (disk_of x) (disk_of x) refl;
+      jobs = jobs_same meaning (disk_of x) (disk_of x) refl;
     }
 
     -- an entry that is put into the write buffer at its place
     pub grew_put : {T E : Type 0} (r : Result T E) (x y : LogBuffer D) (e : Entry) (at : LogPos) → at ≡ placed_at (file_max_of x) (end_of x) (size_of e) → disk_of y ≡ disk_of x
         → ((observable : Bool) (state : State) (log : Log) → HasLog observable state x log → OnOk r (HasLog observable state y (log_with at.file e log)))
         → ((observable : Bool) (state : State) (log removed : Log) (least : ℕ) (begun : Option ℕ) → HasLog observable state x log → Holds log removed least begun (first_of x) state → OnOk r (Holds (log_with at.file e log) removed least begun (first_of y) state))
-        → OnOk r (end_of y ≡ behind at (size_of e)) → file_max_of y ≡ file_max_of x → has_failed y ≡ has_failed x → OnOk r (Grew observable history sync_out read_out read_of x y (e ∷ []))
+        → OnOk r (end_of y ≡ behind at (size_of e)) → file_max_of y ≡ file_max_of x → has_failed y ≡ has_failed x → OnOk r (Grew meaning x y (e ∷ []))
     grew_put (Ok v) x y e at is disk log holds end max failed =
-        let s = now (history (disk_of x)) in
-        grew_same x y (e ∷ []) disk (λ l has. subst (λ (p : LogPos). HasLog observable s y (log_with p.file e l)) is (log observable s l has))
-        (λ l removed least begun has h. subst (λ (p : LogPos). Holds (log_with p.file e l) removed least begun (first_of y) s) is (holds observable s l removed least begun has h))
+        let s = now (meaning.history (disk_of x)) in
+        grew_same x y (e ∷ []) disk (λ l has. subst (λ (p : LogPos). HasLog meaning.observable s y (log_with p.file e l)) is (log meaning.observable s l has))
+        (λ l removed least begun has h. subst (λ (p : LogPos). Holds (log_with p.file e l) removed least begun (first_of y) s) is (holds meaning.observable s l removed least begun has h))
         (end ∙ ap (λ (p : LogPos). behind p (size_of e)) is) max failed
     grew_put (Err error) x y e at is disk log holds end max failed = tt
 
     -- however a call ends
-    pub crash_either : {T E : Type 0} (r : Result T E) (x y : LogBuffer D) (entries : List Entry) → OnOk r (Grew observable history sync_out read_out read_of x y entries) → OnErr r (Tried observable history sync_out read_out read_of x y entries)
-        → KeepsLonger observable history x y entries
+    pub crash_either : {T E : Type 0} (r : Result T E) (x y : LogBuffer D) (entries : List Entry) → OnOk r (Grew meaning x y entries) → OnErr r (Tried meaning x y entries)
+        → KeepsLonger meaning x y entries
     crash_either (Ok v) x y entries grew tried = grew.crash
     crash_either (Err e) x y entries grew tried = tried.crash
 
-    pub jobs_either : {T E : Type 0} (r : Result T E) (x y : LogBuffer D) (entries : List Entry) → OnOk r (Grew observable history sync_out read_out read_of x y entries) → OnErr r (Tried observable history sync_out read_out read_of x y entries)
-        → SameJobs sync_out read_out read_of (disk_of x) (disk_of y)
+    pub jobs_either : {T E : Type 0} (r : Result T E) (x y : LogBuffer D) (entries : List Entry) → OnOk r (Grew meaning x y entries) → OnErr r (Tried meaning x y entries)
+        → SameJobs meaning (disk_of x) (disk_of y)
     jobs_either (Ok v) x y entries grew tried = grew.jobs
     jobs_either (Err e) x y entries grew tried = tried.jobs
 
     -- through two calls a crash keeps of the log with the entries of both what it kept before the first one
-    crash_then : (x y z : LogBuffer D) (a b : List Entry) → Grew observable history sync_out read_out read_of x y a → KeepsLonger observable history y z b → KeepsLonger observable history x z (a ++ b)
+    crash_then : (x y z : LogBuffer D) (a b : List Entry) → Grew meaning x y a → KeepsLonger meaning y z b → KeepsLonger meaning x z (a ++ b)
     crash_then x y z a b first second observed log removed least begun has h =
         let middle = first.log log has in
         let join = longer_then x y a b log first.max first.end in
-        subst (λ (l : Log). KeptThrough (history (disk_of x)) (history (disk_of z)) l removed least) join
-        (kept_then (longer y b (longer x a log)) removed least (history (disk_of x)) (history (disk_of y)) (history (disk_of z))
-        (through_with_all (longer x a log) removed (end_of y) (file_max_of y) least b (history (disk_of x)) (history (disk_of y)) (ends_in (longer x a log) (end_of y) _ middle.is_log middle.ends)
+        subst (λ (l : Log). KeptThrough (meaning.history (disk_of x)) (meaning.history (disk_of z)) l removed least) join
+        (kept_then (longer y b (longer x a log)) removed least (meaning.history (disk_of x)) (meaning.history (disk_of y)) (meaning.history (disk_of z))
+        (through_with_all (longer x a log) removed (end_of y) (file_max_of y) least b (meaning.history (disk_of x)) (meaning.history (disk_of y)) (ends_in (longer x a log) (end_of y) _ middle.is_log middle.ends)
         (first.crash observed log removed least begun has h))
         (second observed (longer x a log) removed least begun middle (first.holds observed log removed least begun has h)))
 
-    pub grew_then : GrewThen observable history sync_out read_out read_of
+    pub grew_then : GrewThen meaning
     grew_then x y z a b first second = record {
-      log = λ log has. subst (λ (l : Log). HasLog observable (now (history (disk_of z))) z l) (longer_then x y a b log first.max first.end) (second.log (longer x a log) (first.log log has));
+      log = λ log has. subst (λ (l : Log). HasLog meaning.observable (now (meaning.history (disk_of z))) z l) (longer_then x y a b log first.max first.end) (second.log (longer x a log) (first.log log has));
       crash = crash_then x y z a b first second.crash;
-      holds = λ observed log removed least begun has h. subst (λ (l : Log). Holds l removed least begun (first_of z) (now (history (disk_of z)))) (longer_then x y a b log first.max first.end)
+      holds = λ observed log removed least begun has h. subst (λ (l : Log). Holds l removed least begun (first_of z) (now (meaning.history (disk_of z)))) (longer_then x y a b log first.max first.end)
           (second.holds observed (longer x a log) removed least begun (first.log log has) (first.holds observed log removed least begun has h));
       end = second.end ∙ ap₂ (λ (m : ℕ) (p : LogPos). end_after_all m p (map size_of b)) first.max first.end ∙ sym (appends_join (file_max_of x) (end_of x) (map size_of a) (map size_of b))
           ∙ ap (end_after_all (file_max_of x) (end_of x)) (sym (map-append size_of a b));
       max = second.max ∙ first.max;
       failed = second.failed ∙ first.failed;
-      jobs = jobs_then sync_out read_out read_of (disk_of x) (disk_of y) (disk_of z) first.jobs second.jobs;
+      jobs = jobs_then meaning (disk_of x) (disk_of y) (disk_of z) first.jobs second.jobs;
     }
 
-    pub tried_then : TriedThen observable history sync_out read_out read_of
+    pub tried_then : TriedThen meaning
     tried_then x y z a b first second = record {
       crash = crash_then x y z a b first second.crash;
       max = second.max ∙ first.max;
       failed = second.failed;
-      jobs = jobs_then sync_out read_out read_of (disk_of x) (disk_of y) (disk_of z) first.jobs second.jobs;
+      jobs = jobs_then meaning (disk_of x) (disk_of y) (disk_of z) first.jobs second.jobs;
     }
 
-    pub tried_more : TriedMore observable history sync_out read_out read_of
+    pub tried_more : TriedMore meaning
     tried_more x y a b first = record {
       crash = λ observed log removed least begun has h.
-          subst (λ (l : Log). KeptThrough (history (disk_of x)) (history (disk_of y)) l removed least) (sym (with_all-append (file_max_of x) (end_of x) a b log))
-          (through_with_all (longer x a log) removed (end_after_all (file_max_of x) (end_of x) (map size_of a)) (file_max_of x) least b (history (disk_of x)) (history (disk_of y))
+          subst (λ (l : Log). KeptThrough (meaning.history (disk_of x)) (meaning.history (disk_of y)) l removed least) (sym (with_all-append (file_max_of x) (end_of x) a b log))
+          (through_with_all (longer x a log) removed (end_after_all (file_max_of x) (end_of x) (map size_of a)) (file_max_of x) least b (meaning.history (disk_of x)) (meaning.history (disk_of y))
           (ends_with_all log (end_of x) (file_max_of x) a (ends_in log (end_of x) _ has.is_log has.ends)) (first.crash observed log removed least begun has h));
       max = first.max;
       failed = first.failed;

@@ -33,15 +33,15 @@ impl<D: Disk> LogBuffer<D> {
         requires entry { IsEntry entry.now }
         requires follows { may_follow entry.now ≡ true }
         ensures at { IfOk result (λ at. at ≡ pos_lsn (placed_at (file_max_of self.old) (end_of self.old) (size_of entry.now))) }
-        ensures grew { OnOk result (Grew D.observable D.history D.sync_out D.read_out D.read_of self.old self.new (entry.now ∷ [])) }
-        ensures tried { IsErrOf result LogErr.Fault → Tried D.observable D.history D.sync_out D.read_out D.read_of self.old self.new (entry.now ∷ []) }
+        ensures grew { OnOk result (Grew D.meaning self.old self.new (entry.now ∷ [])) }
+        ensures tried { IsErrOf result LogErr.Fault → Tried D.meaning self.old self.new (entry.now ∷ []) }
         ensures full { has_failed self.old ≡ false → (IsErrOf result LogErr.Full ↔ last_file < (placed_at (file_max_of self.old) (end_of self.old) (size_of entry.now)).file) }
         ensures full_unchanged { IsErrOf result LogErr.Full → IsUnchanged self.old self.new }
         ensures memory_unchanged { IsErrOf result LogErr.Memory → IsUnchanged self.old self.new }
         ensures has_room { (sizes : List ℕ) → HasRoom self.old (size_of entry.now ∷ sizes) → IsErrOf result LogErr.Memory → ⊥ }
         ensures room { (sizes : List ℕ) → HasRoom self.old (size_of entry.now ∷ sizes) → OnOk result (HasRoom self.new sizes) }
         ensures not_damaged { IsErrOf result LogErr.Damaged → ⊥ }
-        ensures cause { HasLogCause (has_failed self.old) (has_failed self.new) (D.faults (disk_of self.old)) (D.faults (disk_of self.new)) result }
+        ensures cause { HasLogCause (has_failed self.old) (has_failed self.new) (D.meaning.faults (disk_of self.old)) (D.meaning.faults (disk_of self.new)) result }
         ensures still { has_failed self.old ≡ true → disk_of self.new ≡ disk_of self.old }
     {
         self.append_ref(&EntryRef::Whole(entry))
@@ -53,15 +53,15 @@ impl<D: Disk> LogBuffer<D> {
         requires entry { IsEntry (entry_by entry.now) }
         requires follows { may_follow (entry_by entry.now) ≡ true }
         ensures at { IfOk result (λ at. at ≡ pos_lsn (placed_at (file_max_of self.old) (end_of self.old) (size_of (entry_by entry.now)))) }
-        ensures grew { OnOk result (Grew D.observable D.history D.sync_out D.read_out D.read_of self.old self.new (entry_by entry.now ∷ [])) }
-        ensures tried { IsErrOf result LogErr.Fault → Tried D.observable D.history D.sync_out D.read_out D.read_of self.old self.new (entry_by entry.now ∷ []) }
+        ensures grew { OnOk result (Grew D.meaning self.old self.new (entry_by entry.now ∷ [])) }
+        ensures tried { IsErrOf result LogErr.Fault → Tried D.meaning self.old self.new (entry_by entry.now ∷ []) }
         ensures full { has_failed self.old ≡ false → (IsErrOf result LogErr.Full ↔ last_file < (placed_at (file_max_of self.old) (end_of self.old) (size_of (entry_by entry.now))).file) }
         ensures full_unchanged { IsErrOf result LogErr.Full → IsUnchanged self.old self.new }
         ensures memory_unchanged { IsErrOf result LogErr.Memory → IsUnchanged self.old self.new }
         ensures has_room { (sizes : List ℕ) → HasRoom self.old (size_of (entry_by entry.now) ∷ sizes) → IsErrOf result LogErr.Memory → ⊥ }
         ensures room { (sizes : List ℕ) → HasRoom self.old (size_of (entry_by entry.now) ∷ sizes) → OnOk result (HasRoom self.new sizes) }
         ensures not_damaged { IsErrOf result LogErr.Damaged → ⊥ }
-        ensures cause { HasLogCause (has_failed self.old) (has_failed self.new) (D.faults (disk_of self.old)) (D.faults (disk_of self.new)) result }
+        ensures cause { HasLogCause (has_failed self.old) (has_failed self.new) (D.meaning.faults (disk_of self.old)) (D.meaning.faults (disk_of self.new)) result }
         ensures still { has_failed self.old ≡ true → disk_of self.new ≡ disk_of self.old }
     {
         let size = ref_size(entry);
@@ -79,11 +79,11 @@ impl<D: Disk> LogBuffer<D> {
         requires room { (sizes : List ℕ) × HasRoom self.old (size_of (entry_by entry.now) ∷ sizes) }
         requires fits { (placed_at (file_max_of self.old) (end_of self.old) (size_of (entry_by entry.now))).file ≤ last_file }
         ensures at { IfOk result (λ at. at ≡ pos_lsn (placed_at (file_max_of self.old) (end_of self.old) (size_of (entry_by entry.now)))) }
-        ensures grew { OnOk result (Grew D.observable D.history D.sync_out D.read_out D.read_of self.old self.new (entry_by entry.now ∷ [])) }
-        ensures tried { OnErr result (Tried D.observable D.history D.sync_out D.read_out D.read_of self.old self.new (entry_by entry.now ∷ [])) }
+        ensures grew { OnOk result (Grew D.meaning self.old self.new (entry_by entry.now ∷ [])) }
+        ensures tried { OnErr result (Tried D.meaning self.old self.new (entry_by entry.now ∷ [])) }
         ensures room { (sizes : List ℕ) → HasRoom self.old (size_of (entry_by entry.now) ∷ sizes) → OnOk result (HasRoom self.new sizes) }
         ensures by_fault { FailsByFault result }
-        ensures cause { HasLogCause (has_failed self.old) (has_failed self.new) (D.faults (disk_of self.old)) (D.faults (disk_of self.new)) result }
+        ensures cause { HasLogCause (has_failed self.old) (has_failed self.new) (D.meaning.faults (disk_of self.old)) (D.meaning.faults (disk_of self.new)) result }
     {
         self.append_ref(entry)
     }
@@ -122,11 +122,11 @@ impl<D: Disk> LogBuffer<D> {
 
     // Writes a long write buffer out.
     fn write_long(&mut self) -> Result<(), LogErr>
-        ensures grew { OnOk result (Grew D.observable D.history D.sync_out D.read_out D.read_of self.old self.new []) }
-        ensures tried { OnErr result (Tried D.observable D.history D.sync_out D.read_out D.read_of self.old self.new []) }
+        ensures grew { OnOk result (Grew D.meaning self.old self.new []) }
+        ensures tried { OnErr result (Tried D.meaning self.old self.new []) }
         ensures room { (sizes : List ℕ) → HasRoom self.old sizes → OnOk result (HasRoom self.new sizes) }
         ensures by_fault { FailsByFault result }
-        ensures cause { has_failed self.old ≡ false → HasLogCause (has_failed self.old) (has_failed self.new) (D.faults (disk_of self.old)) (D.faults (disk_of self.new)) result }
+        ensures cause { has_failed self.old ≡ false → HasLogCause (has_failed self.old) (has_failed self.new) (D.meaning.faults (disk_of self.old)) (D.meaning.faults (disk_of self.new)) result }
     {
         if self.unwritten.len() > WRITE_BUFFER_MAX {
             return self.write_out();
@@ -141,7 +141,7 @@ impl<D: Disk> LogBuffer<D> {
         requires size { size ≡ size_of (entry_by entry.now) }
         requires pos { pos ≡ placed_at (file_max_of self.old) (end_of self.old) (size_of (entry_by entry.now)) }
         requires file { pos.file ≤ last_file }
-        ensures grew { OnOk result (Grew D.observable D.history D.sync_out D.read_out D.read_of self.old self.new (entry_by entry.now ∷ [])) }
+        ensures grew { OnOk result (Grew D.meaning self.old self.new (entry_by entry.now ∷ [])) }
         ensures unchanged { OnErr result (IsUnchanged self.old self.new) }
         ensures fits { (sizes : List ℕ) → HasRoom self.old (size_of (entry_by entry.now) ∷ sizes) → IsOk result }
         ensures room { (sizes : List ℕ) → HasRoom self.old (size_of (entry_by entry.now) ∷ sizes) → OnOk result (HasRoom self.new sizes) }

@@ -35,10 +35,10 @@ pub(crate) fn entry_in(alloc: Global, bytes: &[u8], at: usize) -> Result<Option<
 
 // Whether a file's bytes from an offset on fill this piece; then they do.
 fn fill<D: Disk>(disk: &mut D, f: FileNo, at: u32, into: &mut [u8]) -> Result<bool, DiskErr>
-    ensures whole { D.observable ≡ true → IfOk result (λ whole. IsTrue whole ↔ length into.old ≤ length (drop at (content (now (D.history disk.old)).reads f.0))) }
-    ensures bytes { D.observable ≡ true → IfOk result (λ whole. whole ≡ true → into.new ≡ take (length into.old) (drop at (content (now (D.history disk.old)).reads f.0))) }
-    ensures only_read { IsOnlyRead D.observable D.history D.sync_out D.read_out D.read_of disk.old disk.new }
-    ensures cause { HasFault (D.faults disk.old) (D.faults disk.new) result }
+    ensures whole { D.meaning.observable ≡ true → IfOk result (λ whole. IsTrue whole ↔ length into.old ≤ length (drop at (content (now (D.meaning.history disk.old)).reads f.0))) }
+    ensures bytes { D.meaning.observable ≡ true → IfOk result (λ whole. whole ≡ true → into.new ≡ take (length into.old) (drop at (content (now (D.meaning.history disk.old)).reads f.0))) }
+    ensures only_read { IsOnlyRead D.meaning disk.old disk.new }
+    ensures cause { HasFault (D.meaning.faults disk.old) (D.meaning.faults disk.new) result }
 {
     let len = into.len();
     let count = disk.read(f, u64::from(at), into)?;
@@ -60,9 +60,9 @@ fn size_by(head: &[u8]) -> Option<usize>
 
 // How many bytes the entry has that stands at a place of a file.
 fn size_at<D: Disk>(disk: &mut D, f: FileNo, at: u32) -> Result<Option<usize>, DiskErr>
-    ensures found { (entry : Appended) → D.observable ≡ true → Encodes (drop at (content (now (D.history disk.old)).reads f.0)) entry → IfOk result (λ size. size ≡ Some (size_of entry)) }
-    ensures only_read { IsOnlyRead D.observable D.history D.sync_out D.read_out D.read_of disk.old disk.new }
-    ensures cause { HasFault (D.faults disk.old) (D.faults disk.new) result }
+    ensures found { (entry : Appended) → D.meaning.observable ≡ true → Encodes (drop at (content (now (D.meaning.history disk.old)).reads f.0)) entry → IfOk result (λ size. size ≡ Some (size_of entry)) }
+    ensures only_read { IsOnlyRead D.meaning disk.old disk.new }
+    ensures cause { HasFault (D.meaning.faults disk.old) (D.meaning.faults disk.new) result }
 {
     let mut head = [0; HEAD];
     if !fill(disk, f, at, &mut head)? {
@@ -79,9 +79,9 @@ fn entry_into<D: Disk>(
     at: u32,
     piece: &mut [u8],
 ) -> Result<Option<Entry>, DiskErr>
-    ensures found { (entry : Appended) → D.observable ≡ true → length piece.old ≡ size_of entry → Encodes (drop at (content (now (D.history disk.old)).reads f.0)) entry → IfOk result (λ found. found ≡ Some entry) }
-    ensures only_read { IsOnlyRead D.observable D.history D.sync_out D.read_out D.read_of disk.old disk.new }
-    ensures cause { HasCause (D.faults disk.old) (D.faults disk.new) result }
+    ensures found { (entry : Appended) → D.meaning.observable ≡ true → length piece.old ≡ size_of entry → Encodes (drop at (content (now (D.meaning.history disk.old)).reads f.0)) entry → IfOk result (λ found. found ≡ Some entry) }
+    ensures only_read { IsOnlyRead D.meaning disk.old disk.new }
+    ensures cause { HasCause (D.meaning.faults disk.old) (D.meaning.faults disk.new) result }
 {
     if !fill(disk, f, at, piece)? {
         return Ok(None);
@@ -98,9 +98,9 @@ fn entry_of<D: Disk>(
     at: u32,
     size: usize,
 ) -> Result<Option<Entry>, DiskErr>
-    ensures found { (entry : Appended) → D.observable ≡ true → size ≡ size_of entry → Encodes (drop at (content (now (D.history disk.old)).reads f.0)) entry → IfOk result (λ found. found ≡ Some entry) }
-    ensures only_read { IsOnlyRead D.observable D.history D.sync_out D.read_out D.read_of disk.old disk.new }
-    ensures cause { HasCause (D.faults disk.old) (D.faults disk.new) result }
+    ensures found { (entry : Appended) → D.meaning.observable ≡ true → size ≡ size_of entry → Encodes (drop at (content (now (D.meaning.history disk.old)).reads f.0)) entry → IfOk result (λ found. found ≡ Some entry) }
+    ensures only_read { IsOnlyRead D.meaning disk.old disk.new }
+    ensures cause { HasCause (D.meaning.faults disk.old) (D.meaning.faults disk.new) result }
 {
     let mut bytes = Vec::new(alloc);
     bytes.resize(size, 0)?;
@@ -114,9 +114,9 @@ pub(crate) fn entry_at<D: Disk>(
     f: FileNo,
     at: u32,
 ) -> Result<Option<Entry>, DiskErr>
-    ensures found { (entry : Appended) → D.observable ≡ true → Encodes (drop at (content (now (D.history disk.old)).reads f.0)) entry → IfOk result (λ found. found ≡ Some entry) }
-    ensures only_read { IsOnlyRead D.observable D.history D.sync_out D.read_out D.read_of disk.old disk.new }
-    ensures cause { HasCause (D.faults disk.old) (D.faults disk.new) result }
+    ensures found { (entry : Appended) → D.meaning.observable ≡ true → Encodes (drop at (content (now (D.meaning.history disk.old)).reads f.0)) entry → IfOk result (λ found. found ≡ Some entry) }
+    ensures only_read { IsOnlyRead D.meaning disk.old disk.new }
+    ensures cause { HasCause (D.meaning.faults disk.old) (D.meaning.faults disk.new) result }
 {
     match size_at(disk, f, at)? {
         Some(size) => entry_of(alloc, disk, f, at, size),

@@ -18,11 +18,11 @@ pub fn entries_go_last()
 /// Where nothing happens a log gets nothing; it gets the entries of one call and behind them those of the
 /// next, also where that one meets a fault, whatever was to follow.
 pub fn logs_grow<D: Disk>()
-    ensures none { GrewNone D.observable D.history D.sync_out D.read_out D.read_of }
-    ensures unchanged { GrewUnchanged D.observable D.history D.sync_out D.read_out D.read_of }
-    ensures grew { GrewThen D.observable D.history D.sync_out D.read_out D.read_of }
-    ensures tried { TriedThen D.observable D.history D.sync_out D.read_out D.read_of }
-    ensures more { TriedMore D.observable D.history D.sync_out D.read_out D.read_of }
+    ensures none { GrewNone D.meaning }
+    ensures unchanged { GrewUnchanged D.meaning }
+    ensures grew { GrewThen D.meaning }
+    ensures tried { TriedThen D.meaning }
+    ensures more { TriedMore D.meaning }
 {}
 
 /// A file is longer than the greatest size only where it holds one entry behind its header; the last

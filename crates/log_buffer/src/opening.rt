@@ -31,10 +31,10 @@ impl<D: Disk> LogBuffer<D> {
         ensures file_max { file_max_of result ≡ file_max }
         ensures not_failed { has_failed result ≡ false }
         ensures written { IsWritten result }
-        ensures log { (log : Log) → IsLog log → EndsAt log (at / 2 ^ 32) (at % 2 ^ 32) last → ReadAs D.observable (now (D.history disk)).reads log
-            → HasLog D.observable (now (D.history disk)) result log }
-        ensures holds { D.observable ≡ true → (log : Log) → IsLog log → EndsAt log (at / 2 ^ 32) (at % 2 ^ 32) last → ReadAs D.observable (now (D.history disk)).reads log
-            → (now (D.history disk)).crash_states ≡ synced_crash_states (now (D.history disk)).reads → Holds log [] (length (entries_of log)) None (first_of result) (now (D.history disk)) }
+        ensures log { (log : Log) → IsLog log → EndsAt log (at / 2 ^ 32) (at % 2 ^ 32) last → ReadAs D.meaning.observable (now (D.meaning.history disk)).reads log
+            → HasLog D.meaning.observable (now (D.meaning.history disk)) result log }
+        ensures holds { D.meaning.observable ≡ true → (log : Log) → IsLog log → EndsAt log (at / 2 ^ 32) (at % 2 ^ 32) last → ReadAs D.meaning.observable (now (D.meaning.history disk)).reads log
+            → (now (D.meaning.history disk)).crash_states ≡ synced_crash_states (now (D.meaning.history disk)).reads → Holds log [] (length (entries_of log)) None (first_of result) (now (D.meaning.history disk)) }
     {
         let file = at.file();
         let offset = at.offset();
@@ -60,10 +60,10 @@ impl<D: Disk> LogBuffer<D> {
         ensures last { IfOk result (λ buffer. last_of buffer ≡ 0) }
         ensures file_max { IfOk result (λ buffer. file_max_of buffer ≡ file_max) }
         ensures not_failed { IfOk result (λ buffer. has_failed buffer ≡ false) }
-        ensures log { (before : Log) → IsLog (before ++ (file.0, []) ∷ []) → ReadAsBut D.observable file.0 (now (D.history disk)).reads before
-            → IfOk result (λ buffer. HasLog D.observable (now (D.history disk)) buffer (before ++ (file.0, []) ∷ [])) }
-        ensures holds { D.observable ≡ true → (before : Log) → IsLog (before ++ (file.0, []) ∷ []) → ReadAsBut D.observable file.0 (now (D.history disk)).reads before → (now (D.history disk)).crash_states ≡ synced_crash_states (now (D.history disk)).reads
-            → IfOk result (λ buffer. Holds (before ++ (file.0, []) ∷ []) [] (length (entries_of before)) None (first_of buffer) (now (D.history disk))) }
+        ensures log { (before : Log) → IsLog (before ++ (file.0, []) ∷ []) → ReadAsBut D.meaning.observable file.0 (now (D.meaning.history disk)).reads before
+            → IfOk result (λ buffer. HasLog D.meaning.observable (now (D.meaning.history disk)) buffer (before ++ (file.0, []) ∷ [])) }
+        ensures holds { D.meaning.observable ≡ true → (before : Log) → IsLog (before ++ (file.0, []) ∷ []) → ReadAsBut D.meaning.observable file.0 (now (D.meaning.history disk)).reads before → (now (D.meaning.history disk)).crash_states ≡ synced_crash_states (now (D.meaning.history disk)).reads
+            → IfOk result (λ buffer. Holds (before ++ (file.0, []) ∷ []) [] (length (entries_of before)) None (first_of buffer) (now (D.meaning.history disk))) }
         ensures handed_back { IfErr result (λ given. given ≡ disk) }
     {
         match header_unwritten(alloc, file) {

@@ -22,37 +22,37 @@ impl<D: Disk> LogBuffer<D> {
     /// The entry at a place of the log. Of a file it reads 14 bytes, and then the entry.
     /// At a place where no entry of the log stands it answers Damaged, or what entry can be read there.
     pub fn read(&mut self, alloc: Global, at: Lsn) -> Result<Entry, LogErr>
-        ensures found { (log : Log) (entry : Appended) → D.observable ≡ true → HasLog D.observable (now (D.history (disk_of self.old))) self.old log → StandsAt log at entry
+        ensures found { (log : Log) (entry : Appended) → D.meaning.observable ≡ true → HasLog D.meaning.observable (now (D.meaning.history (disk_of self.old))) self.old log → StandsAt log at entry
             → IfOk result (λ found. found ≡ entry) }
-        ensures undamaged { (log : Log) (entry : Appended) → D.observable ≡ true → HasLog D.observable (now (D.history (disk_of self.old))) self.old log → StandsAt log at entry
+        ensures undamaged { (log : Log) (entry : Appended) → D.meaning.observable ≡ true → HasLog D.meaning.observable (now (D.meaning.history (disk_of self.old))) self.old log → StandsAt log at entry
             → IsErrOf result LogErr.Damaged → ⊥ }
-        ensures log { (log : Log) → HasLog D.observable (now (D.history (disk_of self.old))) self.old log → HasLog D.observable (now (D.history (disk_of self.new))) self.new log }
-        ensures same { D.observable ≡ true → now (D.history (disk_of self.new)) ≡ now (D.history (disk_of self.old)) }
-        ensures moments { D.observable ≡ true → Passes (D.history (disk_of self.old)) (D.history (disk_of self.new)) (λ s. s ≡ now (D.history (disk_of self.old))) }
-        ensures crash { D.observable ≡ true → (log removed : Log) (least : ℕ) (begun : Option ℕ) → HasLog D.observable (now (D.history (disk_of self.old))) self.old log → Holds log removed least begun (first_of self.old) (now (D.history (disk_of self.old)))
-            → KeptThrough (D.history (disk_of self.old)) (D.history (disk_of self.new)) log removed least }
-        ensures holds { D.observable ≡ true → (log removed : Log) (least : ℕ) (begun : Option ℕ) → HasLog D.observable (now (D.history (disk_of self.old))) self.old log → Holds log removed least begun (first_of self.old) (now (D.history (disk_of self.old)))
-            → Holds log removed least begun (first_of self.new) (now (D.history (disk_of self.new))) }
+        ensures log { (log : Log) → HasLog D.meaning.observable (now (D.meaning.history (disk_of self.old))) self.old log → HasLog D.meaning.observable (now (D.meaning.history (disk_of self.new))) self.new log }
+        ensures same { D.meaning.observable ≡ true → now (D.meaning.history (disk_of self.new)) ≡ now (D.meaning.history (disk_of self.old)) }
+        ensures moments { D.meaning.observable ≡ true → Passes (D.meaning.history (disk_of self.old)) (D.meaning.history (disk_of self.new)) (λ s. s ≡ now (D.meaning.history (disk_of self.old))) }
+        ensures crash { D.meaning.observable ≡ true → (log removed : Log) (least : ℕ) (begun : Option ℕ) → HasLog D.meaning.observable (now (D.meaning.history (disk_of self.old))) self.old log → Holds log removed least begun (first_of self.old) (now (D.meaning.history (disk_of self.old)))
+            → KeptThrough (D.meaning.history (disk_of self.old)) (D.meaning.history (disk_of self.new)) log removed least }
+        ensures holds { D.meaning.observable ≡ true → (log removed : Log) (least : ℕ) (begun : Option ℕ) → HasLog D.meaning.observable (now (D.meaning.history (disk_of self.old))) self.old log → Holds log removed least begun (first_of self.old) (now (D.meaning.history (disk_of self.old)))
+            → Holds log removed least begun (first_of self.new) (now (D.meaning.history (disk_of self.new))) }
         ensures kept { KeepsUnwritten self.old self.new }
         ensures not_full { IsErrOf result LogErr.Full → ⊥ }
-        ensures cause { HasLogCause (has_failed self.old) (has_failed self.new) (D.faults (disk_of self.old)) (D.faults (disk_of self.new)) result }
+        ensures cause { HasLogCause (has_failed self.old) (has_failed self.new) (D.meaning.faults (disk_of self.old)) (D.meaning.faults (disk_of self.new)) result }
         ensures still { has_failed self.old ≡ true → disk_of self.new ≡ disk_of self.old }
-        ensures sync_out { D.sync_out (disk_of self.new) ≡ D.sync_out (disk_of self.old) }
-        ensures read_out { D.read_out (disk_of self.new) ≡ D.read_out (disk_of self.old) }
-        ensures read_of { D.read_of (disk_of self.new) ≡ D.read_of (disk_of self.old) }
+        ensures sync_out { D.meaning.sync_out (disk_of self.new) ≡ D.meaning.sync_out (disk_of self.old) }
+        ensures read_out { D.meaning.read_out (disk_of self.new) ≡ D.meaning.read_out (disk_of self.old) }
+        ensures read_of { D.meaning.read_of (disk_of self.new) ≡ D.meaning.read_of (disk_of self.old) }
     {
         self.look(alloc, at)?.ok_or(LogErr::Damaged)
     }
 
     // The entry at a place of the log, where one can be read there.
     fn look(&mut self, alloc: Global, at: Lsn) -> Result<Option<Entry>, LogErr>
-        ensures found { (log : Log) (entry : Appended) → D.observable ≡ true → HasLog D.observable (now (D.history (disk_of self.old))) self.old log → StandsAt log at entry
+        ensures found { (log : Log) (entry : Appended) → D.meaning.observable ≡ true → HasLog D.meaning.observable (now (D.meaning.history (disk_of self.old))) self.old log → StandsAt log at entry
             → IfOk result (λ found. found ≡ Some entry) }
-        ensures only_read { IsOnlyRead D.observable D.history D.sync_out D.read_out D.read_of (disk_of self.old) (disk_of self.new) }
+        ensures only_read { IsOnlyRead D.meaning (disk_of self.old) (disk_of self.new) }
         ensures kept { KeepsUnwritten self.old self.new }
         ensures not_full { IsErrOf result LogErr.Full → ⊥ }
         ensures not_damaged { IsErrOf result LogErr.Damaged → ⊥ }
-        ensures cause { HasLogCause (has_failed self.old) (has_failed self.new) (D.faults (disk_of self.old)) (D.faults (disk_of self.new)) result }
+        ensures cause { HasLogCause (has_failed self.old) (has_failed self.new) (D.meaning.faults (disk_of self.old)) (D.meaning.faults (disk_of self.new)) result }
         ensures still { has_failed self.old ≡ true → disk_of self.new ≡ disk_of self.old }
     {
         if self.failed {
@@ -85,12 +85,12 @@ impl<D: Disk> LogBuffer<D> {
     // The entry at a place of a file.
     fn fetch(&mut self, alloc: Global, f: FileNo, offset: u32) -> Result<Option<Entry>, LogErr>
         requires { has_failed self.old ≡ false }
-        ensures found { (entry : Appended) → D.observable ≡ true → Encodes (drop offset (content (now (D.history (disk_of self.old))).reads f.0)) entry → IfOk result (λ found. found ≡ Some entry) }
-        ensures only_read { IsOnlyRead D.observable D.history D.sync_out D.read_out D.read_of (disk_of self.old) (disk_of self.new) }
+        ensures found { (entry : Appended) → D.meaning.observable ≡ true → Encodes (drop offset (content (now (D.meaning.history (disk_of self.old))).reads f.0)) entry → IfOk result (λ found. found ≡ Some entry) }
+        ensures only_read { IsOnlyRead D.meaning (disk_of self.old) (disk_of self.new) }
         ensures kept { KeepsUnwritten self.old self.new }
         ensures not_full { IsErrOf result LogErr.Full → ⊥ }
         ensures not_damaged { IsErrOf result LogErr.Damaged → ⊥ }
-        ensures cause { HasLogCause (has_failed self.old) (has_failed self.new) (D.faults (disk_of self.old)) (D.faults (disk_of self.new)) result }
+        ensures cause { HasLogCause (has_failed self.old) (has_failed self.new) (D.meaning.faults (disk_of self.old)) (D.meaning.faults (disk_of self.new)) result }
     {
         match entry_at(alloc, &mut self.disk, f, offset) {
             Ok(found) => Ok(found),
@@ -126,21 +126,21 @@ impl<D: Disk> LogBuffer<D> {
 
     /// Begins to read a whole file as it is on the disk. A read job that is out is given up.
     pub fn read_begin(&mut self, f: FileNo) -> Result<D::ReadJob, LogErr>
-        ensures begun { IfOk result (λ job. D.read_out (disk_of self.new) ≡ Some (D.ReadJob.job_number job)) }
-        ensures read_of { OnOk result (D.read_of (disk_of self.new) ≡ f.0) }
-        ensures none_out { has_failed self.old ≡ false → OnErr result (D.read_out (disk_of self.new) ≡ None) }
-        ensures log { (log : Log) → HasLog D.observable (now (D.history (disk_of self.old))) self.old log → HasLog D.observable (now (D.history (disk_of self.new))) self.new log }
-        ensures same { D.observable ≡ true → now (D.history (disk_of self.new)) ≡ now (D.history (disk_of self.old)) }
-        ensures moments { D.observable ≡ true → Passes (D.history (disk_of self.old)) (D.history (disk_of self.new)) (λ s. s ≡ now (D.history (disk_of self.old))) }
-        ensures crash { D.observable ≡ true → (log removed : Log) (least : ℕ) (begun : Option ℕ) → HasLog D.observable (now (D.history (disk_of self.old))) self.old log → Holds log removed least begun (first_of self.old) (now (D.history (disk_of self.old)))
-            → KeptThrough (D.history (disk_of self.old)) (D.history (disk_of self.new)) log removed least }
-        ensures holds { D.observable ≡ true → (log removed : Log) (least : ℕ) (begun : Option ℕ) → HasLog D.observable (now (D.history (disk_of self.old))) self.old log → Holds log removed least begun (first_of self.old) (now (D.history (disk_of self.old)))
-            → Holds log removed least begun (first_of self.new) (now (D.history (disk_of self.new))) }
+        ensures begun { IfOk result (λ job. D.meaning.read_out (disk_of self.new) ≡ Some (D.ReadJob.job_number job)) }
+        ensures read_of { OnOk result (D.meaning.read_of (disk_of self.new) ≡ f.0) }
+        ensures none_out { has_failed self.old ≡ false → OnErr result (D.meaning.read_out (disk_of self.new) ≡ None) }
+        ensures log { (log : Log) → HasLog D.meaning.observable (now (D.meaning.history (disk_of self.old))) self.old log → HasLog D.meaning.observable (now (D.meaning.history (disk_of self.new))) self.new log }
+        ensures same { D.meaning.observable ≡ true → now (D.meaning.history (disk_of self.new)) ≡ now (D.meaning.history (disk_of self.old)) }
+        ensures moments { D.meaning.observable ≡ true → Passes (D.meaning.history (disk_of self.old)) (D.meaning.history (disk_of self.new)) (λ s. s ≡ now (D.meaning.history (disk_of self.old))) }
+        ensures crash { D.meaning.observable ≡ true → (log removed : Log) (least : ℕ) (begun : Option ℕ) → HasLog D.meaning.observable (now (D.meaning.history (disk_of self.old))) self.old log → Holds log removed least begun (first_of self.old) (now (D.meaning.history (disk_of self.old)))
+            → KeptThrough (D.meaning.history (disk_of self.old)) (D.meaning.history (disk_of self.new)) log removed least }
+        ensures holds { D.meaning.observable ≡ true → (log removed : Log) (least : ℕ) (begun : Option ℕ) → HasLog D.meaning.observable (now (D.meaning.history (disk_of self.old))) self.old log → Holds log removed least begun (first_of self.old) (now (D.meaning.history (disk_of self.old)))
+            → Holds log removed least begun (first_of self.new) (now (D.meaning.history (disk_of self.new))) }
         ensures kept { KeepsUnwritten self.old self.new }
         ensures by_fault { FailsByFault result }
-        ensures cause { HasLogCause (has_failed self.old) (has_failed self.new) (D.faults (disk_of self.old)) (D.faults (disk_of self.new)) result }
+        ensures cause { HasLogCause (has_failed self.old) (has_failed self.new) (D.meaning.faults (disk_of self.old)) (D.meaning.faults (disk_of self.new)) result }
         ensures still { has_failed self.old ≡ true → disk_of self.new ≡ disk_of self.old }
-        ensures sync_out { D.sync_out (disk_of self.new) ≡ D.sync_out (disk_of self.old) }
+        ensures sync_out { D.meaning.sync_out (disk_of self.new) ≡ D.meaning.sync_out (disk_of self.old) }
     {
         if self.failed {
             return Err(LogErr::Fault);
@@ -162,22 +162,22 @@ impl<D: Disk> LogBuffer<D> {
         alloc: Global,
         done: <D::ReadJob as ReadJob>::Done,
     ) -> Result<Vec<u8>, LogErr>
-        requires { D.read_out (disk_of self.old) ≡ Some (D.ReadJob.Done.done_number done) }
-        ensures bytes { D.observable ≡ true → IfOk result (λ bytes. bytes.items ≡ content (now (D.history (disk_of self.old))).reads (D.read_of (disk_of self.old))) }
-        ensures none_out { has_failed self.old ≡ false → D.read_out (disk_of self.new) ≡ None }
-        ensures log { (log : Log) → HasLog D.observable (now (D.history (disk_of self.old))) self.old log → HasLog D.observable (now (D.history (disk_of self.new))) self.new log }
-        ensures same { D.observable ≡ true → now (D.history (disk_of self.new)) ≡ now (D.history (disk_of self.old)) }
-        ensures moments { D.observable ≡ true → Passes (D.history (disk_of self.old)) (D.history (disk_of self.new)) (λ s. s ≡ now (D.history (disk_of self.old))) }
-        ensures crash { D.observable ≡ true → (log removed : Log) (least : ℕ) (begun : Option ℕ) → HasLog D.observable (now (D.history (disk_of self.old))) self.old log → Holds log removed least begun (first_of self.old) (now (D.history (disk_of self.old)))
-            → KeptThrough (D.history (disk_of self.old)) (D.history (disk_of self.new)) log removed least }
-        ensures holds { D.observable ≡ true → (log removed : Log) (least : ℕ) (begun : Option ℕ) → HasLog D.observable (now (D.history (disk_of self.old))) self.old log → Holds log removed least begun (first_of self.old) (now (D.history (disk_of self.old)))
-            → Holds log removed least begun (first_of self.new) (now (D.history (disk_of self.new))) }
+        requires { D.meaning.read_out (disk_of self.old) ≡ Some (D.ReadJob.Done.done_number done) }
+        ensures bytes { D.meaning.observable ≡ true → IfOk result (λ bytes. bytes.items ≡ content (now (D.meaning.history (disk_of self.old))).reads (D.meaning.read_of (disk_of self.old))) }
+        ensures none_out { has_failed self.old ≡ false → D.meaning.read_out (disk_of self.new) ≡ None }
+        ensures log { (log : Log) → HasLog D.meaning.observable (now (D.meaning.history (disk_of self.old))) self.old log → HasLog D.meaning.observable (now (D.meaning.history (disk_of self.new))) self.new log }
+        ensures same { D.meaning.observable ≡ true → now (D.meaning.history (disk_of self.new)) ≡ now (D.meaning.history (disk_of self.old)) }
+        ensures moments { D.meaning.observable ≡ true → Passes (D.meaning.history (disk_of self.old)) (D.meaning.history (disk_of self.new)) (λ s. s ≡ now (D.meaning.history (disk_of self.old))) }
+        ensures crash { D.meaning.observable ≡ true → (log removed : Log) (least : ℕ) (begun : Option ℕ) → HasLog D.meaning.observable (now (D.meaning.history (disk_of self.old))) self.old log → Holds log removed least begun (first_of self.old) (now (D.meaning.history (disk_of self.old)))
+            → KeptThrough (D.meaning.history (disk_of self.old)) (D.meaning.history (disk_of self.new)) log removed least }
+        ensures holds { D.meaning.observable ≡ true → (log removed : Log) (least : ℕ) (begun : Option ℕ) → HasLog D.meaning.observable (now (D.meaning.history (disk_of self.old))) self.old log → Holds log removed least begun (first_of self.old) (now (D.meaning.history (disk_of self.old)))
+            → Holds log removed least begun (first_of self.new) (now (D.meaning.history (disk_of self.new))) }
         ensures kept { KeepsUnwritten self.old self.new }
         ensures not_full { IsErrOf result LogErr.Full → ⊥ }
         ensures not_damaged { IsErrOf result LogErr.Damaged → ⊥ }
-        ensures cause { HasLogCause (has_failed self.old) (has_failed self.new) (D.faults (disk_of self.old)) (D.faults (disk_of self.new)) result }
+        ensures cause { HasLogCause (has_failed self.old) (has_failed self.new) (D.meaning.faults (disk_of self.old)) (D.meaning.faults (disk_of self.new)) result }
         ensures still { has_failed self.old ≡ true → disk_of self.new ≡ disk_of self.old }
-        ensures sync_out { D.sync_out (disk_of self.new) ≡ D.sync_out (disk_of self.old) }
+        ensures sync_out { D.meaning.sync_out (disk_of self.new) ≡ D.meaning.sync_out (disk_of self.old) }
     {
         if self.failed {
             done.give_up();
@@ -192,20 +192,20 @@ impl<D: Disk> LogBuffer<D> {
     /// Takes a file that is written whole out of the log, and off the disk.
     pub fn remove(&mut self, f: FileNo) -> Result<(), LogErr>
         requires { f.0 < written_of self.old }
-        ensures log { (log : Log) → HasLog D.observable (now (D.history (disk_of self.old))) self.old log → OnOk result (HasLog D.observable (now (D.history (disk_of self.new))) self.new (log_without f.0 log)) }
-        ensures crash { D.observable ≡ true → (log removed : Log) (least : ℕ) (begun : Option ℕ) → HasLog D.observable (now (D.history (disk_of self.old))) self.old log → Holds log removed least begun (first_of self.old) (now (D.history (disk_of self.old)))
+        ensures log { (log : Log) → HasLog D.meaning.observable (now (D.meaning.history (disk_of self.old))) self.old log → OnOk result (HasLog D.meaning.observable (now (D.meaning.history (disk_of self.new))) self.new (log_without f.0 log)) }
+        ensures crash { D.meaning.observable ≡ true → (log removed : Log) (least : ℕ) (begun : Option ℕ) → HasLog D.meaning.observable (now (D.meaning.history (disk_of self.old))) self.old log → Holds log removed least begun (first_of self.old) (now (D.meaning.history (disk_of self.old)))
             → length (entries_of (log_upto f.0 log)) < least
-            → Passes (D.history (disk_of self.old)) (D.history (disk_of self.new)) (λ s. KeepsLog (log_without f.0 log) (log_of f.0 log ++ removed) (least - length (entries_of (log_of f.0 log))) s.crash_states) }
-        ensures holds { D.observable ≡ true → (log removed : Log) (least : ℕ) (begun : Option ℕ) → HasLog D.observable (now (D.history (disk_of self.old))) self.old log → Holds log removed least begun (first_of self.old) (now (D.history (disk_of self.old)))
+            → Passes (D.meaning.history (disk_of self.old)) (D.meaning.history (disk_of self.new)) (λ s. KeepsLog (log_without f.0 log) (log_of f.0 log ++ removed) (least - length (entries_of (log_of f.0 log))) s.crash_states) }
+        ensures holds { D.meaning.observable ≡ true → (log removed : Log) (least : ℕ) (begun : Option ℕ) → HasLog D.meaning.observable (now (D.meaning.history (disk_of self.old))) self.old log → Holds log removed least begun (first_of self.old) (now (D.meaning.history (disk_of self.old)))
             → length (entries_of (log_upto f.0 log)) < least
-            → OnOk result (Holds (log_without f.0 log) (log_of f.0 log ++ removed) (least - length (entries_of (log_of f.0 log))) (option_map (λ n. n - length (entries_of (log_of f.0 log))) begun) (first_of self.new) (now (D.history (disk_of self.new)))) }
+            → OnOk result (Holds (log_without f.0 log) (log_of f.0 log ++ removed) (least - length (entries_of (log_of f.0 log))) (option_map (λ n. n - length (entries_of (log_of f.0 log))) begun) (first_of self.new) (now (D.meaning.history (disk_of self.new)))) }
         ensures kept { KeepsUnwritten self.old self.new }
         ensures by_fault { FailsByFault result }
-        ensures cause { HasLogCause (has_failed self.old) (has_failed self.new) (D.faults (disk_of self.old)) (D.faults (disk_of self.new)) result }
+        ensures cause { HasLogCause (has_failed self.old) (has_failed self.new) (D.meaning.faults (disk_of self.old)) (D.meaning.faults (disk_of self.new)) result }
         ensures still { has_failed self.old ≡ true → disk_of self.new ≡ disk_of self.old }
-        ensures sync_out { D.sync_out (disk_of self.new) ≡ D.sync_out (disk_of self.old) }
-        ensures read_out { D.read_out (disk_of self.new) ≡ D.read_out (disk_of self.old) }
-        ensures read_of { D.read_of (disk_of self.new) ≡ D.read_of (disk_of self.old) }
+        ensures sync_out { D.meaning.sync_out (disk_of self.new) ≡ D.meaning.sync_out (disk_of self.old) }
+        ensures read_out { D.meaning.read_out (disk_of self.new) ≡ D.meaning.read_out (disk_of self.old) }
+        ensures read_of { D.meaning.read_of (disk_of self.new) ≡ D.meaning.read_of (disk_of self.old) }
     {
         if self.failed {
             return Err(LogErr::Fault);

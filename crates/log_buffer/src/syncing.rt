@@ -17,23 +17,23 @@ impl<D: Disk> LogBuffer<D> {
     /// Writes the write buffer out and begins a sync, which makes stable all that was appended
     /// before. A sync job that is out is given up.
     pub fn sync_begin(&mut self) -> Result<D::Job, LogErr>
-        ensures begun { IfOk result (λ job. D.sync_out (disk_of self.new) ≡ Some (D.Job.job_number job)) }
+        ensures begun { IfOk result (λ job. D.meaning.sync_out (disk_of self.new) ≡ Some (D.Job.job_number job)) }
         ensures written { OnOk result (IsWritten self.new) }
-        ensures log { (log : Log) → HasLog D.observable (now (D.history (disk_of self.old))) self.old log → OnOk result (HasLog D.observable (now (D.history (disk_of self.new))) self.new log) }
-        ensures whole { (log : Log) → HasLog D.observable (now (D.history (disk_of self.old))) self.old log → OnOk result (ReadAs D.observable (now (D.history (disk_of self.new))).reads log) }
-        ensures crash { D.observable ≡ true → (log removed : Log) (least : ℕ) (begun : Option ℕ) → HasLog D.observable (now (D.history (disk_of self.old))) self.old log → Holds log removed least begun (first_of self.old) (now (D.history (disk_of self.old)))
-            → KeptThrough (D.history (disk_of self.old)) (D.history (disk_of self.new)) log removed least }
-        ensures holds { D.observable ≡ true → (log removed : Log) (least : ℕ) (begun : Option ℕ) → HasLog D.observable (now (D.history (disk_of self.old))) self.old log → Holds log removed least begun (first_of self.old) (now (D.history (disk_of self.old)))
-            → OnOk result (Holds log removed least (Some (length (entries_of log))) (first_of self.new) (now (D.history (disk_of self.new)))) }
+        ensures log { (log : Log) → HasLog D.meaning.observable (now (D.meaning.history (disk_of self.old))) self.old log → OnOk result (HasLog D.meaning.observable (now (D.meaning.history (disk_of self.new))) self.new log) }
+        ensures whole { (log : Log) → HasLog D.meaning.observable (now (D.meaning.history (disk_of self.old))) self.old log → OnOk result (ReadAs D.meaning.observable (now (D.meaning.history (disk_of self.new))).reads log) }
+        ensures crash { D.meaning.observable ≡ true → (log removed : Log) (least : ℕ) (begun : Option ℕ) → HasLog D.meaning.observable (now (D.meaning.history (disk_of self.old))) self.old log → Holds log removed least begun (first_of self.old) (now (D.meaning.history (disk_of self.old)))
+            → KeptThrough (D.meaning.history (disk_of self.old)) (D.meaning.history (disk_of self.new)) log removed least }
+        ensures holds { D.meaning.observable ≡ true → (log removed : Log) (least : ℕ) (begun : Option ℕ) → HasLog D.meaning.observable (now (D.meaning.history (disk_of self.old))) self.old log → Holds log removed least begun (first_of self.old) (now (D.meaning.history (disk_of self.old)))
+            → OnOk result (Holds log removed least (Some (length (entries_of log))) (first_of self.new) (now (D.meaning.history (disk_of self.new)))) }
         ensures end { end_of self.new ≡ end_of self.old }
         ensures last { last_of self.new ≡ last_of self.old }
         ensures room { (sizes : List ℕ) → HasRoom self.old sizes → OnOk result (HasRoom self.new sizes) }
         ensures file_max { file_max_of self.new ≡ file_max_of self.old }
         ensures by_fault { FailsByFault result }
-        ensures cause { HasLogCause (has_failed self.old) (has_failed self.new) (D.faults (disk_of self.old)) (D.faults (disk_of self.new)) result }
+        ensures cause { HasLogCause (has_failed self.old) (has_failed self.new) (D.meaning.faults (disk_of self.old)) (D.meaning.faults (disk_of self.new)) result }
         ensures still { has_failed self.old ≡ true → disk_of self.new ≡ disk_of self.old }
-        ensures read_out { D.read_out (disk_of self.new) ≡ D.read_out (disk_of self.old) }
-        ensures read_of { D.read_of (disk_of self.new) ≡ D.read_of (disk_of self.old) }
+        ensures read_out { D.meaning.read_out (disk_of self.new) ≡ D.meaning.read_out (disk_of self.old) }
+        ensures read_of { D.meaning.read_of (disk_of self.new) ≡ D.meaning.read_of (disk_of self.old) }
     {
         self.write_out()?;
         self.failed = true;
@@ -49,19 +49,19 @@ impl<D: Disk> LogBuffer<D> {
     /// Ends the sync that is out. Entries may have been appended since it began. A buffer that has failed
     /// gives the job up.
     pub fn sync_end(&mut self, done: <D::Job as SyncJob>::Done) -> Result<(), LogErr>
-        requires { D.sync_out (disk_of self.old) ≡ Some (D.Job.Done.done_number done) }
-        ensures none_out { has_failed self.old ≡ false → D.sync_out (disk_of self.new) ≡ None }
-        ensures log { (log : Log) → HasLog D.observable (now (D.history (disk_of self.old))) self.old log → OnOk result (HasLog D.observable (now (D.history (disk_of self.new))) self.new log) }
-        ensures crash { D.observable ≡ true → (log removed : Log) (least : ℕ) (begun : ℕ) → HasLog D.observable (now (D.history (disk_of self.old))) self.old log → Holds log removed least (Some begun) (first_of self.old) (now (D.history (disk_of self.old)))
-            → KeptThrough (D.history (disk_of self.old)) (D.history (disk_of self.new)) log removed least }
-        ensures holds { D.observable ≡ true → (log removed : Log) (least : ℕ) (begun : ℕ) → HasLog D.observable (now (D.history (disk_of self.old))) self.old log → Holds log removed least (Some begun) (first_of self.old) (now (D.history (disk_of self.old)))
-            → OnOk result (Holds log removed begun None (first_of self.new) (now (D.history (disk_of self.new)))) }
+        requires { D.meaning.sync_out (disk_of self.old) ≡ Some (D.Job.Done.done_number done) }
+        ensures none_out { has_failed self.old ≡ false → D.meaning.sync_out (disk_of self.new) ≡ None }
+        ensures log { (log : Log) → HasLog D.meaning.observable (now (D.meaning.history (disk_of self.old))) self.old log → OnOk result (HasLog D.meaning.observable (now (D.meaning.history (disk_of self.new))) self.new log) }
+        ensures crash { D.meaning.observable ≡ true → (log removed : Log) (least : ℕ) (begun : ℕ) → HasLog D.meaning.observable (now (D.meaning.history (disk_of self.old))) self.old log → Holds log removed least (Some begun) (first_of self.old) (now (D.meaning.history (disk_of self.old)))
+            → KeptThrough (D.meaning.history (disk_of self.old)) (D.meaning.history (disk_of self.new)) log removed least }
+        ensures holds { D.meaning.observable ≡ true → (log removed : Log) (least : ℕ) (begun : ℕ) → HasLog D.meaning.observable (now (D.meaning.history (disk_of self.old))) self.old log → Holds log removed least (Some begun) (first_of self.old) (now (D.meaning.history (disk_of self.old)))
+            → OnOk result (Holds log removed begun None (first_of self.new) (now (D.meaning.history (disk_of self.new)))) }
         ensures kept { KeepsUnwritten self.old self.new }
         ensures by_fault { FailsByFault result }
-        ensures cause { HasLogCause (has_failed self.old) (has_failed self.new) (D.faults (disk_of self.old)) (D.faults (disk_of self.new)) result }
+        ensures cause { HasLogCause (has_failed self.old) (has_failed self.new) (D.meaning.faults (disk_of self.old)) (D.meaning.faults (disk_of self.new)) result }
         ensures still { has_failed self.old ≡ true → disk_of self.new ≡ disk_of self.old }
-        ensures read_out { D.read_out (disk_of self.new) ≡ D.read_out (disk_of self.old) }
-        ensures read_of { D.read_of (disk_of self.new) ≡ D.read_of (disk_of self.old) }
+        ensures read_out { D.meaning.read_out (disk_of self.new) ≡ D.meaning.read_out (disk_of self.old) }
+        ensures read_of { D.meaning.read_of (disk_of self.new) ≡ D.meaning.read_of (disk_of self.old) }
     {
         if self.failed {
             done.give_up();
@@ -80,17 +80,17 @@ impl<D: Disk> LogBuffer<D> {
     /// Writes the write buffer out and syncs, and gives the disk back, which a buffer that has failed
     /// does not touch.
     pub fn close(self) -> (D, Result<(), LogErr>)
-        ensures whole { (log : Log) → HasLog D.observable (now (D.history (disk_of self))) self log → OnOk result.1 (ReadAs D.observable (now (D.history result.0)).reads log) }
-        ensures stable { D.observable ≡ true → OnOk result.1 ((now (D.history result.0)).crash_states ≡ synced_crash_states (now (D.history result.0)).reads) }
-        ensures crash { D.observable ≡ true → (log removed : Log) (least : ℕ) (begun : Option ℕ) → HasLog D.observable (now (D.history (disk_of self))) self log → Holds log removed least begun (first_of self) (now (D.history (disk_of self)))
-            → KeptThrough (D.history (disk_of self)) (D.history result.0) log removed least }
-        ensures kept { D.observable ≡ true → (log : Log) → HasLog D.observable (now (D.history (disk_of self))) self log → OnOk result.1 (KeepsRead log [] (length (entries_of log)) (now (D.history result.0))) }
+        ensures whole { (log : Log) → HasLog D.meaning.observable (now (D.meaning.history (disk_of self))) self log → OnOk result.1 (ReadAs D.meaning.observable (now (D.meaning.history result.0)).reads log) }
+        ensures stable { D.meaning.observable ≡ true → OnOk result.1 ((now (D.meaning.history result.0)).crash_states ≡ synced_crash_states (now (D.meaning.history result.0)).reads) }
+        ensures crash { D.meaning.observable ≡ true → (log removed : Log) (least : ℕ) (begun : Option ℕ) → HasLog D.meaning.observable (now (D.meaning.history (disk_of self))) self log → Holds log removed least begun (first_of self) (now (D.meaning.history (disk_of self)))
+            → KeptThrough (D.meaning.history (disk_of self)) (D.meaning.history result.0) log removed least }
+        ensures kept { D.meaning.observable ≡ true → (log : Log) → HasLog D.meaning.observable (now (D.meaning.history (disk_of self))) self log → OnOk result.1 (KeepsRead log [] (length (entries_of log)) (now (D.meaning.history result.0))) }
         ensures by_fault { FailsByFault result.1 }
-        ensures never_falls { D.faults (disk_of self) ≤ D.faults result.0 }
-        ensures fault { has_failed self ≡ false → OnErr result.1 (HasRisen (D.faults (disk_of self)) (D.faults result.0)) }
+        ensures never_falls { D.meaning.faults (disk_of self) ≤ D.meaning.faults result.0 }
+        ensures fault { has_failed self ≡ false → OnErr result.1 (HasRisen (D.meaning.faults (disk_of self)) (D.meaning.faults result.0)) }
         ensures failed { has_failed self ≡ true → IsErrOf result.1 LogErr.Fault }
         ensures still { has_failed self ≡ true → result.0 ≡ disk_of self }
-        ensures jobs { SameJobs D.sync_out D.read_out D.read_of (disk_of self) result.0 }
+        ensures jobs { SameJobs D.meaning (disk_of self) result.0 }
     {
         let mut buffer = self;
         let written = buffer.write_out();
@@ -105,14 +105,14 @@ impl<D: Disk> LogBuffer<D> {
 
 // Makes stable what the files read as.
 fn sync<D: Disk>(disk: &mut D) -> Result<(), LogErr>
-    ensures done { D.observable ≡ true → OnOk result (now (D.history disk.new) ≡ synced (now (D.history disk.old))) }
-    ensures moments { D.observable ≡ true → Passes (D.history disk.old) (D.history disk.new) (IsEither (now (D.history disk.old)) (synced (now (D.history disk.old)))) }
+    ensures done { D.meaning.observable ≡ true → OnOk result (now (D.meaning.history disk.new) ≡ synced (now (D.meaning.history disk.old))) }
+    ensures moments { D.meaning.observable ≡ true → Passes (D.meaning.history disk.old) (D.meaning.history disk.new) (IsEither (now (D.meaning.history disk.old)) (synced (now (D.meaning.history disk.old)))) }
     ensures by_fault { FailsByFault result }
-    ensures never_falls { D.faults disk.old ≤ D.faults disk.new }
-    ensures fault { OnErr result (HasRisen (D.faults disk.old) (D.faults disk.new)) }
-    ensures sync_out { D.sync_out disk.new ≡ D.sync_out disk.old }
-    ensures read_out { D.read_out disk.new ≡ D.read_out disk.old }
-    ensures read_of { D.read_of disk.new ≡ D.read_of disk.old }
+    ensures never_falls { D.meaning.faults disk.old ≤ D.meaning.faults disk.new }
+    ensures fault { OnErr result (HasRisen (D.meaning.faults disk.old) (D.meaning.faults disk.new)) }
+    ensures sync_out { D.meaning.sync_out disk.new ≡ D.meaning.sync_out disk.old }
+    ensures read_out { D.meaning.read_out disk.new ≡ D.meaning.read_out disk.old }
+    ensures read_of { D.meaning.read_of disk.new ≡ D.meaning.read_of disk.old }
 {
     match disk.sync_now() {
         Ok(()) => Ok(()),

@@ -19,12 +19,12 @@ use je_lsn::FileNo;
 
 // Writes bytes behind a file's; where there are none the disk is not touched.
 fn write_behind<D: Disk>(disk: &mut D, f: FileNo, bytes: &[u8]) -> Result<(), DiskErr>
-    ensures state { D.observable ≡ true → OnOk result (now (D.history disk.new) ≡ put_behind f.0 bytes.now (now (D.history disk.old))) }
-    ensures moments { D.observable ≡ true → Passes (D.history disk.old) (D.history disk.new) (IsPutBehind f.0 bytes.now (now (D.history disk.old))) }
-    ensures cause { HasFault (D.faults disk.old) (D.faults disk.new) result }
-    ensures sync_out { D.sync_out disk.new ≡ D.sync_out disk.old }
-    ensures read_out { D.read_out disk.new ≡ D.read_out disk.old }
-    ensures read_of { D.read_of disk.new ≡ D.read_of disk.old }
+    ensures state { D.meaning.observable ≡ true → OnOk result (now (D.meaning.history disk.new) ≡ put_behind f.0 bytes.now (now (D.meaning.history disk.old))) }
+    ensures moments { D.meaning.observable ≡ true → Passes (D.meaning.history disk.old) (D.meaning.history disk.new) (IsPutBehind f.0 bytes.now (now (D.meaning.history disk.old))) }
+    ensures cause { HasFault (D.meaning.faults disk.old) (D.meaning.faults disk.new) result }
+    ensures sync_out { D.meaning.sync_out disk.new ≡ D.meaning.sync_out disk.old }
+    ensures read_out { D.meaning.read_out disk.new ≡ D.meaning.read_out disk.old }
+    ensures read_of { D.meaning.read_of disk.new ≡ D.meaning.read_of disk.old }
 {
     if bytes.is_empty() {
         return Ok(());
@@ -34,12 +34,12 @@ fn write_behind<D: Disk>(disk: &mut D, f: FileNo, bytes: &[u8]) -> Result<(), Di
 
 // Makes a next file, only after a sync of what was written before.
 fn make_file<D: Disk>(disk: &mut D, f: FileNo) -> Result<(), DiskErr>
-    ensures state { D.observable ≡ true → OnOk result (now (D.history disk.new) ≡ created f.0 (synced (now (D.history disk.old)))) }
-    ensures moments { D.observable ≡ true → Passes (D.history disk.old) (D.history disk.new) (IsMadeNext f.0 (now (D.history disk.old))) }
-    ensures cause { HasFault (D.faults disk.old) (D.faults disk.new) result }
-    ensures sync_out { D.sync_out disk.new ≡ D.sync_out disk.old }
-    ensures read_out { D.read_out disk.new ≡ D.read_out disk.old }
-    ensures read_of { D.read_of disk.new ≡ D.read_of disk.old }
+    ensures state { D.meaning.observable ≡ true → OnOk result (now (D.meaning.history disk.new) ≡ created f.0 (synced (now (D.meaning.history disk.old)))) }
+    ensures moments { D.meaning.observable ≡ true → Passes (D.meaning.history disk.old) (D.meaning.history disk.new) (IsMadeNext f.0 (now (D.meaning.history disk.old))) }
+    ensures cause { HasFault (D.meaning.faults disk.old) (D.meaning.faults disk.new) result }
+    ensures sync_out { D.meaning.sync_out disk.new ≡ D.meaning.sync_out disk.old }
+    ensures read_out { D.meaning.read_out disk.new ≡ D.meaning.read_out disk.old }
+    ensures read_of { D.meaning.read_of disk.new ≡ D.meaning.read_of disk.old }
 {
     disk.sync_now()?;
     disk.create(f)
@@ -48,12 +48,12 @@ fn make_file<D: Disk>(disk: &mut D, f: FileNo) -> Result<(), DiskErr>
 // Writes a file that begins in the write buffer.
 fn write_file<D: Disk>(disk: &mut D, f: FileNo, piece: &[u8]) -> Result<(), DiskErr>
     requires { 0 < length piece.now }
-    ensures state { D.observable ≡ true → OnOk result (now (D.history disk.new) ≡ appended f.0 piece.now (created f.0 (synced (now (D.history disk.old))))) }
-    ensures moments { D.observable ≡ true → Passes (D.history disk.old) (D.history disk.new) (IsPutNext f.0 piece.now (now (D.history disk.old))) }
-    ensures cause { HasFault (D.faults disk.old) (D.faults disk.new) result }
-    ensures sync_out { D.sync_out disk.new ≡ D.sync_out disk.old }
-    ensures read_out { D.read_out disk.new ≡ D.read_out disk.old }
-    ensures read_of { D.read_of disk.new ≡ D.read_of disk.old }
+    ensures state { D.meaning.observable ≡ true → OnOk result (now (D.meaning.history disk.new) ≡ appended f.0 piece.now (created f.0 (synced (now (D.meaning.history disk.old))))) }
+    ensures moments { D.meaning.observable ≡ true → Passes (D.meaning.history disk.old) (D.meaning.history disk.new) (IsPutNext f.0 piece.now (now (D.meaning.history disk.old))) }
+    ensures cause { HasFault (D.meaning.faults disk.old) (D.meaning.faults disk.new) result }
+    ensures sync_out { D.meaning.sync_out disk.new ≡ D.meaning.sync_out disk.old }
+    ensures read_out { D.meaning.read_out disk.new ≡ D.meaning.read_out disk.old }
+    ensures read_of { D.meaning.read_of disk.new ≡ D.meaning.read_of disk.old }
 {
     make_file(disk, f)?;
     disk.append(f, piece)
@@ -62,15 +62,15 @@ fn write_file<D: Disk>(disk: &mut D, f: FileNo, piece: &[u8]) -> Result<(), Disk
 // Writes the write buffer, whose last piece belongs to the file `last`.
 fn write_unwritten<D: Disk>(disk: &mut D, unwritten: &WriteBuffer, last: u32) -> Result<(), DiskErr>
     requires { length unwritten.now.starts.items ≤ last }
-    ensures done { D.observable ≡ true → OnOk result ((f : ℕ) → (now (D.history disk.new)).reads f ≡ joined ((now (D.history disk.old)).reads f) (bytes_for unwritten.now.bytes.items unwritten.now.starts.items last f)) }
-    ensures crash { D.observable ≡ true → (log removed : Log) (least : ℕ) (begun : Option ℕ) → IsUnwrittenOf log (now (D.history disk.old)).reads (bytes_for unwritten.now.bytes.items unwritten.now.starts.items last) (last - length unwritten.now.starts.items) → Holds log removed least begun (last - length unwritten.now.starts.items) (now (D.history disk.old))
-        → KeptThrough (D.history disk.old) (D.history disk.new) log removed least }
-    ensures holds { D.observable ≡ true → (log removed : Log) (least : ℕ) (begun : Option ℕ) → IsUnwrittenOf log (now (D.history disk.old)).reads (bytes_for unwritten.now.bytes.items unwritten.now.starts.items last) (last - length unwritten.now.starts.items) → Holds log removed least begun (last - length unwritten.now.starts.items) (now (D.history disk.old))
-        → OnOk result (Holds log removed least begun last (now (D.history disk.new))) }
-    ensures cause { HasFault (D.faults disk.old) (D.faults disk.new) result }
-    ensures sync_out { D.sync_out disk.new ≡ D.sync_out disk.old }
-    ensures read_out { D.read_out disk.new ≡ D.read_out disk.old }
-    ensures read_of { D.read_of disk.new ≡ D.read_of disk.old }
+    ensures done { D.meaning.observable ≡ true → OnOk result ((f : ℕ) → (now (D.meaning.history disk.new)).reads f ≡ joined ((now (D.meaning.history disk.old)).reads f) (bytes_for unwritten.now.bytes.items unwritten.now.starts.items last f)) }
+    ensures crash { D.meaning.observable ≡ true → (log removed : Log) (least : ℕ) (begun : Option ℕ) → IsUnwrittenOf log (now (D.meaning.history disk.old)).reads (bytes_for unwritten.now.bytes.items unwritten.now.starts.items last) (last - length unwritten.now.starts.items) → Holds log removed least begun (last - length unwritten.now.starts.items) (now (D.meaning.history disk.old))
+        → KeptThrough (D.meaning.history disk.old) (D.meaning.history disk.new) log removed least }
+    ensures holds { D.meaning.observable ≡ true → (log removed : Log) (least : ℕ) (begun : Option ℕ) → IsUnwrittenOf log (now (D.meaning.history disk.old)).reads (bytes_for unwritten.now.bytes.items unwritten.now.starts.items last) (last - length unwritten.now.starts.items) → Holds log removed least begun (last - length unwritten.now.starts.items) (now (D.meaning.history disk.old))
+        → OnOk result (Holds log removed least begun last (now (D.meaning.history disk.new))) }
+    ensures cause { HasFault (D.meaning.faults disk.old) (D.meaning.faults disk.new) result }
+    ensures sync_out { D.meaning.sync_out disk.new ≡ D.meaning.sync_out disk.old }
+    ensures read_out { D.meaning.read_out disk.new ≡ D.meaning.read_out disk.old }
+    ensures read_of { D.meaning.read_of disk.new ≡ D.meaning.read_of disk.old }
 {
     let count = unwritten.files() as u32;
     let first = last - count;
@@ -88,15 +88,15 @@ impl<D: Disk> LogBuffer<D> {
     /// it has finished.
     pub fn write_out(&mut self) -> Result<(), LogErr>
         ensures written { OnOk result (IsWritten self.new) }
-        ensures whole { (log : Log) → HasLog D.observable (now (D.history (disk_of self.old))) self.old log → OnOk result (ReadAs D.observable (now (D.history (disk_of self.new))).reads log) }
-        ensures grew { OnOk result (Grew D.observable D.history D.sync_out D.read_out D.read_of self.old self.new []) }
-        ensures tried { OnErr result (Tried D.observable D.history D.sync_out D.read_out D.read_of self.old self.new []) }
+        ensures whole { (log : Log) → HasLog D.meaning.observable (now (D.meaning.history (disk_of self.old))) self.old log → OnOk result (ReadAs D.meaning.observable (now (D.meaning.history (disk_of self.new))).reads log) }
+        ensures grew { OnOk result (Grew D.meaning self.old self.new []) }
+        ensures tried { OnErr result (Tried D.meaning self.old self.new []) }
         ensures end { end_of self.new ≡ end_of self.old }
         ensures last { last_of self.new ≡ last_of self.old }
         ensures room { (sizes : List ℕ) → HasRoom self.old sizes → OnOk result (HasRoom self.new sizes) }
         ensures file_max { file_max_of self.new ≡ file_max_of self.old }
         ensures by_fault { FailsByFault result }
-        ensures cause { HasLogCause (has_failed self.old) (has_failed self.new) (D.faults (disk_of self.old)) (D.faults (disk_of self.new)) result }
+        ensures cause { HasLogCause (has_failed self.old) (has_failed self.new) (D.meaning.faults (disk_of self.old)) (D.meaning.faults (disk_of self.new)) result }
         ensures still { has_failed self.old ≡ true → disk_of self.new ≡ disk_of self.old }
     {
         if self.failed {

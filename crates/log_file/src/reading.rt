@@ -25,11 +25,11 @@ pub struct Scanned {
 /// once, whole, into memory that is free again afterwards. `Failed` comes only where the disk counted a
 /// fault; Memory is free. The disk's state stays the same, and so do the jobs that are out.
 pub fn scan<D: Disk>(alloc: Global, disk: &mut D, f: FileNo) -> Result<Scanned, DiskErr>
-    ensures scanned { IfOk result (λ scanned. IsScanOf D.observable (now (D.history disk.old)).reads f.0 scanned) }
-    ensures same { D.observable ≡ true → now (D.history disk.new) ≡ now (D.history disk.old) }
-    ensures moments { D.observable ≡ true → Passes (D.history disk.old) (D.history disk.new) (λ s. s ≡ now (D.history disk.old)) }
-    ensures jobs { (D.sync_out disk.new ≡ D.sync_out disk.old) × (D.read_out disk.new ≡ D.read_out disk.old) × (D.read_of disk.new ≡ D.read_of disk.old) × (D.last_job disk.new ≡ D.last_job disk.old) }
-    ensures cause { HasCause (D.faults disk.old) (D.faults disk.new) result }
+    ensures scanned { IfOk result (λ scanned. IsScanOf D.meaning.observable (now (D.meaning.history disk.old)).reads f.0 scanned) }
+    ensures same { D.meaning.observable ≡ true → now (D.meaning.history disk.new) ≡ now (D.meaning.history disk.old) }
+    ensures moments { D.meaning.observable ≡ true → Passes (D.meaning.history disk.old) (D.meaning.history disk.new) (λ s. s ≡ now (D.meaning.history disk.old)) }
+    ensures jobs { (D.meaning.sync_out disk.new ≡ D.meaning.sync_out disk.old) × (D.meaning.read_out disk.new ≡ D.meaning.read_out disk.old) × (D.meaning.read_of disk.new ≡ D.meaning.read_of disk.old) × (D.meaning.last_job disk.new ≡ D.meaning.last_job disk.old) }
+    ensures cause { HasCause (D.meaning.faults disk.old) (D.meaning.faults disk.new) result }
 {
     let bytes = read_whole(alloc, disk, f)?;
     Ok(scan_whole(alloc, &bytes, f)?)
@@ -49,11 +49,11 @@ fn scan_whole(alloc: Global, bytes: &[u8], f: FileNo) -> Result<Scanned, AllocEr
 
 // The bytes of a file; none where it is not there.
 fn read_whole<D: Disk>(alloc: Global, disk: &mut D, f: FileNo) -> Result<Vec<u8>, DiskErr>
-    ensures bytes { D.observable ≡ true → IfOk result (λ bytes. bytes.items ≡ content (now (D.history disk.old)).reads f.0) }
-    ensures same { D.observable ≡ true → now (D.history disk.new) ≡ now (D.history disk.old) }
-    ensures moments { D.observable ≡ true → Passes (D.history disk.old) (D.history disk.new) (λ s. s ≡ now (D.history disk.old)) }
-    ensures jobs { (D.sync_out disk.new ≡ D.sync_out disk.old) × (D.read_out disk.new ≡ D.read_out disk.old) × (D.read_of disk.new ≡ D.read_of disk.old) × (D.last_job disk.new ≡ D.last_job disk.old) }
-    ensures cause { HasCause (D.faults disk.old) (D.faults disk.new) result }
+    ensures bytes { D.meaning.observable ≡ true → IfOk result (λ bytes. bytes.items ≡ content (now (D.meaning.history disk.old)).reads f.0) }
+    ensures same { D.meaning.observable ≡ true → now (D.meaning.history disk.new) ≡ now (D.meaning.history disk.old) }
+    ensures moments { D.meaning.observable ≡ true → Passes (D.meaning.history disk.old) (D.meaning.history disk.new) (λ s. s ≡ now (D.meaning.history disk.old)) }
+    ensures jobs { (D.meaning.sync_out disk.new ≡ D.meaning.sync_out disk.old) × (D.meaning.read_out disk.new ≡ D.meaning.read_out disk.old) × (D.meaning.read_of disk.new ≡ D.meaning.read_of disk.old) × (D.meaning.last_job disk.new ≡ D.meaning.last_job disk.old) }
+    ensures cause { HasCause (D.meaning.faults disk.old) (D.meaning.faults disk.new) result }
 {
     let len = disk.len(f)?;
     let mut bytes = vec![in alloc; 0u8; len as usize]?;

@@ -100,11 +100,11 @@ fn read_file<D: Disk>(
     f: FileNo,
     is_last: bool,
 ) -> Result<FileLines, LogErr>
-    ensures read { IfOk result (AreLinesOf D.observable (now (D.history disk.old)).reads is_last f.0) }
-    ensures stops { IfErr result (StopsAtFile D.observable (now (D.history disk.old)).reads is_last f.0 (D.faults disk.old) (D.faults disk.new)) }
-    ensures same { D.observable ≡ true → now (D.history disk.new) ≡ now (D.history disk.old) }
-    ensures moments { D.observable ≡ true → Passes (D.history disk.old) (D.history disk.new) (λ s. s ≡ now (D.history disk.old)) }
-    ensures never_falls { D.faults disk.old ≤ D.faults disk.new }
+    ensures read { IfOk result (AreLinesOf D.meaning.observable (now (D.meaning.history disk.old)).reads is_last f.0) }
+    ensures stops { IfErr result (StopsAtFile D.meaning.observable (now (D.meaning.history disk.old)).reads is_last f.0 (D.meaning.faults disk.old) (D.meaning.faults disk.new)) }
+    ensures same { D.meaning.observable ≡ true → now (D.meaning.history disk.new) ≡ now (D.meaning.history disk.old) }
+    ensures moments { D.meaning.observable ≡ true → Passes (D.meaning.history disk.old) (D.meaning.history disk.new) (λ s. s ≡ now (D.meaning.history disk.old)) }
+    ensures never_falls { D.meaning.faults disk.old ≤ D.meaning.faults disk.new }
 {
     let scanned = scan(alloc, disk, f)?;
     take_scanned(alloc, f, is_last, scanned)
@@ -124,11 +124,11 @@ fn read_files<D: Disk>(
     disk: &mut D,
     files: &[FileNo],
 ) -> Result<Vec<FileLines>, LogErr>
-    ensures read { IfOk result (λ lines. IsReadingLines D.observable (now (D.history disk.old)).reads files.now [] lines.items) }
-    ensures stops { IfErr result (StopsAmong D.observable (now (D.history disk.old)).reads files.now (D.faults disk.old) (D.faults disk.new)) }
-    ensures same { D.observable ≡ true → now (D.history disk.new) ≡ now (D.history disk.old) }
-    ensures moments { D.observable ≡ true → Passes (D.history disk.old) (D.history disk.new) (λ s. s ≡ now (D.history disk.old)) }
-    ensures never_falls { D.faults disk.old ≤ D.faults disk.new }
+    ensures read { IfOk result (λ lines. IsReadingLines D.meaning.observable (now (D.meaning.history disk.old)).reads files.now [] lines.items) }
+    ensures stops { IfErr result (StopsAmong D.meaning.observable (now (D.meaning.history disk.old)).reads files.now (D.meaning.faults disk.old) (D.meaning.faults disk.new)) }
+    ensures same { D.meaning.observable ≡ true → now (D.meaning.history disk.new) ≡ now (D.meaning.history disk.old) }
+    ensures moments { D.meaning.observable ≡ true → Passes (D.meaning.history disk.old) (D.meaning.history disk.new) (λ s. s ≡ now (D.meaning.history disk.old)) }
+    ensures never_falls { D.meaning.faults disk.old ≤ D.meaning.faults disk.new }
 {
     let mut read = Vec::new(alloc);
     let mut left = files.len();
@@ -143,10 +143,10 @@ fn read_files<D: Disk>(
 // Mounts the disk, and lists its files.
 fn list_files<D: Disk>(alloc: Global, disk: &mut D) -> Result<Vec<FileNo>, DiskErr>
     ensures rising { IfOk result (λ files. AreRisingNumbers files.items) }
-    ensures listed { D.observable ≡ true → IfOk result (λ files. IsListing (now (D.history disk.old)).reads files.items) }
-    ensures same { D.observable ≡ true → now (D.history disk.new) ≡ now (D.history disk.old) }
-    ensures moments { D.observable ≡ true → Passes (D.history disk.old) (D.history disk.new) (λ s. s ≡ now (D.history disk.old)) }
-    ensures cause { HasCause (D.faults disk.old) (D.faults disk.new) result }
+    ensures listed { D.meaning.observable ≡ true → IfOk result (λ files. IsListing (now (D.meaning.history disk.old)).reads files.items) }
+    ensures same { D.meaning.observable ≡ true → now (D.meaning.history disk.new) ≡ now (D.meaning.history disk.old) }
+    ensures moments { D.meaning.observable ≡ true → Passes (D.meaning.history disk.old) (D.meaning.history disk.new) (λ s. s ≡ now (D.meaning.history disk.old)) }
+    ensures cause { HasCause (D.meaning.faults disk.old) (D.meaning.faults disk.new) result }
 {
     disk.mount()?;
     disk.list(alloc)
@@ -157,11 +157,11 @@ fn list_files<D: Disk>(alloc: Global, disk: &mut D) -> Result<Vec<FileNo>, DiskE
 /// no file at all. The disk's state stays the same at each moment. `Disk` comes only where the disk counted a fault;
 /// Memory is free.
 pub fn read_log<D: Disk>(alloc: Global, disk: &mut D) -> Result<Vec<FileLines>, LogErr>
-    ensures read { IfOk result (λ lines. IsLogOf D.observable (now (D.history disk.old)).reads lines.items) }
-    ensures stops { IfErr result (StopsLog D.observable (now (D.history disk.old)).reads (D.faults disk.old) (D.faults disk.new)) }
-    ensures same { D.observable ≡ true → now (D.history disk.new) ≡ now (D.history disk.old) }
-    ensures moments { D.observable ≡ true → Passes (D.history disk.old) (D.history disk.new) (λ s. s ≡ now (D.history disk.old)) }
-    ensures never_falls { D.faults disk.old ≤ D.faults disk.new }
+    ensures read { IfOk result (λ lines. IsLogOf D.meaning.observable (now (D.meaning.history disk.old)).reads lines.items) }
+    ensures stops { IfErr result (StopsLog D.meaning.observable (now (D.meaning.history disk.old)).reads (D.meaning.faults disk.old) (D.meaning.faults disk.new)) }
+    ensures same { D.meaning.observable ≡ true → now (D.meaning.history disk.new) ≡ now (D.meaning.history disk.old) }
+    ensures moments { D.meaning.observable ≡ true → Passes (D.meaning.history disk.old) (D.meaning.history disk.new) (λ s. s ≡ now (D.meaning.history disk.old)) }
+    ensures never_falls { D.meaning.faults disk.old ≤ D.meaning.faults disk.new }
 {
     let files = list_files(alloc, disk)?;
     if files.is_empty() {

@@ -120,19 +120,7 @@ impl Disk for MemDisk {
 
     type ReadJob = MemReadJob;
 
-    ghost observable = { true };
-
-    ghost history = { observed_history };
-
-    ghost faults = { faults_of };
-
-    ghost sync_out = { sync_of };
-
-    ghost read_out = { read_job_of };
-
-    ghost read_of = { read_file_of };
-
-    ghost last_job = { last_job_of };
+    ghost meaning = { record { observable = true; history = observed_history; faults = faults_of; sync_out = sync_of; read_out = read_job_of; read_of = read_file_of; last_job = last_job_of } };
 
     fn mount(&mut self) -> Result<(), DiskErr>
         ensures same { now (observed_history self.new) ≡ now (observed_history self.old) }

@@ -6,12 +6,12 @@ use Rattle.je_order.specs.Order.{name_cmp}
 use Rattle.node_core.specs.declared.slot.Slot.{Slot}
 use Rattle.node_core.specs.declared.slot.Marked.{Marked}
 use Rattle.node_core.specs.declared.node.Node.{Node}
-use Rattle.node_core.specs.Sorted.{Rises, at, put, put_all, without}
+use Rattle.node_core.specs.Sorted.{Rises, at, put, put_all}
 use Rattle.node_core.specs.Changes.{is_committed, committed, changed, unmarked, shows, has_committed}
 use Rattle.node_core.specs.Nodes.{with_slot, IsFullImage}
 use Rattle.node_core.proofs.NameOrder.{same}
 use Rattle.je_order.proofs.Orderings.{equal_from_test}
-use Rattle.node_core.proofs.SlotLookup.{keep, or_else, at_put, at_filter, at_put_all, at_without, same_lists, rises_put, rises_filter, rises_put_all}
+use Rattle.node_core.proofs.SlotLookup.{keep, or_else, at_put, at_filter, at_put_all, same_lists, rises_put, rises_filter, rises_put_all}
 use Rattle.node_core.proofs.SlotPositions.{rises_unmarked}
 
 abbrev shown : Marked → Bool
@@ -80,15 +80,6 @@ put_goes_on image ms m h mark may goes =
       | false ↦ λ t. agreed image ms h goes x
     ] refl))
 
-pub without_goes_on : (image ms : List Marked) (y : Name) → Rises ms → has_committed y ms ≡ false → GoesOn image ms → GoesOn image (without y ms)
-without_goes_on image ms y h none goes =
-    goes_on image (without y ms) goes.0 (rises_filter (λ m. not (is_eq (name_cmp y m.slot.name))) ms h) (λ x. subst (Agree x image) (sym (at_without x y ms h)) (elim (is_eq (name_cmp y x)) as (λ b. is_eq (name_cmp y x) ≡ b → Agree x image (cond b None (at x ms))) [
-      | true ↦ λ t.
-          let none_here : shows (at x ms) ≡ false = subst (λ (z : Name). shows (at z ms) ≡ false) (same y x (equal_from_test _ t)) none in
-          image_none x image (at x ms) none_here (agreed image ms h goes x)
-      | false ↦ λ t. agreed image ms h goes x
-    ] refl))
-
 pub changed_unmarked : (ms : List Marked) → changed (map unmarked ms) ≡ []
 changed_unmarked [] = refl
 changed_unmarked (m ∷ ms) = changed_unmarked ms
@@ -107,20 +98,6 @@ kept false o e = (refl, e)
 pub may_put : (a b : Bool) → (not a && b) ≡ false → (a ≡ true) ⊎ (b ≡ false)
 may_put true b e = inl refl
 may_put false b e = inr e
-
-no_image : {A : Type 0} (o : Option A) → o ≡ None → IsSome o → ⊥
-no_image None e some = cc
-no_image (Some x) e some = cc
-
--- a slot that was taken out of a node whose full image a delta can no longer go on from
-pub without_full : {B : Type 0} (n mid : Node) → mid ≡ record { db = n.db; number = n.number; level = n.level; full = None; slots = n.slots } → IsSome mid.full → B
-without_full n mid is some = absurd (no_image mid.full (ap (λ (k : Node). k.full) is) some)
-
-pub without_still : (image : List Marked) (y : Name) (n mid : Node) (new : List Marked) → mid ≡ n → new ≡ without y mid.slots → Rises mid.slots → has_committed y n.slots ≡ false → IsFullImage image n → IsSome mid.full → GoesOn image new
-without_still image y n mid new same_node is h none full some =
-    let none_here : has_committed y mid.slots ≡ false = subst (λ (k : Node). has_committed y k.slots ≡ false) (sym same_node) none in
-    let full_here : IsFullImage image mid = subst (IsFullImage image) (sym same_node) full in
-    subst (GoesOn image) (sym is) (without_goes_on image mid.slots y h none_here (full_here some))
 
 -- a node into which a slot was put
 pub with_slot_is : (n : Node) (s : Slot) (is_changed hides : Bool) (full : Option ℕ) (ms : List Marked) → is_changed ≡ is_committed s.version → ms ≡ put (record { slot = s; changed = is_changed }) n.slots

@@ -1,11 +1,11 @@
 -- What is found by names among slots in the order of their names, and what each change leaves.
-use Rattle.std.proofs.Common.{◌≡◌, ℕ, zero, suc, Bool, true, false, cond, not, List, [], ◌∷◌, ◌++◌, take, drop, Option, Some, None, Less, Equal, Greater, is_eq, is_lt, refl, sym, ap, subst, ◌∙◌}
+use Rattle.std.proofs.Common.{◌≡◌, ℕ, zero, suc, Bool, true, false, cond, not, List, [], ◌∷◌, ◌++◌, Option, Some, None, Less, Equal, Greater, is_eq, is_lt, refl, sym, ap, subst, ◌∙◌}
 use Rattle.std.specs.Prelude.{filter}
 use Rattle.std.specs.Ordering.{match_ordering}
 use Rattle.je_order.specs.declared.name.Name.{Name}
 use Rattle.je_order.specs.Order.{name_cmp}
 use Rattle.node_core.specs.declared.slot.Marked.{Marked}
-use Rattle.node_core.specs.Sorted.{AllAbove, Rises, at, put, put_all, without, below, above}
+use Rattle.node_core.specs.Sorted.{AllAbove, Rises, at, put, put_all, below, above}
 use Rattle.node_core.proofs.NameOrder.{total, same, itself, turned, joined, test_again, tests_turned}
 use Rattle.je_order.proofs.Orderings.{equal_from_test}
 
@@ -52,21 +52,6 @@ rises_put m (n ∷ ms) h =
 pub rises_put_all : (ns ms : List Marked) → Rises ms → Rises (put_all ns ms)
 rises_put_all [] ms h = h
 rises_put_all (n ∷ ns) ms h = rises_put_all ns (put n ms) (rises_put n ms h)
-
-above_take : (k : ℕ) (x : Name) (ms : List Marked) → AllAbove x ms → AllAbove x (take k ms)
-above_take zero x ms h = tt
-above_take (suc k) x [] h = tt
-above_take (suc k) x (m ∷ ms) h = (h.0, above_take k x ms h.1)
-
-pub rises_take : (k : ℕ) (ms : List Marked) → Rises ms → Rises (take k ms)
-rises_take zero ms h = tt
-rises_take (suc k) [] h = tt
-rises_take (suc k) (m ∷ ms) h = (above_take k m.slot.name ms h.0, rises_take k ms h.1)
-
-pub rises_drop : (k : ℕ) (ms : List Marked) → Rises ms → Rises (drop k ms)
-rises_drop zero ms h = h
-rises_drop (suc k) [] h = tt
-rises_drop (suc k) (m ∷ ms) h = rises_drop k ms h.1
 
 -- ---- what is found
 
@@ -161,15 +146,6 @@ same_lists (m ∷ ms) (n ∷ ns) g h is =
     ] refl
 
 -- ---- removal, and the parts around a name
-
-apart_by : (y x : Name) (o : Option Marked) → ((m : Marked) → o ≡ Some m → name_cmp x m.slot.name ≡ Equal) → keep (λ m. not (tied y m)) o ≡ cond (is_eq (name_cmp y x)) None o
-apart_by y x None h = elim (is_eq (name_cmp y x)) as (λ b. ◌≡◌ {A = Option Marked} None (cond b None None)) [ true ↦ refl | false ↦ refl ]
-apart_by y x (Some m) h =
-    subst (λ (z : Name). cond (not (is_eq (name_cmp y z))) (Some m) None ≡ cond (is_eq (name_cmp y x)) None (Some m)) (same x m.slot.name (h m refl))
-    (elim (is_eq (name_cmp y x)) as (λ b. cond (not b) (Some m) None ≡ cond b None (Some m)) [ true ↦ refl | false ↦ refl ])
-
-pub at_without : (x y : Name) (ms : List Marked) → Rises ms → at x (without y ms) ≡ cond (is_eq (name_cmp y x)) None (at x ms)
-at_without x y ms h = at_filter x (λ m. not (tied y m)) ms h ∙ apart_by y x (at x ms) (λ m e. at_name x ms m e)
 
 below_none : (x : Name) (ms : List Marked) → AllAbove x ms → below x ms ≡ []
 below_none x [] h = refl

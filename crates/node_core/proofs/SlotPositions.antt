@@ -7,9 +7,9 @@ use Rattle.std.specs.Ordering.{ordering_reverse, match_ordering}
 use Rattle.je_order.specs.declared.name.Name.{Name}
 use Rattle.je_order.specs.Order.{name_cmp}
 use Rattle.node_core.specs.declared.slot.Marked.{Marked}
-use Rattle.node_core.specs.Sorted.{AllAbove, Rises, AreSlots, AllBelow, NoneBelow, IsPlace, IsAt, HasRoom, at, put, without}
+use Rattle.node_core.specs.Sorted.{AllAbove, Rises, AreSlots, AllBelow, NoneBelow, IsPlace, IsAt, HasRoom, at, put}
 use Rattle.node_core.proofs.NameOrder.{total, same, turned, above_of}
-use Rattle.node_core.proofs.SlotLookup.{at_above, at_name, above_below, rises_put, rises_filter, rises_take, rises_drop}
+use Rattle.node_core.proofs.SlotLookup.{at_above, at_name, above_below, rises_put, rises_filter}
 use Rattle.node_core.specs.Changes.{unmarked}
 use Rattle.std.proofs.lemmas.List.Edits.{length-insert, length-remove}
 use Rattle.std.proofs.lemmas.List.{length-map}
@@ -138,26 +138,6 @@ put_insert m (n ∷ ms) zero before behind none =
 put_insert m (n ∷ ms) (suc i) before behind none =
     under_first m n ms before.0 ∙ ap (λ (ks : List Marked). n ∷ ks) (put_insert m ms i before.1 behind (sym (at_past m.slot.name n ms before.0) ∙ none))
 
-pub without_none : (x : Name) (ms : List Marked) → at x ms ≡ None → without x ms ≡ ms
-without_none x [] none = refl
-without_none x (n ∷ ms) none =
-    let apart = untied x n ms none in
-    ap (λ b. cond (not b) (n ∷ without x ms) (without x ms)) apart
-    ∙ ap (λ (ks : List Marked). n ∷ ks) (without_none x ms (sym (ap (λ b. cond b (Some n) (at x ms)) apart) ∙ none))
-
-without_first : (x : Name) (n : Marked) (ms : List Marked) (b : Bool) → tied x n ≡ b → without x (n ∷ ms) ≡ cond (not b) (n ∷ without x ms) (without x ms)
-without_first x n ms b e = ap (λ b. cond (not b) (n ∷ without x ms) (without x ms)) e
-
-pub without_at : (x : Name) (ms : List Marked) (i : ℕ) → Rises ms → AllBelow x (take i ms) → IsAt x ms i → without x ms ≡ remove ms i
-without_at x [] i h before here = absurd (omega (arith, here.within))
-without_at x (n ∷ ms) zero h before here =
-    let tie : name_cmp x n.slot.name ≡ Equal = found_tied x n ms here.is in
-    without_first x n ms true (ap is_eq tie)
-    ∙ without_none x ms (at_above x ms (subst (λ (y : Name). AllAbove y ms) (sym (same x n.slot.name tie)) h.0))
-without_at x (n ∷ ms) (suc i) h before here =
-    without_first x n ms false (not_tied x n before.0)
-    ∙ ap (λ (ks : List Marked). n ∷ ks) (without_at x ms i h.1 before.1 (record { within = omega (arith, here.within); is = here.is ∙ at_past x n ms before.0 }))
-
 -- ---- what a test at the place says
 
 pub is_found : (x : Name) (ms : List Marked) (i : ℕ) (m : Marked) → Rises ms → IsPlace x ms i → i < length ms → slice_get ms i ≡ Some m → name_cmp x m.slot.name ≡ Equal → IsAt x ms i
@@ -198,19 +178,6 @@ pub are_insert : (m : Marked) (ms : List Marked) (i : ℕ) → AreSlots ms → I
 are_insert m ms i are place none room =
     are_put m ms (insert ms i m) are (sym (put_insert m ms i place.before place.behind none))
     (omega (arith, length-insert ms i m place.within, room none))
-
-pub are_without : (x : Name) (ms ns : List Marked) → AreSlots ms → ns ≡ without x ms → length ns ≤ 128 → AreSlots ns
-are_without x ms ns are is few = record { rises = subst Rises (sym is) (rises_filter (λ m. not (tied x m)) ms are.rises); few = few }
-
-pub are_remove : (x : Name) (ms : List Marked) (i : ℕ) → AreSlots ms → IsPlace x ms i → IsAt x ms i → AreSlots (remove ms i)
-are_remove x ms i are place here =
-    are_without x ms (remove ms i) are (sym (without_at x ms i are.rises place.before here)) (omega (arith, length-remove ms i here.within, are.few))
-
-pub are_take : (k : ℕ) (ms ns : List Marked) → AreSlots ms → ns ≡ take k ms → AreSlots ns
-are_take k ms ns are is = record { rises = subst Rises (sym is) (rises_take k ms are.rises); few = omega (arith, ap length is, length-take k ms, are.few) }
-
-pub are_drop : (k : ℕ) (ms ns : List Marked) → AreSlots ms → ns ≡ drop k ms → AreSlots ns
-are_drop k ms ns are is = record { rises = subst Rises (sym is) (rises_drop k ms are.rises); few = omega (arith, ap length is, length-drop k ms, are.few) }
 
 above_unmarked : (x : Name) (ms : List Marked) → AllAbove x ms → AllAbove x (map unmarked ms)
 above_unmarked x [] h = tt

@@ -1,10 +1,10 @@
 -- How a node changes, and how its images stand to it.
-use Rattle.std.specs.Prelude.{◌≡◌, ℕ, ◌-◌, ◌/◌, List, Option, None, IsSome, ◌&&◌, not, length, map, take, drop, if◌then◌else◌}
+use Rattle.std.specs.Prelude.{◌≡◌, ℕ, List, Option, None, IsSome, ◌&&◌, not, map, if◌then◌else◌}
 use Rattle.je_order.specs.declared.name.Name.{Name}
 use Rattle.node_core.specs.declared.slot.Slot.{Slot}
 use Rattle.node_core.specs.declared.slot.Marked.{Marked}
 use Rattle.node_core.specs.declared.node.Node.{Node}
-use Rattle.node_core.specs.Sorted.{Rises, put, put_all, without}
+use Rattle.node_core.specs.Sorted.{Rises, put, put_all}
 use Rattle.node_core.specs.Changes.{is_committed, committed, changed, set_now, unmarked, has_committed}
 
 -- a node with a slot put in. Where this hides a committed slot, no delta can show it
@@ -16,28 +16,6 @@ with_slot s n = record {
   full = if not (is_committed s.version) && has_committed s.name n.slots then None else n.full;
   slots = put (set_now s) n.slots;
 }
-
--- a node without the slot of a name. Where that slot was committed, no delta can show this
-abbrev pub without_slot : Name → Node → Node
-without_slot x n = record {
-  db = n.db;
-  number = n.number;
-  level = n.level;
-  full = if has_committed x n.slots then None else n.full;
-  slots = without x n.slots;
-}
-
--- how many slots stay in a node that is split: half of them, rounded up
-abbrev pub stay_of : Node → ℕ
-stay_of n = length n.slots - length n.slots / 2
-
--- the lower half of a split, under the node's number
-abbrev pub lower_half : Node → Node
-lower_half n = record { db = n.db; number = n.number; level = n.level; full = None; slots = take (stay_of n) n.slots }
-
--- the upper half of a split, under a new number
-abbrev pub upper_half : ℕ → Node → Node
-upper_half new n = record { db = n.db; number = new; level = n.level; full = None; slots = drop (stay_of n) n.slots }
 
 -- a node of which no slot was set since its full image, which is at this LSN
 abbrev pub with_changed_cleared : Option ℕ → Node → Node

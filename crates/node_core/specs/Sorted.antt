@@ -36,10 +36,6 @@ abbrev pub put_all : List Marked → List Marked → List Marked
 put_all [] ms = ms
 put_all (n ∷ ns) ms = put_all ns (put n ms)
 
--- the slots without the one of a name
-abbrev pub without : Name → List Marked → List Marked
-without x ms = filter (λ m. not (is_eq (name_cmp x m.slot.name))) ms
-
 -- the slots whose names are below a name, and those whose names are above it
 abbrev pub below : Name → List Marked → List Marked
 below x ms = filter (λ m. is_lt (name_cmp m.slot.name x)) ms
@@ -80,10 +76,6 @@ FindsWhatIsPut = (x : Name) (m : Marked) (ms : List Marked) → at x (put m ms) 
 -- a put is the slots below, the new one, and the slots above
 abbrev pub PutsInPlace : Type 0
 PutsInPlace = (m : Marked) (ms : List Marked) → Rises ms → put m ms ≡ below m.slot.name ms ++ m ∷ above m.slot.name ms
-
--- without a name no slot is found by it, and by each other name what was found before
-abbrev pub LosesOneName : Type 0
-LosesOneName = (x y : Name) (ms : List Marked) → Rises ms → at x (without y ms) ≡ (if is_eq (name_cmp y x) then None else at x ms)
 
 -- lists by which the same is found by every name are the same
 abbrev pub AreTheirNames : Type 0

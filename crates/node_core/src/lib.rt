@@ -1,8 +1,8 @@
 //! Nodes of the trees: a BIN, whose slots name records, and an IN, whose slots name children. It stands
 //! on `je_order` for names and on `je_lsn`. A contract sees a node's slots as one list, in which names
 //! rise strictly. Upward it promises that a slot is found by its name, that a put changes the one slot of
-//! that name, that the two halves of a split are the list, and that the slots which a delta shows, put
-//! into the last full image, make the image that the node has now.
+//! that name, and that the slots which a delta shows, put into the last full image, make the image that
+//! the node has now.
 #![tactic(auto)]
 
 pub mod laws;

@@ -2,17 +2,17 @@
 ghost use Rattle.std.specs.Prelude.{◌≡◌, ◌&&◌, not, [], Some, None, List, IsSome, IsOk, IfOk, OnOk, OnErr, MatchOption};
 ghost use Rattle.node_core.specs.declared.slot.Marked.{Marked as MarkedSlot};
 ghost use Rattle.node_core.specs.Sorted.{IsPlace, IsAt, HasRoom, at as slot_at};
-ghost use Rattle.node_core.specs.Changes.{is_committed, has_committed, changed, slots_in, committed};
-ghost use Rattle.node_core.specs.Nodes.{with_slot, without_slot, lower_half, upper_half, with_changed_cleared, IsFullImage};
+ghost use Rattle.node_core.specs.Changes.{is_committed, has_committed, committed};
+ghost use Rattle.node_core.specs.Nodes.{with_slot, with_changed_cleared, IsFullImage};
 
 use crate::{Marked, Slot, Slots};
 use je_lsn::Lsn;
-use je_order::{List, Name, copy_of};
+use je_order::Name;
 use std::alloc::{AllocError, Global};
 
 /// A node of a database's tree: a BIN, which is level 1 and whose slots name records, or an IN, whose
-/// slots name the nodes one level below. It begins empty, gains and loses slots, is split where it is
-/// full, and is logged: in full, or, a BIN, as a delta that shows what was set since.
+/// slots name the nodes one level below. It begins empty and gains slots, as a full image shows them and then,
+/// of a BIN, a delta that shows what was set since.
 #[derive(Debug, Drop)]
 pub struct Node {
     /// The number of the tree's database.
@@ -86,36 +86,6 @@ impl Node {
         Ok(())
     }
 
-    /// Takes out the slot with the name, if there is one.
-    pub fn remove_slot(&mut self, at: &Name)
-        ensures value { self.new ≡ without_slot at.now self.old }
-        ensures image { (image : List MarkedSlot) → IsFullImage image self.old → IsFullImage image self.new }
-    {
-        if self.has_committed(at) {
-            self.full = None;
-        }
-        self.slots.remove(at);
-    }
-
-    /// Splits the node: the first half of the slots, rounded up, stays, and the rest goes to a node with
-    /// the new number. Both halves have to be logged in full. Running out of memory changes nothing.
-    pub fn split(&mut self, new: u64) -> Result<Node, AllocError>
-        ensures upper { IfOk result (λ upper. upper ≡ upper_half new self.old) }
-        ensures lower { OnOk result (self.new ≡ lower_half self.old) }
-        ensures err { OnErr result (self.new ≡ self.old) }
-    {
-        let len = self.slots.len();
-        let slots = self.slots.split_off(len - len / 2)?;
-        self.full = None;
-        Ok(Node {
-            db: self.db,
-            number: new,
-            level: self.level,
-            full: None,
-            slots,
-        })
-    }
-
     /// Says at which LSN the node's full image now is, if a delta may be logged to it. No slot counts as
     /// changed since.
     pub fn clear_changed(&mut self, full: Option<Lsn>)
@@ -124,19 +94,5 @@ impl Node {
     {
         self.full = full;
         self.slots.unmark();
-    }
-
-    /// Copies of the slots that a delta shows: those that were set since the node was logged in full and
-    /// have a committed version. The only error is out of memory.
-    pub fn changed_slots(&self, alloc: Global) -> Result<List<Slot>, AllocError>
-        ensures { IfOk result (λ slots. slots ≡ slots_in (changed self.now.slots)) }
-    {
-        let mut slots = List::new(alloc);
-        for marked in self.slots.as_slice() {
-            if marked.changed && marked.slot.version.is_committed() {
-                slots.push(copy_of(&marked.slot)?)?;
-            }
-        }
-        Ok(slots)
     }
 }

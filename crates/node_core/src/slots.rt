@@ -2,7 +2,7 @@
 ghost use Rattle.std.specs.Prelude.{◌≡◌, ◌==◌, ◌≤◌, [], None, true, length, take, drop, map, is_some, IsSome, IsOk, IfOk, OnOk, OnErr, MatchOption};
 ghost use Rattle.std.specs.Ordering.{is_lt};
 ghost use Rattle.je_order.specs.Order.{name_cmp};
-ghost use Rattle.node_core.specs.Sorted.{Rises, AreSlots, IsPlace, IsAt, HasRoom, at as slot_at, put, without};
+ghost use Rattle.node_core.specs.Sorted.{Rises, AreSlots, IsPlace, IsAt, HasRoom, at as slot_at, put};
 ghost use Rattle.node_core.specs.Changes.{unmarked};
 
 use crate::Marked;
@@ -151,28 +151,6 @@ impl Slots {
         }
         self.marked.insert(index, marked)?;
         Ok(())
-    }
-
-    // Takes out the slot with the name, if there is one.
-    pub(crate) fn remove(&mut self, at: &Name)
-        ensures value { self.new ≡ without at.now self.old }
-        ensures slots { AreSlots self.old }
-    {
-        let index = rank_in(&self.marked, at);
-        if is_at(&self.marked, at, index) {
-            drop(self.marked.remove(index));
-        }
-    }
-
-    // Leaves so many slots, and gives the others. Running out of memory changes nothing.
-    pub(crate) fn split_off(&mut self, stay: usize) -> Result<Slots, AllocError>
-        requires { stay ≤ length self.old }
-        ensures upper { IfOk result (λ upper. upper ≡ drop stay self.old) }
-        ensures lower { OnOk result (self.new ≡ take stay self.old) }
-        ensures err { OnErr result (self.new ≡ self.old) }
-    {
-        let marked = self.marked.split_off(stay)?;
-        Ok(Slots { marked })
     }
 
     // No slot counts as changed any more.

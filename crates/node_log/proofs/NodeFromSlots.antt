@@ -136,11 +136,3 @@ entry_shown n e db number full rs held is held_is db_is number_is =
     ∙ ap (with_entry n) (sym is)
 
 -- ---- a delta that is made
-
-pub delta_is : (n : Node) (full : ℕ) (slots : List Slot) (records : List RecordSlot) → n.level ≡ 1 → n.full ≡ Some full → slots ≡ slots_in (changed n.slots) → records ≡ map record_of slots
-    → (let o : Option Entry = Some (BinDelta n.db n.number full records) in o) ≡ delta_of n
-delta_is n full slots records level full_is slots_are records_are =
-    let shown : ℕ → Entry = λ f. BinDelta n.db n.number f (map record_of (slots_in (changed n.slots))) in
-    ap (λ (rs : List RecordSlot). let o : Option Entry = Some (BinDelta n.db n.number full rs) in o) (records_are ∙ ap (map record_of) slots_are)
-    ∙ ap (option_map shown) (sym full_is)
-    ∙ ap (λ (b : Bool). cond b (option_map shown n.full) None) (sym (eq-eqb n.level 1 level))

@@ -8,8 +8,6 @@
 pub mod laws;
 pub mod reading;
 pub mod slots;
-pub mod writing;
 
 pub use laws::{images_are_entries, nodes_are_read_back};
 pub use reading::from_entries;
-pub use writing::{to_delta, to_entry};

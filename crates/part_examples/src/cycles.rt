@@ -1,9 +1,9 @@
 // Cycles in who waits for whom.
 use crate::rows::first_wrong;
-use Step::{Checks, Contains, Finds, Insert};
+use Step::{Contains, Finds, Insert};
 use je_order::TxnId;
 use std::alloc::{AllocError, Global};
-use waits_for::{Edges, check_cycle, find_cycle};
+use waits_for::{Edges, find_cycle};
 
 // What is done to who waits for whom, or asked of it.
 #[derive(Clone, Copy)]
@@ -12,8 +12,6 @@ enum Step {
     Contains(u64, u64, bool),
     // the cycle that is found through a transaction; none where it has no number
     Finds(u64, &'static [TxnId]),
-    // whether these are a cycle
-    Checks(&'static [TxnId], bool),
 }
 
 // Whether the cycle that is found through a transaction is this one; where it has no number, whether
@@ -38,7 +36,6 @@ fn comes(alloc: Global, edges: &mut Edges, step: Step) -> Result<bool, AllocErro
         }
         Contains(waiter, owner, want) => { Ok(edges.contains(TxnId(waiter), TxnId(owner)) == want) }
         Finds(txn, want) => has_cycle(alloc, edges, txn, want),
-        Checks(cycle, want) => Ok(check_cycle(edges, cycle) == want),
     }
 }
 
@@ -63,18 +60,13 @@ static TWO: [Step; 8] = [
 ];
 
 // Depth first, lesser numbers first.
-static WAYS: [Step; 10] = [
+static WAYS: [Step; 6] = [
     Insert(1, 4),
     Insert(1, 2),
     Insert(2, 3),
     Insert(3, 1),
     Insert(4, 1),
     Finds(1, &[TxnId(1), TxnId(2), TxnId(3)]),
-    Checks(&[TxnId(1), TxnId(2), TxnId(3)], true),
-    Checks(&[], false),
-    Checks(&[TxnId(1), TxnId(2)], false),
-    // a way that goes through the first one twice
-    Checks(&[TxnId(1), TxnId(4), TxnId(1), TxnId(2), TxnId(3)], false),
 ];
 
 #[test]

@@ -155,8 +155,8 @@ pub static SCRIPTS: [(&str, &[Row]); 6] = [
 ];
 
 fn make<D: Disk>(disk: &mut D, change: Change) -> Result<(), DiskErr>
-    ensures sync_out { D.sync_out disk.new ≡ D.sync_out disk.old }
-    ensures read_out { D.read_out disk.new ≡ D.read_out disk.old }
+    ensures sync_out { D.meaning.sync_out disk.new ≡ D.meaning.sync_out disk.old }
+    ensures read_out { D.meaning.read_out disk.new ≡ D.meaning.read_out disk.old }
 {
     match change {
         Change::Nothing => Ok(()),
@@ -174,7 +174,7 @@ fn make<D: Disk>(disk: &mut D, change: Change) -> Result<(), DiskErr>
 }
 
 fn reads<D: Disk>(disk: &mut D, f: u32, at: u64, count: usize, want: &[u8]) -> Result<bool, DiskErr>
-    ensures read_out { D.read_out disk.new ≡ D.read_out disk.old }
+    ensures read_out { D.meaning.read_out disk.new ≡ D.meaning.read_out disk.old }
 {
     let mut piece = [b'.'; 4];
     Ok(disk.read(FileNo(f), at, &mut piece)? == count && piece.as_slice() == want)

@@ -1,13 +1,12 @@
-// The images of nodes, written and read back.
-use crate::nodes::Held::{self, Deleted, There, Unset};
-use crate::nodes::Step::{self, ClearChanged, Put};
-use crate::nodes::{self, wrong_step};
+// The images of nodes, read.
+use crate::nodes::Held::{self, Deleted, There};
+use crate::nodes;
 use crate::slots::name;
 use je_lsn::{FileNo, Lsn};
 use je_order::List;
 use log_entry::{Decoded, Entry, RecordSlot, decode};
 use node_core::{Marked, Node, Slot};
-use node_log::{from_entries, images_are_entries, nodes_are_read_back, to_delta, to_entry};
+use node_log::{from_entries, images_are_entries, nodes_are_read_back};
 use std::alloc::{AllocError, Global};
 
 fn lsn(offset: u32) -> Lsn {
@@ -22,108 +21,6 @@ fn records(alloc: Global, rows: &[(u8, Option<Lsn>)]) -> Result<List<RecordSlot>
         slots.push(RecordSlot { name, lsn: *lsn })?;
     }
     Ok(slots)
-}
-
-// A BIN with a record, a slot that no image shows, and a deleted record.
-static BIN: [Step; 3] = [Put(b'a', There(26)), Put(b'b', Unset), Put(b'c', Deleted)];
-
-// The same, which was logged in full at offset 90 and then changed.
-static CHANGED: [Step; 6] = [
-    Put(b'a', There(26)),
-    Put(b'b', Unset),
-    Put(b'c', Deleted),
-    ClearChanged(90),
-    Put(b'a', Deleted),
-    Put(b'd', There(120)),
-];
-
-fn is_record(slot: &RecordSlot, key: u8, lsn: Option<Lsn>) -> bool {
-    let name = &slot.name;
-    slot.lsn == lsn && name.key.as_slice() == [key].as_slice() && name.dup.is_empty()
-}
-
-// Whether the slots are these records: the key, and where it is put; None where it was deleted.
-fn are_records(slots: &[RecordSlot], rows: &[(u8, Option<Lsn>)]) -> bool {
-    let mut same = slots.len() == rows.len();
-    for (slot, (key, lsn)) in slots.iter().zip(rows) {
-        same = same && is_record(slot, *key, *lsn);
-    }
-    same
-}
-
-// Whether the entry is a BIN of database 3 with number 7 and these records.
-fn is_bin(entry: &Entry, rows: &[(u8, Option<Lsn>)]) -> bool {
-    match entry {
-        Entry::Bin { db, node, slots } => {
-            *db == 3 && *node == 7 && are_records(slots.as_slice(), rows)
-        }
-        _ => false,
-    }
-}
-
-// Whether the node's whole image is that.
-fn is_shown_by(alloc: Global, node: &Node, rows: &[(u8, Option<Lsn>)]) -> Result<bool, AllocError> {
-    let image = to_entry(alloc, node)?;
-    let same = is_bin(&image, rows);
-    drop(image);
-    Ok(same)
-}
-
-// Whether the entry is a delta to the image at offset 90, of that BIN and with these records.
-fn is_delta(entry: &Entry, rows: &[(u8, Option<Lsn>)]) -> bool {
-    match entry {
-        Entry::BinDelta {
-            db,
-            node,
-            full,
-            slots,
-        } => {
-            let same = *db == 3 && *node == 7 && *full == lsn(90);
-            same && are_records(slots.as_slice(), rows)
-        }
-        _ => false,
-    }
-}
-
-// Whether the node's delta is that; none where there is no delta.
-fn has_delta(
-    alloc: Global,
-    node: &Node,
-    rows: &[(u8, Option<Lsn>)],
-) -> Result<Option<bool>, AllocError> {
-    match to_delta(alloc, node)? {
-        Some(delta) => {
-            let same = is_delta(&delta, rows);
-            drop(delta);
-            Ok(Some(same))
-        }
-        None => Ok(None),
-    }
-}
-
-#[test]
-fn shows_a_bin(rt: HostRuntime) {
-    let alloc = rt.alloc();
-    let mut node = Node::new(alloc, 3, 7, 1);
-    let wrong = wrong_step(alloc, &mut node, &BIN);
-    let shown = is_shown_by(alloc, &node, &[(b'a', Some(lsn(26))), (b'c', None)]);
-    let delta = has_delta(alloc, &node, &[]);
-    drop(node);
-    assert_eq!(rt; wrong, Ok(None));
-    assert!(rt; shown == Ok(true) && delta == Ok(None));
-}
-
-#[test]
-fn shows_a_delta(rt: HostRuntime) {
-    let alloc = rt.alloc();
-    let mut node = Node::new(alloc, 3, 7, 1);
-    let wrong = wrong_step(alloc, &mut node, &CHANGED);
-    let delta = has_delta(alloc, &node, &[(b'a', None), (b'd', Some(lsn(120)))]);
-    drop(node);
-    assert_eq!(rt; wrong, Ok(None));
-    assert!(rt; delta == Ok(Some(true)));
-    images_are_entries();
-    nodes_are_read_back();
 }
 
 fn delta(alloc: Global, node: u64) -> Result<Entry, AllocError> {
@@ -230,4 +127,6 @@ fn reads_images(rt: HostRuntime) {
     assert!(rt; is_node(read_with(rt.alloc(), 7), Some(lsn(90)), &READ_WITH));
     // the delta of another node
     assert!(rt; reads_none(rt.alloc()) == Ok(true));
+    images_are_entries();
+    nodes_are_read_back();
 }

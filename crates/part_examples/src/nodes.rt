@@ -1,11 +1,10 @@
-// The slots of a node: in order, split, and as a delta shows them.
+// The slots of a node: in order, and whether a delta can show what is put in.
 use crate::rows::first_wrong;
 use crate::slots::{name, put};
 use Held::{Deleted, There, Unset};
-use Step::{ClearChanged, Finds, HasImage, HasKeys, HasNoImage, Holds, Put, Remove, Shows, Splits};
+use Step::{ClearChanged, Finds, HasImage, HasKeys, HasNoImage, Holds, Put};
 use je_lsn::{FileNo, Lsn};
-use je_order::copy_of;
-use node_core::{Node, Slot, Version, slots_are_their_names};
+use node_core::{Node, Version, slots_are_their_names};
 use std::alloc::{AllocError, Global};
 
 /// What a slot holds of its record. The LSN is an offset of file 0, here and below.
@@ -20,7 +19,6 @@ pub enum Held {
 #[derive(Clone, Copy)]
 pub enum Step {
     Put(u8, Held),
-    Remove(u8),
     ClearChanged(u32),
     HasKeys(&'static [u8]),
     /// The record's place, and how many are below it.
@@ -30,10 +28,6 @@ pub enum Step {
     /// A delta can be to the image there.
     HasImage(u32),
     HasNoImage,
-    /// A delta shows these records.
-    Shows(&'static [(u8, Held)]),
-    /// The node is split in `abc` and `de`, of which the upper one is number 7.
-    Splits,
 }
 
 fn at(offset: u32) -> Lsn {
@@ -57,13 +51,6 @@ fn has_keys(node: &Node, keys: &[u8]) -> bool {
     same
 }
 
-fn remove(alloc: Global, node: &mut Node, key: u8) -> Result<bool, AllocError> {
-    let name = name(alloc, key)?;
-    node.remove_slot(&name);
-    drop(name);
-    Ok(true)
-}
-
 // Whether the record has this place, and so many are below it.
 fn finds(
     alloc: Global,
@@ -85,46 +72,10 @@ fn holds(node: &Node, at: usize, held: Held) -> bool {
     }
 }
 
-fn is_slot(slot: &Slot, key: u8, held: Held) -> bool {
-    slot.version == version(held) && slot.name.key.as_slice() == [key].as_slice()
-}
-
-fn is_copied(slot: &Slot) -> Result<bool, AllocError> {
-    let copy = copy_of(slot)?;
-    let same = copy == *slot;
-    drop(copy);
-    Ok(same)
-}
-
-// Whether the slots are these records, and copies of them are the same.
-fn are_slots(slots: &[Slot], rows: &[(u8, Held)]) -> Result<bool, AllocError> {
-    let mut same = slots.len() == rows.len();
-    for (slot, (key, held)) in slots.iter().zip(rows) {
-        same = same && is_slot(slot, *key, *held) && is_copied(slot)?;
-    }
-    Ok(same)
-}
-
-fn shows(alloc: Global, node: &Node, rows: &[(u8, Held)]) -> Result<bool, AllocError> {
-    let changed = node.changed_slots(alloc)?;
-    let same = are_slots(changed.as_slice(), rows);
-    drop(changed);
-    same
-}
-
-fn splits(node: &mut Node) -> Result<bool, AllocError> {
-    let upper = node.split(7)?;
-    let parted = has_keys(node, b"abc") && has_keys(&upper, b"de");
-    let numbered = (node.number, upper.number, upper.db, upper.level) == (2, 7, 1, 1);
-    drop(upper);
-    Ok(parted && numbered)
-}
-
 // Whether the step comes as it says.
 fn comes(alloc: Global, node: &mut Node, step: Step) -> Result<bool, AllocError> {
     match step {
         Put(key, held) => put(alloc, node, key, version(held)),
-        Remove(key) => remove(alloc, node, key),
         ClearChanged(offset) => {
             node.clear_changed(Some(at(offset)));
             Ok(true)
@@ -134,8 +85,6 @@ fn comes(alloc: Global, node: &mut Node, step: Step) -> Result<bool, AllocError>
         Holds(place, held) => Ok(holds(node, place, held)),
         HasImage(offset) => Ok(node.full == Some(at(offset))),
         HasNoImage => Ok(node.full.is_none()),
-        Shows(rows) => shows(alloc, node, rows),
-        Splits => splits(node),
     }
 }
 
@@ -148,8 +97,8 @@ pub fn wrong_step(
     first_wrong(steps, |step| comes(alloc, node, *step))
 }
 
-// The third slot is put once more. Of the names that are removed the second has no slot.
-static ORDERED: [Step; 16] = [
+// The third slot is put once more.
+static ORDERED: [Step; 12] = [
     HasKeys(b""),
     Finds(b'c', None, 0),
     Put(b'c', There(40)),
@@ -162,29 +111,19 @@ static ORDERED: [Step; 16] = [
     Finds(b'c', Some(2), 2),
     Finds(b'd', Some(3), 3),
     Holds(2, There(120)),
-    Splits,
-    Remove(b'b'),
-    Remove(b'x'),
-    HasKeys(b"ac"),
 ];
 
 // Three records are logged in full at offset 200, and then changed.
-static SHOWN: [Step; 16] = [
+static CHANGED: [Step; 10] = [
     Put(b'a', There(26)),
     Put(b'b', There(62)),
     Put(b'd', There(98)),
     ClearChanged(200),
-    Shows(&[]),
     Put(b'c', Unset),
     Put(b'd', There(240)),
     Put(b'a', Deleted),
-    Remove(b'c'),
-    Shows(&[(b'a', Deleted), (b'd', There(240))]),
     HasImage(200),
-    // no delta can show that a committed slot was lost, nor that it is unset
-    Remove(b'a'),
-    HasNoImage,
-    ClearChanged(200),
+    // no delta can show that a committed slot is unset
     Put(b'b', Unset),
     HasNoImage,
 ];
@@ -204,6 +143,6 @@ fn keeps_slots_in_order(rt: HostRuntime) {
 }
 
 #[test]
-fn tells_what_a_delta_shows(rt: HostRuntime) {
-    assert_eq!(rt; wrong_of_new(rt.alloc(), &SHOWN), Ok(None));
+fn tells_whether_a_delta_can_show_it(rt: HostRuntime) {
+    assert_eq!(rt; wrong_of_new(rt.alloc(), &CHANGED), Ok(None));
 }

@@ -1,5 +1,5 @@
 -- What reading the files of an environment answers.
-use Rattle.std.proofs.Common.{◌≡◌, ◌≤◌, ◌+◌, ℕ, Bool, true, List, [], ◌∷◌, Option, None, Some, Result, Ok, Err, map, length, refl, sym, ap, ap₂, subst, arith, ◌∙◌, ◌<◌, ◌^◌}
+use Rattle.std.proofs.Common.{◌≡◌, ◌≤◌, ◌+◌, ℕ, Bool, true, List, [], ◌∷◌, Option, None, Some, Result, Ok, Err, map, refl, sym, ap, ap₂, subst, arith, ◌∙◌, ◌<◌, ◌^◌}
 use Rattle.std.specs.Prelude.{IsErrAnd, IfOk, IfErr, OnOk}
 use Rattle.std.proofs.lemmas.List.{append-nil}
 use Rattle.std.specs.List.{AllByRecursion}
@@ -69,7 +69,7 @@ numbers_in (h ∷ held) = ap (λ (l : List ℕ). h.0 ∷ l) (numbers_in held)
 
 pub sound : (observable : Bool) (reads : Files) (files : List FileNo) (read : FilesRead) → AreRisingNumbers files → AreRead observable reads files read → AreSound read
 sound observable reads files (Stopped corruption) rising have = tt
-sound observable reads files (AllRead es tail) rising all =
+sound observable reads files (AllRead es notes tail) rising all =
     let are_of : AreOf observable reads files all.held = subst (λ (l : List FileNo). AreOf observable reads l all.held) (sym (all.parts ∙ append-nil all.done)) all.are_of in
     let log : IsLog (log_in all.held) = record { rising = subst IsStrictlyIncreasing (sym (numbers_in all.held ∙ are_of.numbers)) rising; each = are_log all.held all.fits all.bytes } in (
       subst AreInOrder (sym all.entries_are) (placed_are_in_order (log_in all.held) log),

@@ -40,6 +40,15 @@ changes_more Fit Next Q R left rest x is step so_far =
     let all = subst (AllByRecursion (λ y. Q y × R y)) is so_far.all in
     record { fit = step all.0.1 all.0.0 so_far.fit; all = all.1 }
 
+all_parts : {A : Type 0} (Q R : A → Type 0) (part rest : List A) → AllByRecursion (λ x. Q x × R x) (part ++ rest) → AllByRecursion Q part × AllByRecursion (λ x. Q x × R x) rest
+all_parts Q R [] rest all = (tt, all)
+all_parts Q R (x ∷ part) rest all = let more = all_parts Q R part rest all.1 in ((all.0.0, more.0), more.1)
+
+pub part_more : {A : Type 0} (Fit Next : Type 0) (Q R : A → Type 0) (left rest part : List A) → left ≡ part ++ rest → (AllByRecursion Q part → Fit → Next) → AreLeft Fit Q R left → AreLeft Next Q R rest
+part_more Fit Next Q R left rest part is step so_far =
+    let parts = all_parts Q R part rest (subst (AllByRecursion (λ y. Q y × R y)) is so_far.all) in
+    record { fit = step parts.0 so_far.fit; all = parts.1 }
+
 -- ---- one entry
 
 data_here : (db : ℕ) (name : Name) (value : List ℕ) → cond ((db == db) && is_eq (name_cmp name name)) (Some value) None ≡ Some value

@@ -20,6 +20,12 @@ pub mod MeaningLaws
 pub mod AnswerLaws
 -- Entries by their LSNs.
 pub mod LookupLaws
+-- Where the entries of a file stand in its bytes.
+pub mod EntryPlaces
+-- Entries of files by their LSNs.
+pub mod FileLookups
+-- What is noted of entries while they are read.
+pub mod NoteLaws
 -- Files that are missing from one on.
 pub mod FileGaps
 -- Nodes that are put while trees are read.
@@ -32,3 +38,5 @@ pub mod NodeWalks
 pub mod ReadAgain
 -- Reading the trees of a checkpoint's roots.
 pub mod RootWalks
+-- How many entries stand at an LSN or behind it.
+pub mod CountLaws

@@ -5,12 +5,7 @@ use Rattle.log_trees.specs.Placed.{Placed}
 use Rattle.log_meaning.specs.Redo.{from}
 use Rattle.log_meaning.specs.Meaning.{most, node_number, db_number}
 use Rattle.recovery_je.specs.declared.numbers.Numbers.{Numbers}
-use Rattle.recovery_je.specs.Numbers.{with_entry, with_placed}
-
--- numbers with those of entries, in order
-abbrev pub numbers_over : ℕ → List Placed → Numbers → Numbers
-numbers_over r [] n = n
-numbers_over r (p ∷ es) n = numbers_over r es (with_placed r p n)
+use Rattle.recovery_je.specs.Numbers.{with_entry, with_placed, none_numbered, numbers_over}
 
 max_later : (a b c : ℕ) → max (max a b) c ≡ max a (max b c)
 max_later a b c = omega arith
@@ -45,18 +40,14 @@ over_db r (p ∷ es) n = over_db r es (with_placed r p n) ∙ by_test (nat_le r 
     by_test true = max_later n.db (db_number p.1) (most (λ (q : Placed). db_number q.1) (from r es))
     by_test false = refl
 
--- numbers that were nothing before
-abbrev pub no_numbers : Numbers
-no_numbers = record { txn = 0; node = 0; db = 0 }
-
-pub from_none_txn : (r : ℕ) (es left : List Placed) (n : Numbers) → left ≡ [] → numbers_over r left n ≡ numbers_over r es no_numbers → n.txn ≡ most (λ p. txn_in p.1) (from r es)
+pub from_none_txn : (r : ℕ) (es left : List Placed) (n : Numbers) → left ≡ [] → numbers_over r left n ≡ numbers_over r es none_numbered → n.txn ≡ most (λ p. txn_in p.1) (from r es)
 from_none_txn r es left n none is =
-    ap (λ (m : Numbers). m.txn) (ap (λ (l : List Placed). numbers_over r l n) (sym none) ∙ is) ∙ over_txn r es no_numbers ∙ zero_max (most (λ (p : Placed). txn_in p.1) (from r es))
+    ap (λ (m : Numbers). m.txn) (ap (λ (l : List Placed). numbers_over r l n) (sym none) ∙ is) ∙ over_txn r es none_numbered ∙ zero_max (most (λ (p : Placed). txn_in p.1) (from r es))
 
-pub from_none_node : (r : ℕ) (es left : List Placed) (n : Numbers) → left ≡ [] → numbers_over r left n ≡ numbers_over r es no_numbers → n.node ≡ most (λ p. node_number p.1) (from r es)
+pub from_none_node : (r : ℕ) (es left : List Placed) (n : Numbers) → left ≡ [] → numbers_over r left n ≡ numbers_over r es none_numbered → n.node ≡ most (λ p. node_number p.1) (from r es)
 from_none_node r es left n none is =
-    ap (λ (m : Numbers). m.node) (ap (λ (l : List Placed). numbers_over r l n) (sym none) ∙ is) ∙ over_node r es no_numbers ∙ zero_max (most (λ (p : Placed). node_number p.1) (from r es))
+    ap (λ (m : Numbers). m.node) (ap (λ (l : List Placed). numbers_over r l n) (sym none) ∙ is) ∙ over_node r es none_numbered ∙ zero_max (most (λ (p : Placed). node_number p.1) (from r es))
 
-pub from_none_db : (r : ℕ) (es left : List Placed) (n : Numbers) → left ≡ [] → numbers_over r left n ≡ numbers_over r es no_numbers → n.db ≡ most (λ p. db_number p.1) (from r es)
+pub from_none_db : (r : ℕ) (es left : List Placed) (n : Numbers) → left ≡ [] → numbers_over r left n ≡ numbers_over r es none_numbered → n.db ≡ most (λ p. db_number p.1) (from r es)
 from_none_db r es left n none is =
-    ap (λ (m : Numbers). m.db) (ap (λ (l : List Placed). numbers_over r l n) (sym none) ∙ is) ∙ over_db r es no_numbers ∙ zero_max (most (λ (p : Placed). db_number p.1) (from r es))
+    ap (λ (m : Numbers). m.db) (ap (λ (l : List Placed). numbers_over r l n) (sym none) ∙ is) ∙ over_db r es none_numbered ∙ zero_max (most (λ (p : Placed). db_number p.1) (from r es))

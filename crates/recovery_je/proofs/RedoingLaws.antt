@@ -99,6 +99,26 @@ taking_goes_on redo all left rest p start begun old kept new more is step so_far
       rest = one_more redo p rest before.here ∙ ap (λ (l : List Placed). redo_all (from redo l) before.here) (sym is) ∙ before.rest;
     }
 
+-- entries are taken, with those behind them
+some_more : (redo : ℕ) (part rest : List Placed) (r : Redo) → redo_all (from redo rest) (redo_all (from redo part) r) ≡ redo_all (from redo (part ++ rest)) r
+some_more redo [] rest r = refl
+some_more redo (p ∷ part) rest r = by_test (some_more redo part rest) (nat_le redo p.0)
+  where
+    by_test : ((k : Redo) → redo_all (from redo rest) (redo_all (from redo part) k) ≡ redo_all (from redo (part ++ rest)) k) → (b : Bool) →
+        redo_all (from redo rest) (redo_all (cond b (p ∷ from redo part) (from redo part)) r) ≡ redo_all (cond b (p ∷ from redo (part ++ rest)) (from redo (part ++ rest))) r
+    by_test later true = later (redo_entry p.0 p.1 r)
+    by_test later false = later r
+
+pub taking_part : (redo : ℕ) (all left rest part : List Placed) (start : AllStored) (begun : List (ℕ × List LoggedChange)) (old : AllStored) (kept : List (ℕ × List LoggedChange))
+    (new : AllStored) (more : List (ℕ × List LoggedChange)) → left ≡ part ++ rest → ((r : Redo) → IsRedoAt old kept r → IsRedoAt new more (redo_all (from redo part) r)) →
+    IsTaking redo all left start begun old kept → IsTaking redo all rest start begun new more
+taking_part redo all left rest part start begun old kept new more is step so_far r at =
+    let before = so_far r at in record {
+      here = redo_all (from redo part) before.here;
+      at = step before.here before.at;
+      rest = some_more redo part rest before.here ∙ ap (λ (l : List Placed). redo_all (from redo l) before.here) (sym is) ∙ before.rest;
+    }
+
 pub taking_ends : (redo : ℕ) (all left : List Placed) (start : AllStored) (begun : List (ℕ × List LoggedChange)) (stored : AllStored) (kept : List (ℕ × List LoggedChange)) → left ≡ [] →
     IsTaking redo all left start begun stored kept → (r : Redo) → IsRedoAt start begun r → IsRedoAt stored kept (redo_all (from redo all) r)
 taking_ends redo all left start begun stored kept none so_far r at =

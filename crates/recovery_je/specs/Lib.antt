@@ -1,6 +1,9 @@
+pub mod LogRead
+pub mod Numbers
+pub mod Noting
+pub mod Scanned
 pub mod Files
 pub mod Redoing
-pub mod Numbers
 pub mod Checking
 pub mod Indexing
 pub mod Finishing

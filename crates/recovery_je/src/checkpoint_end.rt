@@ -1,8 +1,7 @@
 // The end of a checkpoint.
 ghost use Rattle.std.specs.Prelude.{◌≡◌, Some, IfOk, unwrap_or};
-ghost use Rattle.log_meaning.specs.Checkpoint.{checkpoint_in, last_end as last_end_of, no_checkpoint};
+ghost use Rattle.log_meaning.specs.Checkpoint.{checkpoint_in, no_checkpoint};
 
-use crate::placed_entry::PlacedEntry;
 use je_lsn::Lsn;
 use je_order::List;
 use log_entry::{Entry, Root};
@@ -37,11 +36,15 @@ fn copy_roots(alloc: Global, roots: &[Root]) -> Result<List<Root>, AllocError>
     Ok(List::from_vec(Vec::from_slice(alloc, roots)?))
 }
 
-// The checkpoint that an entry ends.
-fn end_in(alloc: Global, placed: &PlacedEntry) -> Result<Option<CheckpointEnd>, AllocError>
-    ensures { IfOk result (λ found. found ≡ checkpoint_in placed.now.0 placed.now.1) }
+/// The checkpoint that an entry at an LSN ends.
+pub(crate) fn end_in(
+    alloc: Global,
+    at: Lsn,
+    entry: &Entry,
+) -> Result<Option<CheckpointEnd>, AllocError>
+    ensures { IfOk result (λ found. found ≡ checkpoint_in at entry.now) }
 {
-    match &placed.entry {
+    match entry {
         Entry::CkptEnd {
             number,
             redo,
@@ -51,7 +54,7 @@ fn end_in(alloc: Global, placed: &PlacedEntry) -> Result<Option<CheckpointEnd>, 
             roots,
             ..
         } => Ok(Some(CheckpointEnd {
-            at: placed.at,
+            at,
             number: *number,
             redo: *redo,
             last_txn: last_txn.0,
@@ -61,22 +64,6 @@ fn end_in(alloc: Global, placed: &PlacedEntry) -> Result<Option<CheckpointEnd>, 
         })),
         _ => Ok(None),
     }
-}
-
-/// The last checkpoint that ended, if one did.
-pub(crate) fn last_end(
-    alloc: Global,
-    entries: &[PlacedEntry],
-) -> Result<Option<CheckpointEnd>, AllocError>
-    ensures { IfOk result (λ found. found ≡ last_end_of entries.now) }
-{
-    let mut found = None;
-    for placed in entries {
-        if let Some(end) = end_in(alloc, placed)? {
-            found = Some(end);
-        }
-    }
-    Ok(found)
 }
 
 /// What stands for a checkpoint in a log without one.

@@ -12,7 +12,7 @@ ghost use Rattle.recovery_je.specs.Putting.{HasPut, as_loaded, children_put, bel
 ghost use Rattle.recovery_je.specs.Walking.{IsWalking, GoesOn, HasMet, read_below as below_node, waiting as child_waiting, child_ends_at as ends_at_name};
 
 use crate::images::nowhere;
-use crate::indexed::Indexed;
+use crate::log_read::LogRead;
 use crate::read_err::ReadErr;
 use crate::walking::{Walking, is_below, meet, read_here, read_slots};
 use je_lsn::{FileNo, Lsn};
@@ -26,7 +26,7 @@ fn take_node<T: Loads>(
     walking: &mut Walking<T>,
     alloc: Global,
     files: &[FileNo],
-    entries: &Indexed<'_>,
+    entries: &LogRead,
     d: u32,
     level: u8,
     low: &Name,
@@ -51,7 +51,7 @@ pub(crate) fn read_node<T: Loads>(
     walking: &mut Walking<T>,
     alloc: Global,
     files: &[FileNo],
-    entries: &Indexed<'_>,
+    entries: &LogRead,
     d: u32,
     above: u8,
     low: &Name,
@@ -87,7 +87,7 @@ fn read_below<T: Loads>(
     walking: &mut Walking<T>,
     alloc: Global,
     files: &[FileNo],
-    entries: &Indexed<'_>,
+    entries: &LogRead,
     d: u32,
     above: u8,
     low: &Name,
@@ -135,7 +135,7 @@ fn read_children<'a, T: Loads>(
     walking: &mut Walking<T>,
     alloc: Global,
     files: &[FileNo],
-    entries: &Indexed<'_>,
+    entries: &LogRead,
     d: u32,
     above: u8,
     low: &'a Name,
@@ -191,7 +191,7 @@ fn read_pending<T: Loads>(
     walking: &mut Walking<T>,
     alloc: Global,
     files: &[FileNo],
-    entries: &Indexed<'_>,
+    entries: &LogRead,
     d: u32,
     above: u8,
     low: &Name,

@@ -7,7 +7,7 @@ ghost use Rattle.log_trees.specs.Placed.{AreInOrder, entry_at as entry_at_lsn};
 ghost use Rattle.log_trees.specs.Walk.{nowhere as nowhere_in, node_read, is_bin_of as is_bin, delta_with as delta_by_base, delta_on, image_in as image_of, read_image as image_at};
 ghost use Rattle.recovery_je.specs.Walking.{Answers};
 
-use crate::indexed::Indexed;
+use crate::log_read::LogRead;
 use crate::lookup::entry_at;
 use crate::read_err::ReadErr;
 use je_lsn::{FileNo, Lsn};
@@ -109,7 +109,7 @@ fn delta_with(
 fn read_delta(
     alloc: Global,
     files: &[FileNo],
-    entries: &Indexed<'_>,
+    entries: &LogRead,
     at: Lsn,
     db: u32,
     number: u64,
@@ -120,8 +120,12 @@ fn read_delta(
     requires entries { AllByRecursion (λ p. IsEntry p.1) entries.now }
     ensures { Answers (delta_on (map (λ f. f.0) files.now) at db number full delta.now (entry_at_lsn entries.now full)) result }
 {
-    match entry_at(entries, full) {
-        Some(base) => delta_with(alloc, at, db, number, full, base, delta),
+    match entry_at(alloc, entries, full)? {
+        Some(base) => {
+            let node = delta_with(alloc, at, db, number, full, &base, delta);
+            drop(base);
+            node
+        }
         None => Err(ReadErr::Found(nowhere(files, full))),
     }
 }
@@ -130,7 +134,7 @@ fn read_delta(
 fn image_in(
     alloc: Global,
     files: &[FileNo],
-    entries: &Indexed<'_>,
+    entries: &LogRead,
     d: u32,
     at: Lsn,
     entry: &Entry,
@@ -156,7 +160,7 @@ fn image_in(
 pub(crate) fn read_image(
     alloc: Global,
     files: &[FileNo],
-    entries: &Indexed<'_>,
+    entries: &LogRead,
     d: u32,
     at: Lsn,
 ) -> Result<Node, ReadErr>
@@ -164,8 +168,12 @@ pub(crate) fn read_image(
     requires entries { AllByRecursion (λ p. IsEntry p.1) entries.now }
     ensures { Answers (image_at (map (λ f. f.0) files.now) entries.now d at) result }
 {
-    match entry_at(entries, at) {
-        Some(entry) => image_in(alloc, files, entries, d, at, entry),
+    match entry_at(alloc, entries, at)? {
+        Some(entry) => {
+            let node = image_in(alloc, files, entries, d, at, &entry);
+            drop(entry);
+            node
+        }
         None => Err(ReadErr::Found(nowhere(files, at))),
     }
 }

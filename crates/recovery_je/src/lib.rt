@@ -6,19 +6,21 @@
 
 mod checking;
 mod checkpoint_end;
+mod decoding;
 mod descending;
+mod file_entries;
 mod finishing;
 mod gaps;
 mod giving_back;
 mod images;
-mod indexed;
 mod indexes;
+mod log_read;
 mod lookup;
 mod numbered;
 mod numbers;
 pub mod opening_store;
-mod placed_entry;
 mod read_err;
+mod read_notes;
 mod reading;
 pub mod recover_err;
 pub mod recovered;

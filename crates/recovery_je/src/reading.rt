@@ -1,6 +1,8 @@
 // Reading the files of a log.
-ghost use Rattle.std.specs.Prelude.{◌≡◌, ◌∷◌, ◌++◌, [], nat_lt, ℕ, List as Items, true, Some, IfOk, OnOk, length, if◌then◌else◌, ◌<◌, ◌^◌};
+ghost use Rattle.std.specs.Prelude.{◌≡◌, ◌∷◌, ◌++◌, ◌+◌, ◌*◌, ◌^◌, ◌<◌, [], nat_lt, true, Some, IfOk, OnOk, if◌then◌else◌};
+ghost use Rattle.je_bytes.specs.Reading.{AreBytes};
 ghost use Rattle.je_disk.specs.Moments.{now, Passes};
+ghost use Rattle.je_disk.specs.States.{AreRisingNumbers, content};
 ghost use Rattle.je_disk.specs.Causes.{HasCause};
 ghost use Rattle.log_file.specs.declared.file_scan.FileScan.TheVariants.{Prefix};
 ghost use Rattle.log_file.specs.Scan.{scan_of};
@@ -9,19 +11,24 @@ ghost use Rattle.log_trees.specs.Placed.{placed_from};
 ghost use Rattle.je_lsn.specs.Naming.{last_file};
 ghost use Rattle.log_replay.specs.declared.corruption.Corruption.TheVariants.{Damaged};
 ghost use Rattle.log_replay.specs.Reading.{corruption_behind, lsn_at};
-ghost use Rattle.recovery_je.specs.Files.{IsReadOf, IsFileRead, AreRead};
+ghost use Rattle.recovery_je.specs.LogRead.{offsets_from};
+ghost use Rattle.recovery_je.specs.Noting.{NotesMore};
+ghost use Rattle.recovery_je.specs.Scanned.{IsReadOf, FileIsNoted, IsFileRead};
+ghost use Rattle.recovery_je.specs.Files.{AreRead, LogIsNoted};
 
+use crate::file_entries::FileEntries;
 use crate::giving_back::give_back;
-use crate::placed_entry::PlacedEntry;
+use crate::log_read::LogRead;
+use crate::read_notes::ReadNotes;
 use je_disk::{Disk, DiskErr};
 use je_lsn::{FileNo, Lsn};
 use je_order::List;
 use log_entry::{Entry, size};
-use log_file::{FileScan, Scanned, ValidPrefix, scan};
+use log_file::{FileScan, ValidPrefix, scan_bytes};
 use log_replay::{Corruption, LastFile};
 use std::alloc::{AllocError, Global};
 
-// How many bytes a file's header has.
+/// How many bytes a file's header has.
 const HEADER_BYTES: u32 = 26;
 
 /// The greatest number of a log file.
@@ -30,18 +37,15 @@ const LAST_FILE: u32 = 0xffff_fffe;
 // What was read of one file: it is right where it stands, or a corruption.
 #[derive(Drop)]
 enum FileRead {
-    GoesOn {
-        entries: List<Entry>,
-        tail: LastFile,
-    },
+    GoesOn { file: FileEntries, tail: LastFile },
     Stops(Corruption),
 }
 
 /// What was read of all files.
 #[derive(Drop)]
 pub(crate) enum FilesRead {
-    /// All are right where they stand: their entries in order, and the last file.
-    All(Vec<PlacedEntry>, Option<LastFile>),
+    /// All are right where they stand: their entries, what was noted of these, and the last file.
+    All(LogRead, ReadNotes, Option<LastFile>),
     /// The first corruption.
     Stopped(Corruption),
 }
@@ -59,40 +63,124 @@ fn corruption_of_prefix(f: FileNo, is_last: bool, len: u64, end: u32) -> Option<
     None
 }
 
-// What was read of a file of so many bytes that has a valid prefix.
-fn take_prefix(f: FileNo, is_last: bool, len: u64, prefix: ValidPrefix) -> FileRead
-    ensures { (bytes : Items ℕ) → scan_of f.0 bytes ≡ Prefix prefix → len ≡ length bytes → IsReadOf is_last f.0 bytes result }
+// Keeps where an entry stands, and notes it.
+fn take_entry(
+    offsets: &mut Vec<u32>,
+    notes: &mut ReadNotes,
+    alloc: Global,
+    f: FileNo,
+    at: u32,
+    entry: Entry,
+) -> Result<(), AllocError>
+    ensures offsets { OnOk result (offsets.new.items ≡ offsets.old.items ++ at ∷ []) }
+    ensures notes { OnOk result (NotesMore ((f.0 * 2 ^ 32 + at, entry) ∷ []) notes.old notes.new) }
+{
+    let noted = notes.take(alloc, Lsn::new(f, at), &entry);
+    drop(entry);
+    noted?;
+    offsets.push(at)?;
+    Ok(())
+}
+
+// Where the entries of a file stand, which are noted. The room that each had in the file's list is free again soon after it.
+fn take_entries(
+    alloc: Global,
+    f: FileNo,
+    entries: List<Entry>,
+    notes: &mut ReadNotes,
+) -> Result<Vec<u32>, AllocError>
+    requires { AreFileEntries entries }
+    ensures offsets { IfOk result (λ offsets. offsets.items ≡ offsets_from 26 entries) }
+    ensures notes { OnOk result (NotesMore (placed_from f.0 26 entries) notes.old notes.new) }
+{
+    let mut left = entries.into_vec();
+    let mut offsets = Vec::with_capacity(alloc, left.len())?;
+    left.reverse();
+    let mut at = HEADER_BYTES;
+    while let Some(entry) = left.pop() {
+        give_back(&mut left);
+        let len = size(&entry);
+        take_entry(&mut offsets, notes, alloc, f, at, entry)?;
+        at += len;
+    }
+    Ok(offsets)
+}
+
+// What was read of a file of these bytes that has a valid prefix.
+fn take_prefix(
+    alloc: Global,
+    f: FileNo,
+    is_last: bool,
+    bytes: Vec<u8>,
+    prefix: ValidPrefix,
+    notes: &mut ReadNotes,
+) -> Result<FileRead, AllocError>
+    requires are { AreBytes bytes.items }
+    requires found { scan_of f.0 bytes.items ≡ Prefix prefix }
+    ensures read { IfOk result (IsReadOf is_last f.0 bytes.items) }
+    ensures noted { IfOk result (FileIsNoted notes.old notes.new) }
 {
     let ValidPrefix { entries, last, end } = prefix;
-    match corruption_of_prefix(f, is_last, len, end) {
-        Some(corruption) => {
-            drop(entries);
-            FileRead::Stops(corruption)
-        }
-        None => FileRead::GoesOn {
-            entries,
-            tail: LastFile {
-                file: f,
-                last,
-                end,
-                len,
-            },
+    let len = bytes.len() as u64;
+    if let Some(corruption) = corruption_of_prefix(f, is_last, len, end) {
+        drop(entries);
+        drop(bytes);
+        return Ok(FileRead::Stops(corruption));
+    }
+    let offsets = take_entries(alloc, f, entries, notes)?;
+    Ok(FileRead::GoesOn {
+        file: FileEntries {
+            number: f,
+            bytes,
+            offsets,
         },
+        tail: LastFile {
+            file: f,
+            last,
+            end,
+            len,
+        },
+    })
+}
+
+// What was read of a file of these bytes.
+fn take_file(
+    alloc: Global,
+    f: FileNo,
+    is_last: bool,
+    bytes: Vec<u8>,
+    notes: &mut ReadNotes,
+) -> Result<FileRead, AllocError>
+    ensures are { AreBytes bytes.items }
+    ensures read { IfOk result (IsReadOf is_last f.0 bytes.items) }
+    ensures noted { IfOk result (FileIsNoted notes.old notes.new) }
+{
+    match scan_bytes(alloc, bytes.as_slice(), f)? {
+        FileScan::VersionUnknown { version } => {
+            drop(bytes);
+            Ok(FileRead::Stops(Corruption::VersionUnknown { file: f, version }))
+        }
+        FileScan::Damaged => {
+            drop(bytes);
+            Ok(FileRead::Stops(Corruption::Damaged(Lsn::new(f, 0))))
+        }
+        FileScan::Prefix(prefix) => take_prefix(alloc, f, is_last, bytes, prefix, notes),
     }
 }
 
-// What was read of a file that was scanned.
-fn take_file(f: FileNo, is_last: bool, scanned: Scanned) -> FileRead
-    ensures { (bytes : Items ℕ) → scanned.found ≡ scan_of f.0 bytes → scanned.len ≡ length bytes → IsReadOf is_last f.0 bytes result }
+// The bytes of a file; none where it is not there.
+fn read_whole<D: Disk>(alloc: Global, disk: &mut D, f: FileNo) -> Result<Vec<u8>, DiskErr>
+    ensures bytes { D.meaning.observable ≡ true → IfOk result (λ bytes. bytes.items ≡ content (now (D.meaning.history disk.old)).reads f.0) }
+    ensures same { D.meaning.observable ≡ true → now (D.meaning.history disk.new) ≡ now (D.meaning.history disk.old) }
+    ensures moments { D.meaning.observable ≡ true → Passes (D.meaning.history disk.old) (D.meaning.history disk.new) (λ s. s ≡ now (D.meaning.history disk.old)) }
+    ensures jobs { (D.meaning.sync_out disk.new ≡ D.meaning.sync_out disk.old) × (D.meaning.read_out disk.new ≡ D.meaning.read_out disk.old) × (D.meaning.read_of disk.new ≡ D.meaning.read_of disk.old) × (D.meaning.last_job disk.new ≡ D.meaning.last_job disk.old) }
+    ensures cause { HasCause (D.meaning.faults disk.old) (D.meaning.faults disk.new) result }
 {
-    let Scanned { found, len } = scanned;
-    match found {
-        FileScan::VersionUnknown { version } => {
-            FileRead::Stops(Corruption::VersionUnknown { file: f, version })
-        }
-        FileScan::Damaged => FileRead::Stops(Corruption::Damaged(Lsn::new(f, 0))),
-        FileScan::Prefix(prefix) => take_prefix(f, is_last, len, prefix),
-    }
+    let len = disk.len(f)?;
+    let mut bytes = vec![in alloc; 0u8; len as usize]?;
+    let count = disk.read(f, 0, &mut bytes)?;
+    bytes.truncate(count);
+    Ok(bytes)
 }
 
 // Reads a file.
@@ -101,40 +189,32 @@ fn read_file<D: Disk>(
     disk: &mut D,
     f: FileNo,
     is_last: bool,
+    notes: &mut ReadNotes,
 ) -> Result<FileRead, DiskErr>
-    ensures read { IfOk result (IsFileRead D.observable (now (D.history disk.old)).reads is_last f.0) }
+    ensures read { IfOk result (IsFileRead D.meaning.observable (now (D.meaning.history disk.old)).reads is_last f.0) }
+    ensures noted { IfOk result (FileIsNoted notes.old notes.new) }
     ensures number { f.0 < 2 ^ 32 }
-    ensures same { D.observable ≡ true → now (D.history disk.new) ≡ now (D.history disk.old) }
-    ensures moments { D.observable ≡ true → Passes (D.history disk.old) (D.history disk.new) (λ s. s ≡ now (D.history disk.old)) }
-    ensures jobs { (D.sync_out disk.new ≡ D.sync_out disk.old) × (D.read_out disk.new ≡ D.read_out disk.old) × (D.read_of disk.new ≡ D.read_of disk.old) × (D.last_job disk.new ≡ D.last_job disk.old) }
-    ensures cause { HasCause (D.faults disk.old) (D.faults disk.new) result }
+    ensures same { D.meaning.observable ≡ true → now (D.meaning.history disk.new) ≡ now (D.meaning.history disk.old) }
+    ensures moments { D.meaning.observable ≡ true → Passes (D.meaning.history disk.old) (D.meaning.history disk.new) (λ s. s ≡ now (D.meaning.history disk.old)) }
+    ensures jobs { (D.meaning.sync_out disk.new ≡ D.meaning.sync_out disk.old) × (D.meaning.read_out disk.new ≡ D.meaning.read_out disk.old) × (D.meaning.read_of disk.new ≡ D.meaning.read_of disk.old) × (D.meaning.last_job disk.new ≡ D.meaning.last_job disk.old) }
+    ensures cause { HasCause (D.meaning.faults disk.old) (D.meaning.faults disk.new) result }
 {
-    let scanned = scan(alloc, disk, f)?;
-    Ok(take_file(f, is_last, scanned))
+    let bytes = read_whole(alloc, disk, f)?;
+    Ok(take_file(alloc, f, is_last, bytes, notes)?)
 }
 
-// Puts an entry behind the others.
-fn push_entry(placed: &mut Vec<PlacedEntry>, at: Lsn, entry: Entry) -> Result<(), AllocError>
-    ensures { OnOk result (placed.new.items ≡ placed.old.items ++ (at, entry) ∷ []) }
+// Keeps a file behind the others.
+fn keep(
+    numbers: &mut Vec<u32>,
+    read: &mut Vec<FileEntries>,
+    f: FileNo,
+    file: FileEntries,
+) -> Result<(), AllocError>
+    ensures numbers { OnOk result (numbers.new.items ≡ numbers.old.items ++ f.0 ∷ []) }
+    ensures files { OnOk result (read.new.items ≡ read.old.items ++ file ∷ []) }
 {
-    placed.push(PlacedEntry { at, entry })?;
-    Ok(())
-}
-
-// Puts the entries of a file behind the others, each with its LSN. The room that it had in the file's list is free again soon after it.
-fn hold(placed: &mut Vec<PlacedEntry>, f: FileNo, entries: List<Entry>) -> Result<(), AllocError>
-    requires { AreFileEntries entries }
-    ensures { OnOk result (placed.new.items ≡ placed.old.items ++ placed_from f.0 26 entries) }
-{
-    let mut left = entries.into_vec();
-    left.reverse();
-    let mut at = HEADER_BYTES;
-    while let Some(entry) = left.pop() {
-        give_back(&mut left);
-        let len = size(&entry);
-        push_entry(placed, Lsn::new(f, at), entry)?;
-        at += len;
-    }
+    numbers.push(f.0)?;
+    read.push(file)?;
     Ok(())
 }
 
@@ -144,24 +224,33 @@ pub(crate) fn read_files<D: Disk>(
     disk: &mut D,
     files: &[FileNo],
 ) -> Result<FilesRead, DiskErr>
-    ensures read { IfOk result (AreRead D.observable (now (D.history disk.old)).reads files.now) }
-    ensures same { D.observable ≡ true → now (D.history disk.new) ≡ now (D.history disk.old) }
-    ensures moments { D.observable ≡ true → Passes (D.history disk.old) (D.history disk.new) (λ s. s ≡ now (D.history disk.old)) }
-    ensures jobs { (D.sync_out disk.new ≡ D.sync_out disk.old) × (D.read_out disk.new ≡ D.read_out disk.old) × (D.read_of disk.new ≡ D.read_of disk.old) × (D.last_job disk.new ≡ D.last_job disk.old) }
-    ensures cause { HasCause (D.faults disk.old) (D.faults disk.new) result }
+    requires { AreRisingNumbers files.now }
+    ensures noted { IfOk result LogIsNoted }
+    ensures read { IfOk result (AreRead D.meaning.observable (now (D.meaning.history disk.old)).reads files.now) }
+    ensures same { D.meaning.observable ≡ true → now (D.meaning.history disk.new) ≡ now (D.meaning.history disk.old) }
+    ensures moments { D.meaning.observable ≡ true → Passes (D.meaning.history disk.old) (D.meaning.history disk.new) (λ s. s ≡ now (D.meaning.history disk.old)) }
+    ensures jobs { (D.meaning.sync_out disk.new ≡ D.meaning.sync_out disk.old) × (D.meaning.read_out disk.new ≡ D.meaning.read_out disk.old) × (D.meaning.read_of disk.new ≡ D.meaning.read_of disk.old) × (D.meaning.last_job disk.new ≡ D.meaning.last_job disk.old) }
+    ensures cause { HasCause (D.meaning.faults disk.old) (D.meaning.faults disk.new) result }
 {
-    let mut placed = Vec::new(alloc);
+    let mut numbers = Vec::new(alloc);
+    let mut read = Vec::new(alloc);
+    let mut notes = ReadNotes::new();
     let mut last = None;
     let mut left = files.len();
     for f in files {
         left -= 1;
-        match read_file(alloc, disk, *f, left == 0)? {
+        match read_file(alloc, disk, *f, left == 0, &mut notes)? {
             FileRead::Stops(corruption) => return Ok(FilesRead::Stopped(corruption)),
-            FileRead::GoesOn { entries, tail } => {
-                hold(&mut placed, *f, entries)?;
+            FileRead::GoesOn { file, tail } => {
+                keep(&mut numbers, &mut read, *f, file)?;
                 last = Some(tail);
             }
         }
     }
-    Ok(FilesRead::All(placed, last))
+    let log = LogRead {
+        numbers,
+        files: read,
+        whole: notes.whole,
+    };
+    Ok(FilesRead::All(log, notes, last))
 }

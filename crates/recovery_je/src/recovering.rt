@@ -11,15 +11,15 @@ ghost use Rattle.log_meaning.specs.Checkpoint.{behind};
 ghost use Rattle.log_meaning.specs.Meaning.{most};
 ghost use Rattle.log_meaning.specs.Reading.{redo_corruption as redo_corruption_of, unless, meaning_in};
 ghost use Rattle.recovery_je.specs.Indexing.{IsIndexCheck};
+ghost use Rattle.recovery_je.specs.Noting.{AreNotesOf};
 ghost use Rattle.recovery_je.specs.Putting.{as_loaded, AreRootsPut, HasReadAgain, count_redone};
 ghost use Rattle.recovery_je.specs.Recovering.{HoldsChanges, HoldsRedo, IsWalked, IsMeant, IsFoundBy};
 
-use crate::checkpoint_end::{CheckpointEnd, last_end, or_none};
+use crate::checkpoint_end::{CheckpointEnd, or_none};
 use crate::gaps::{end_corruption, gap_corruption};
-use crate::indexed::Indexed;
-use crate::numbers::Numbers;
-use crate::placed_entry::PlacedEntry;
+use crate::log_read::LogRead;
 use crate::read_err::ReadErr;
+use crate::read_notes::ReadNotes;
 use crate::redo_count::count_from;
 use crate::redoing::{Redoing, ensure_tree, take_all};
 use crate::roots::{Walked, read_roots};
@@ -52,11 +52,11 @@ fn redo_entries<T: Loads + Drop>(
     alloc: Global,
     trees: T,
     redo: Lsn,
-    entries: Vec<PlacedEntry>,
+    entries: LogRead,
 ) -> Result<T, LoadErr>
-    requires order { AreInOrder entries.items }
-    ensures redone { (rows : Items LoggedChange) → HoldsChanges rows (T.stored trees) → IfOk result (λ made. HoldsRedo (behind rows (redone redo entries.items)) (T.stored made)) }
-    ensures fits { (base : ℕ) → base < 2 ^ 64 → AllByRecursion (λ p. p.0 < base) entries.items → T.fits trees entries.items base → IfOk result (λ made. T.fits made entries.items base) }
+    requires order { AreInOrder entries }
+    ensures redone { (rows : Items LoggedChange) → HoldsChanges rows (T.stored trees) → IfOk result (λ made. HoldsRedo (behind rows (redone redo entries)) (T.stored made)) }
+    ensures fits { (base : ℕ) → base < 2 ^ 64 → AllByRecursion (λ p. p.0 < base) entries → T.fits trees entries base → IfOk result (λ made. T.fits made entries base) }
 {
     let mut trees = trees;
     ensure_tree(&mut trees, alloc, CATALOG)?;
@@ -104,7 +104,7 @@ fn redo_corruption(files: &[FileNo], end: &Option<CheckpointEnd>) -> Option<Corr
 fn read_trees<T: Loads + Drop>(
     alloc: Global,
     files: &[FileNo],
-    entries: &Indexed<'_>,
+    entries: &LogRead,
     end: &CheckpointEnd,
     corruption: Option<Corruption>,
     trees: T,
@@ -131,31 +131,31 @@ fn read_trees<T: Loads + Drop>(
 pub(crate) fn recover_entries<T: Loads + Drop>(
     alloc: Global,
     files: &[FileNo],
-    entries: Vec<PlacedEntry>,
+    entries: LogRead,
+    notes: ReadNotes,
     trees: T,
 ) -> Result<Meant<T>, ReadErr>
     requires files { AreRisingNumbers files.now }
     requires empty { (d : ℕ) → T.has_tree trees d ≡ false }
-    requires order { AreInOrder entries.items }
-    requires entries { AllByRecursion (λ p. IsEntry p.1) entries.items }
-    ensures meant { IfOk result (λ m. IsMeant (map (λ f. f.0) files.now) entries.items (record { store = m.settled.opening; last_txn = m.last_txn; last_node = m.last_node; last_db = m.last_db; checkpoint = m.checkpoint }) (T.has_tree m.settled.trees) (T.stored m.settled.trees) m.settled.databases m.settled.records) }
-    ensures fits { IfOk result (λ m. HasReadAgain T.well_formed T.nodes T.read T.stored T.last_number T.fits m.settled.trees m.redo entries.items) }
-    ensures redone { IfOk result (λ m. m.redone ≡ count_redone entries.items) }
+    requires order { AreInOrder entries }
+    requires entries { AllByRecursion (λ p. IsEntry p.1) entries }
+    requires noted { AreNotesOf entries notes }
+    ensures meant { IfOk result (λ m. IsMeant (map (λ f. f.0) files.now) entries (record { store = m.settled.opening; last_txn = m.last_txn; last_node = m.last_node; last_db = m.last_db; checkpoint = m.checkpoint }) (T.has_tree m.settled.trees) (T.stored m.settled.trees) m.settled.databases m.settled.records) }
+    ensures fits { IfOk result (λ m. HasReadAgain T.well_formed T.nodes T.read T.stored T.last_number T.fits m.settled.trees m.redo entries) }
+    ensures redone { IfOk result (λ m. m.redone ≡ count_redone entries) }
     ensures index { IfOk result (λ m. IsIndexCheck m.settled.opening m.settled.wrong_index) }
-    ensures found { IfErr result (λ e. IsFoundBy e (λ c. meaning_in (map (λ f. f.0) files.now) entries.items ≡ Err c)) }
+    ensures found { IfErr result (λ e. IsFoundBy e (λ c. meaning_in (map (λ f. f.0) files.now) entries ≡ Err c)) }
 {
-    let end = last_end(alloc, &entries)?;
+    let ReadNotes { end, numbers, .. } = notes;
     let corruption = redo_corruption(files, &end);
     let end = or_none(alloc, end);
-    let indexed = Indexed::new(alloc, &entries)?;
-    let walked = read_trees(alloc, files, &indexed, &end, corruption, trees)?;
-    let redone = count_from(&indexed, end.redo);
-    drop(indexed);
+    let walked = read_trees(alloc, files, &entries, &end, corruption, trees)?;
+    let redone = count_from(&entries, end.redo)?;
     let Walked {
         mut trees,
         numbers: in_trees,
     } = walked;
-    let numbers = Numbers::of(&entries, end.redo);
+    let numbers = numbers.behind(alloc, end.redo, &entries)?;
     let from = redo_begin(files, end.redo);
     let last_node = end.last_node.max(in_trees.node.max(numbers.node));
     trees.begin_redo(last_node, from);

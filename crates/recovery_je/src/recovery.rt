@@ -4,7 +4,7 @@ ghost use Rattle.je_disk.specs.Causes.{HasCause};
 ghost use Rattle.je_disk.specs.Moments.{now, Passes};
 ghost use Rattle.je_disk.specs.States.{Files, IsListing, AreRisingNumbers};
 ghost use Rattle.log_meaning.specs.Reading.{reading_of};
-ghost use Rattle.recovery_je.specs.Files.{AreRead, AreSound};
+ghost use Rattle.recovery_je.specs.Files.{AreRead, AreSound, LogIsNoted};
 ghost use Rattle.recovery_je.specs.Putting.{HasReadAgain};
 ghost use Rattle.recovery_je.specs.Answer.{IsReadingOf, IsRecoveredFrom, IsCorruptBy, IsFirstWrong, IsIndexBy, IsNoDiskErr, HasCauseOf, HasFiles, HasWrongIndex, recovered_with};
 
@@ -72,6 +72,7 @@ fn recover_files<T: Loads + Drop>(
     requires files { AreRisingNumbers files.now }
     requires empty { (d : ℕ) → T.has_tree trees d ≡ false }
     requires sound { AreSound read }
+    requires noted { LogIsNoted read }
     ensures recovered { (observable : Bool) (reads : Files) → AreRead observable reads files.now read → IfOk result (λ r. IsReadingOf observable reads files.now (IsRecoveredFrom (record { store = r.opening; last_txn = r.last_txn; last_node = r.last_node; last_db = r.last_db; checkpoint = r.checkpoint }) (T.has_tree r.trees) (T.stored r.trees) r.databases r.records r.redone r.tail (HasReadAgain T.well_formed T.nodes T.read T.stored T.last_number T.fits r.trees r.redo))) }
     ensures corrupt { (observable : Bool) (reads : Files) → AreRead observable reads files.now read → IfErr result (λ e. IsCorruptBy e (λ corruption. IsReadingOf observable reads files.now (λ held. reading_of held ≡ Err corruption))) }
     ensures index { (observable : Bool) (reads : Files) → AreRead observable reads files.now read → IfErr result (λ e. IsIndexBy e (λ name. IsReadingOf observable reads files.now (HasWrongIndex name))) }
@@ -82,8 +83,8 @@ fn recover_files<T: Loads + Drop>(
             drop(trees);
             Err(RecoverErr::Corrupt(corruption))
         }
-        FilesRead::All(entries, tail) => {
-            let meant = recover_entries(alloc, files, entries, trees)?;
+        FilesRead::All(entries, notes, tail) => {
+            let meant = recover_entries(alloc, files, entries, notes, trees)?;
             check_index(meant, tail)
         }
     }
@@ -103,13 +104,13 @@ pub fn recover<D: Disk, T: Loads + Drop>(
 ) -> Result<Recovered<T>, RecoverErr>
     requires files { AreRisingNumbers files.now }
     requires empty { (d : ℕ) → T.has_tree trees d ≡ false }
-    ensures recovered { IfOk result (λ r. IsReadingOf D.observable (now (D.history disk.old)).reads files.now (IsRecoveredFrom (record { store = r.opening; last_txn = r.last_txn; last_node = r.last_node; last_db = r.last_db; checkpoint = r.checkpoint }) (T.has_tree r.trees) (T.stored r.trees) r.databases r.records r.redone r.tail (HasReadAgain T.well_formed T.nodes T.read T.stored T.last_number T.fits r.trees r.redo))) }
-    ensures corrupt { IfErr result (λ e. IsCorruptBy e (λ corruption. IsReadingOf D.observable (now (D.history disk.old)).reads files.now (λ held. reading_of held ≡ Err corruption))) }
-    ensures index { IfErr result (λ e. IsIndexBy e (λ name. IsReadingOf D.observable (now (D.history disk.old)).reads files.now (HasWrongIndex name))) }
-    ensures same { D.observable ≡ true → now (D.history disk.new) ≡ now (D.history disk.old) }
-    ensures moments { D.observable ≡ true → Passes (D.history disk.old) (D.history disk.new) (λ s. s ≡ now (D.history disk.old)) }
-    ensures jobs { (D.sync_out disk.new ≡ D.sync_out disk.old) × (D.read_out disk.new ≡ D.read_out disk.old) × (D.read_of disk.new ≡ D.read_of disk.old) × (D.last_job disk.new ≡ D.last_job disk.old) }
-    ensures cause { HasCauseOf (D.faults disk.old) (D.faults disk.new) result }
+    ensures recovered { IfOk result (λ r. IsReadingOf D.meaning.observable (now (D.meaning.history disk.old)).reads files.now (IsRecoveredFrom (record { store = r.opening; last_txn = r.last_txn; last_node = r.last_node; last_db = r.last_db; checkpoint = r.checkpoint }) (T.has_tree r.trees) (T.stored r.trees) r.databases r.records r.redone r.tail (HasReadAgain T.well_formed T.nodes T.read T.stored T.last_number T.fits r.trees r.redo))) }
+    ensures corrupt { IfErr result (λ e. IsCorruptBy e (λ corruption. IsReadingOf D.meaning.observable (now (D.meaning.history disk.old)).reads files.now (λ held. reading_of held ≡ Err corruption))) }
+    ensures index { IfErr result (λ e. IsIndexBy e (λ name. IsReadingOf D.meaning.observable (now (D.meaning.history disk.old)).reads files.now (HasWrongIndex name))) }
+    ensures same { D.meaning.observable ≡ true → now (D.meaning.history disk.new) ≡ now (D.meaning.history disk.old) }
+    ensures moments { D.meaning.observable ≡ true → Passes (D.meaning.history disk.old) (D.meaning.history disk.new) (λ s. s ≡ now (D.meaning.history disk.old)) }
+    ensures jobs { (D.meaning.sync_out disk.new ≡ D.meaning.sync_out disk.old) × (D.meaning.read_out disk.new ≡ D.meaning.read_out disk.old) × (D.meaning.read_of disk.new ≡ D.meaning.read_of disk.old) × (D.meaning.last_job disk.new ≡ D.meaning.last_job disk.old) }
+    ensures cause { HasCauseOf (D.meaning.faults disk.old) (D.meaning.faults disk.new) result }
 {
     let read = read_files(alloc, disk, files)?;
     recover_files(alloc, files, read, trees)
@@ -118,11 +119,11 @@ pub fn recover<D: Disk, T: Loads + Drop>(
 // Mounts the disk, and lists its files.
 fn list_files<D: Disk>(alloc: Global, disk: &mut D) -> Result<Vec<FileNo>, DiskErr>
     ensures rising { IfOk result (λ files. AreRisingNumbers files.items) }
-    ensures listed { D.observable ≡ true → IfOk result (λ files. IsListing (now (D.history disk.old)).reads files.items) }
-    ensures same { D.observable ≡ true → now (D.history disk.new) ≡ now (D.history disk.old) }
-    ensures moments { D.observable ≡ true → Passes (D.history disk.old) (D.history disk.new) (λ s. s ≡ now (D.history disk.old)) }
-    ensures none_out { OnOk result (D.sync_out disk.new ≡ None) }
-    ensures cause { HasCause (D.faults disk.old) (D.faults disk.new) result }
+    ensures listed { D.meaning.observable ≡ true → IfOk result (λ files. IsListing (now (D.meaning.history disk.old)).reads files.items) }
+    ensures same { D.meaning.observable ≡ true → now (D.meaning.history disk.new) ≡ now (D.meaning.history disk.old) }
+    ensures moments { D.meaning.observable ≡ true → Passes (D.meaning.history disk.old) (D.meaning.history disk.new) (λ s. s ≡ now (D.meaning.history disk.old)) }
+    ensures none_out { OnOk result (D.meaning.sync_out disk.new ≡ None) }
+    ensures cause { HasCause (D.meaning.faults disk.old) (D.meaning.faults disk.new) result }
 {
     disk.mount()?;
     disk.list(alloc)
@@ -136,13 +137,13 @@ pub fn recover_disk<D: Disk, T: Loads + Drop>(
     trees: T,
 ) -> Result<Recovered<T>, RecoverErr>
     requires { (d : ℕ) → T.has_tree trees d ≡ false }
-    ensures recovered { IfOk result (λ r. HasFiles D.observable (now (D.history disk.old)).reads (IsRecoveredFrom (record { store = r.opening; last_txn = r.last_txn; last_node = r.last_node; last_db = r.last_db; checkpoint = r.checkpoint }) (T.has_tree r.trees) (T.stored r.trees) r.databases r.records r.redone r.tail (HasReadAgain T.well_formed T.nodes T.read T.stored T.last_number T.fits r.trees r.redo))) }
-    ensures corrupt { IfErr result (λ e. IsCorruptBy e (λ corruption. HasFiles D.observable (now (D.history disk.old)).reads (λ held. reading_of held ≡ Err corruption))) }
-    ensures index { IfErr result (λ e. IsIndexBy e (λ name. HasFiles D.observable (now (D.history disk.old)).reads (HasWrongIndex name))) }
-    ensures same { D.observable ≡ true → now (D.history disk.new) ≡ now (D.history disk.old) }
-    ensures moments { D.observable ≡ true → Passes (D.history disk.old) (D.history disk.new) (λ s. s ≡ now (D.history disk.old)) }
-    ensures none_out { OnOk result (D.sync_out disk.new ≡ None) }
-    ensures cause { HasCauseOf (D.faults disk.old) (D.faults disk.new) result }
+    ensures recovered { IfOk result (λ r. HasFiles D.meaning.observable (now (D.meaning.history disk.old)).reads (IsRecoveredFrom (record { store = r.opening; last_txn = r.last_txn; last_node = r.last_node; last_db = r.last_db; checkpoint = r.checkpoint }) (T.has_tree r.trees) (T.stored r.trees) r.databases r.records r.redone r.tail (HasReadAgain T.well_formed T.nodes T.read T.stored T.last_number T.fits r.trees r.redo))) }
+    ensures corrupt { IfErr result (λ e. IsCorruptBy e (λ corruption. HasFiles D.meaning.observable (now (D.meaning.history disk.old)).reads (λ held. reading_of held ≡ Err corruption))) }
+    ensures index { IfErr result (λ e. IsIndexBy e (λ name. HasFiles D.meaning.observable (now (D.meaning.history disk.old)).reads (HasWrongIndex name))) }
+    ensures same { D.meaning.observable ≡ true → now (D.meaning.history disk.new) ≡ now (D.meaning.history disk.old) }
+    ensures moments { D.meaning.observable ≡ true → Passes (D.meaning.history disk.old) (D.meaning.history disk.new) (λ s. s ≡ now (D.meaning.history disk.old)) }
+    ensures none_out { OnOk result (D.meaning.sync_out disk.new ≡ None) }
+    ensures cause { HasCauseOf (D.meaning.faults disk.old) (D.meaning.faults disk.new) result }
 {
     let files = list_files(alloc, disk)?;
     recover(alloc, disk, &files, trees)

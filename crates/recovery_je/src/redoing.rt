@@ -1,17 +1,21 @@
 // Reading the entries of a log again.
-ghost use Rattle.std.specs.Prelude.{◌≡◌, ◌<◌, ◌^◌, ℕ, List as Items, [], ◌∷◌, Some, true, OnOk};
+ghost use Rattle.std.specs.Prelude.{◌≡◌, ◌<◌, ◌+◌, ◌*◌, ◌^◌, ℕ, List as Items, [], ◌∷◌, Some, true, OnOk};
 ghost use Rattle.std.specs.List.{AllByRecursion};
+ghost use Rattle.log_entry.specs.declared.entry.Entry.{Entry as Stored};
+ghost use Rattle.recovery_je.specs.LogRead.{AreStanding, HasEntryAt, entries_of_files};
 ghost use Rattle.log_meaning.specs.Redo.{Redo, redo_entry, redo_all, from};
 ghost use Rattle.record_tree.specs.Stored.{AreStoredStill};
 ghost use Rattle.log_trees.specs.Placed.{Placed};
 ghost use Rattle.recovery_je.specs.Putting.{IsLogged, IsIn, FitsRedo, first_lsn};
 ghost use Rattle.recovery_je.specs.Redoing.{HasMade, IsRedoAt, named_by};
 
+use crate::decoding::decode_found;
+use crate::file_entries::FileEntries;
 use crate::giving_back::give_back;
-use crate::placed_entry::PlacedEntry;
+use crate::log_read::LogRead;
 use crate::waiting::Waiting;
 use crate::waiting_change::WaitingChange;
-use je_lsn::Lsn;
+use je_lsn::{FileNo, Lsn};
 use je_order::{List, Octets};
 use log_entry::Entry;
 use log_replay::number_of;
@@ -176,39 +180,96 @@ fn take_entry<T: Loads>(
     }
 }
 
-// Takes an entry, if it stands at the redo LSN or behind it.
-fn take_placed<T: Loads>(
+// Takes the entry at an offset of a file's bytes, if it stands at the redo LSN or behind it.
+fn take_at<T: Loads>(
     going: &mut Redoing<T>,
     alloc: Global,
     redo: Lsn,
-    placed: PlacedEntry,
+    number: FileNo,
+    bytes: &[u8],
+    at: u32,
 ) -> Result<(), LoadErr>
-    ensures redo { (r : Redo) → IsRedoAt (T.stored going.old.trees) going.old.waiting r → OnOk result (IsRedoAt (T.stored going.new.trees) going.new.waiting (redo_all (from redo (placed ∷ [])) r)) }
-    ensures fits { (es : Items Placed) (base : ℕ) → base < 2 ^ 64 → IsIn es base placed → FitsRedo T.fits es base going.old.trees going.old.waiting → OnOk result (FitsRedo T.fits es base going.new.trees going.new.waiting) }
+    requires { (e : Stored) × HasEntryAt bytes.now at e }
+    ensures redo { (e : Stored) (r : Redo) → HasEntryAt bytes.now at e → IsRedoAt (T.stored going.old.trees) going.old.waiting r → OnOk result (IsRedoAt (T.stored going.new.trees) going.new.waiting (redo_all (from redo ((number.0 * 2 ^ 32 + at, e) ∷ [])) r)) }
+    ensures fits { (e : Stored) (es : Items Placed) (base : ℕ) → HasEntryAt bytes.now at e → base < 2 ^ 64 → IsIn es base (number.0 * 2 ^ 32 + at, e) → FitsRedo T.fits es base going.old.trees going.old.waiting → OnOk result (FitsRedo T.fits es base going.new.trees going.new.waiting) }
 {
-    let PlacedEntry { at, entry } = placed;
-    if at.as_u64() < redo.as_u64() {
-        drop(entry);
+    let lsn = Lsn::new(number, at);
+    if lsn.as_u64() < redo.as_u64() {
         return Ok(());
     }
-    take_entry(&mut going.trees, &mut going.waiting, alloc, at, entry)
+    let entry = decode_found(alloc, bytes, at)?;
+    take_entry(&mut going.trees, &mut going.waiting, alloc, lsn, entry)
 }
 
-/// Takes the entries that stand at the redo LSN or behind it, in order. Each one's room is free again soon after it is taken.
+// Takes the entries at these offsets that stand at the redo LSN or behind it, in order.
+fn take_each<T: Loads>(
+    going: &mut Redoing<T>,
+    alloc: Global,
+    redo: Lsn,
+    number: FileNo,
+    bytes: &[u8],
+    offsets: &[u32],
+) -> Result<(), LoadErr>
+    requires { (all : Items Placed) × AreStanding number.0 bytes.now offsets.now all }
+    ensures redo { (all : Items Placed) (r : Redo) → AreStanding number.0 bytes.now offsets.now all → IsRedoAt (T.stored going.old.trees) going.old.waiting r → OnOk result (IsRedoAt (T.stored going.new.trees) going.new.waiting (redo_all (from redo all) r)) }
+    ensures fits { (all es : Items Placed) (base : ℕ) → AreStanding number.0 bytes.now offsets.now all → base < 2 ^ 64 → AllByRecursion (IsIn es base) all → FitsRedo T.fits es base going.old.trees going.old.waiting → OnOk result (FitsRedo T.fits es base going.new.trees going.new.waiting) }
+{
+    for at in offsets {
+        take_at(going, alloc, redo, number, bytes, *at)?;
+    }
+    Ok(())
+}
+
+// Takes the entries of a file that stand at the redo LSN or behind it, in order.
+fn take_file<T: Loads>(
+    going: &mut Redoing<T>,
+    alloc: Global,
+    redo: Lsn,
+    file: &FileEntries,
+) -> Result<(), LoadErr>
+    ensures redo { (r : Redo) → IsRedoAt (T.stored going.old.trees) going.old.waiting r → OnOk result (IsRedoAt (T.stored going.new.trees) going.new.waiting (redo_all (from redo file.now.1) r)) }
+    ensures fits { (es : Items Placed) (base : ℕ) → base < 2 ^ 64 → AllByRecursion (IsIn es base) file.now.1 → FitsRedo T.fits es base going.old.trees going.old.waiting → OnOk result (FitsRedo T.fits es base going.new.trees going.new.waiting) }
+{
+    take_each(
+        going,
+        alloc,
+        redo,
+        file.number,
+        &file.bytes,
+        file.offsets.as_slice(),
+    )
+}
+
+// Takes the entries of files that stand at the redo LSN or behind it, in order. Each file's bytes go once its entries were taken.
+fn take_files<T: Loads>(
+    going: &mut Redoing<T>,
+    alloc: Global,
+    redo: Lsn,
+    files: Vec<FileEntries>,
+) -> Result<(), LoadErr>
+    ensures redo { (r : Redo) → IsRedoAt (T.stored going.old.trees) going.old.waiting r → OnOk result (IsRedoAt (T.stored going.new.trees) going.new.waiting (redo_all (from redo (entries_of_files files.items)) r)) }
+    ensures fits { (es : Items Placed) (base : ℕ) → base < 2 ^ 64 → AllByRecursion (IsIn es base) (entries_of_files files.items) → FitsRedo T.fits es base going.old.trees going.old.waiting → OnOk result (FitsRedo T.fits es base going.new.trees going.new.waiting) }
+{
+    let mut left = files;
+    left.reverse();
+    while let Some(file) = left.pop() {
+        take_file(going, alloc, redo, &file)?;
+        drop(file);
+    }
+    Ok(())
+}
+
+/// Takes the entries that stand at the redo LSN or behind it, in order. Each file's bytes go once its entries were taken.
 pub(crate) fn take_all<T: Loads>(
     going: &mut Redoing<T>,
     alloc: Global,
     redo: Lsn,
-    entries: Vec<PlacedEntry>,
+    entries: LogRead,
 ) -> Result<(), LoadErr>
-    ensures redo { (r : Redo) → IsRedoAt (T.stored going.old.trees) going.old.waiting r → OnOk result (IsRedoAt (T.stored going.new.trees) going.new.waiting (redo_all (from redo entries.items) r)) }
-    ensures fits { (es : Items Placed) (base : ℕ) → base < 2 ^ 64 → AllByRecursion (IsIn es base) entries.items → FitsRedo T.fits es base going.old.trees going.old.waiting → OnOk result (FitsRedo T.fits es base going.new.trees going.new.waiting) }
+    ensures redo { (r : Redo) → IsRedoAt (T.stored going.old.trees) going.old.waiting r → OnOk result (IsRedoAt (T.stored going.new.trees) going.new.waiting (redo_all (from redo entries) r)) }
+    ensures fits { (es : Items Placed) (base : ℕ) → base < 2 ^ 64 → AllByRecursion (IsIn es base) entries → FitsRedo T.fits es base going.old.trees going.old.waiting → OnOk result (FitsRedo T.fits es base going.new.trees going.new.waiting) }
 {
-    let mut left = entries;
-    left.reverse();
-    while let Some(placed) = left.pop() {
-        give_back(&mut left);
-        take_placed(going, alloc, redo, placed)?;
-    }
-    Ok(())
+    let LogRead { numbers, files, .. } = entries;
+    drop(numbers);
+    take_files(going, alloc, redo, files)
 }

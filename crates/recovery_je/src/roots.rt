@@ -13,7 +13,7 @@ ghost use Rattle.recovery_je.specs.Walking.{Answers, IsWalking, GoesOn, level_re
 use crate::checkpoint_end::CheckpointEnd;
 use crate::descending::read_node;
 use crate::images::{nowhere, read_image};
-use crate::indexed::Indexed;
+use crate::log_read::LogRead;
 use crate::read_err::ReadErr;
 use crate::walking::Walking;
 use je_lsn::{FileNo, Lsn};
@@ -42,7 +42,7 @@ pub(crate) struct Walked<T> {
 fn root_level(
     alloc: Global,
     files: &[FileNo],
-    entries: &Indexed<'_>,
+    entries: &LogRead,
     root: &Root,
 ) -> Result<u8, ReadErr>
     requires order { AreInOrder entries.now }
@@ -60,7 +60,7 @@ fn read_level<T: Loads>(
     walking: &mut Walking<T>,
     alloc: Global,
     files: &[FileNo],
-    entries: &Indexed<'_>,
+    entries: &LogRead,
     d: u32,
     level: u8,
     least: &Name,
@@ -93,7 +93,7 @@ fn read_root<T: Loads>(
     walking: &mut Walking<T>,
     alloc: Global,
     files: &[FileNo],
-    entries: &Indexed<'_>,
+    entries: &LogRead,
     end: Lsn,
     least: &Name,
     root: &Root,
@@ -118,7 +118,7 @@ fn read_each<T: Loads>(
     walking: &mut Walking<T>,
     alloc: Global,
     files: &[FileNo],
-    entries: &Indexed<'_>,
+    entries: &LogRead,
     end: Lsn,
     least: &Name,
     roots: &[Root],
@@ -150,7 +150,7 @@ fn least_of_all(alloc: Global) -> Name
 pub(crate) fn read_roots<T: Loads + Drop>(
     alloc: Global,
     files: &[FileNo],
-    entries: &Indexed<'_>,
+    entries: &LogRead,
     end: &CheckpointEnd,
     trees: T,
 ) -> Result<Walked<T>, ReadErr>

@@ -1,5 +1,5 @@
 // Reading trees.
-ghost use Rattle.std.specs.Prelude.{◌≡◌, ◌≤◌, ◌-◌, ℕ, IsSome, OnOk, map, option_map, option_copied};
+ghost use Rattle.std.specs.Prelude.{◌≡◌, ◌≤◌, ◌-◌, ℕ, List as Items, Some, IsSome, OnOk, map, option_map, option_copied};
 ghost use Rattle.std.specs.List.{AllByRecursion, flat_map};
 ghost use Rattle.je_order.specs.declared.name.Name.{Name as Named};
 ghost use Rattle.log_entry.specs.Body.{IsEntry};
@@ -8,14 +8,14 @@ ghost use Rattle.log_trees.specs.Images.{named, slot_shown};
 ghost use Rattle.log_trees.specs.Bounds.{is_below as is_name_below, is_within as is_name_within, slots_inside};
 ghost use Rattle.log_trees.specs.Placed.{AreInOrder};
 ghost use Rattle.log_trees.specs.Trees.{data_in};
-ghost use Rattle.log_trees.specs.Walk.{Walk, each, met, with_record, read_record as record_at, read_here as node_here, may_stand as node_may_stand};
+ghost use Rattle.log_trees.specs.Walk.{Walk, each, met, with_record, record_by, read_record as record_at, read_here as node_here, may_stand as node_may_stand};
 ghost use Rattle.record_tree.specs.LoadedNodes.{AllNodes, node_read, HasPutNode};
 ghost use Rattle.record_tree.specs.LoadedSlots.{shows_deletion_inside, HasGone};
 ghost use Rattle.recovery_je.specs.Putting.{HasPut, as_loaded, none_put};
 ghost use Rattle.recovery_je.specs.Walking.{Answers, IsWalking, GoesOn};
 
 use crate::images::{nowhere, read_image};
-use crate::indexed::Indexed;
+use crate::log_read::LogRead;
 use crate::lookup::entry_at;
 use crate::read_err::ReadErr;
 use crate::redoing::number_in;
@@ -104,12 +104,31 @@ fn data_of<'a>(d: u32, name: &Name, entry: &'a Entry) -> Option<&'a Octets>
     }
 }
 
+// Puts the record that an entry at an LSN gives, if it gives one.
+fn put_given<T: Loads>(
+    walking: &mut Walking<T>,
+    alloc: Global,
+    d: u32,
+    name: &Name,
+    lsn: Lsn,
+    entry: &Entry,
+) -> Result<(), ReadErr>
+    ensures walk { (files : Items ℕ) (walk : Walk) → IsWalking (T.stored walking.old.trees) walking.old.seen.keys walking.old.node walking.old.db walk → GoesOn (record_by files d (name.now, lsn) walk (Some entry.now)) (IsWalking (T.stored walking.new.trees) walking.new.seen.keys walking.new.node walking.new.db) result }
+    ensures nodes { (k : ℕ) (x : Named) → IsSome (T.nodes walking.old.trees d k x) → OnOk result (HasPut (as_loaded T.nodes T.read) none_put walking.old walking.new) }
+{
+    let Some(value) = data_of(d, name, entry) else {
+        return Err(ReadErr::Found(Corruption::Tree(lsn)));
+    };
+    put_record(walking, alloc, d, name, lsn, value)?;
+    Ok(())
+}
+
 // Reads the record that a slot of the image at an LSN names.
 fn read_record<T: Loads>(
     walking: &mut Walking<T>,
     alloc: Global,
     files: &[FileNo],
-    entries: &Indexed<'_>,
+    entries: &LogRead,
     d: u32,
     at: Lsn,
     name: &Name,
@@ -122,14 +141,14 @@ fn read_record<T: Loads>(
     if lsn.as_u64() >= at.as_u64() {
         return Err(ReadErr::Found(nowhere(files, lsn)));
     }
-    let Some(entry) = entry_at(entries, lsn) else {
-        return Err(ReadErr::Found(nowhere(files, lsn)));
-    };
-    let Some(value) = data_of(d, name, entry) else {
-        return Err(ReadErr::Found(Corruption::Tree(lsn)));
-    };
-    put_record(walking, alloc, d, name, lsn, value)?;
-    Ok(())
+    match entry_at(alloc, entries, lsn)? {
+        Some(entry) => {
+            let put = put_given(walking, alloc, d, name, lsn, &entry);
+            drop(entry);
+            put
+        }
+        None => Err(ReadErr::Found(nowhere(files, lsn))),
+    }
 }
 
 // Reads the record that a slot of the image at an LSN names, if it names one.
@@ -137,7 +156,7 @@ fn read_slot<T: Loads>(
     walking: &mut Walking<T>,
     alloc: Global,
     files: &[FileNo],
-    entries: &Indexed<'_>,
+    entries: &LogRead,
     d: u32,
     at: Lsn,
     slot: &Slot,
@@ -179,7 +198,7 @@ fn read_within<T: Loads>(
     walking: &mut Walking<T>,
     alloc: Global,
     files: &[FileNo],
-    entries: &Indexed<'_>,
+    entries: &LogRead,
     d: u32,
     low: &Name,
     high: Option<&Name>,
@@ -201,7 +220,7 @@ pub(crate) fn read_slots<T: Loads>(
     walking: &mut Walking<T>,
     alloc: Global,
     files: &[FileNo],
-    entries: &Indexed<'_>,
+    entries: &LogRead,
     d: u32,
     low: &Name,
     high: Option<&Name>,
@@ -239,7 +258,7 @@ fn may_stand(node: &Node, level: u8, seen: &BTreeSet<u64>) -> bool
 pub(crate) fn read_here(
     alloc: Global,
     files: &[FileNo],
-    entries: &Indexed<'_>,
+    entries: &LogRead,
     d: u32,
     level: u8,
     at: Lsn,

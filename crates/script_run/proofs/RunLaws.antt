@@ -1,7 +1,8 @@
 -- A run goes on by one event.
-use Rattle.std.proofs.Common.{◌≡◌, ℕ, ◌≤◌, ◌<◌, Bool, true, List, [], ◌∷◌, ◌++◌, Option, None, Some, Ok, refl, ap, sym, ◌∙◌, subst, ⊎_elim, inl, inr}
+use Rattle.std.proofs.Common.{◌≡◌, ◌≤◌, ◌<◌, true, List, [], ◌∷◌, ◌++◌, Option, None, Some, Ok, refl, ap, sym, ◌∙◌, subst, ⊎_elim, inl, inr}
 use Rattle.je_order.specs.Counts.{HasRisen}
-use Rattle.je_disk.specs.Moments.{History, now}
+use Rattle.je_disk.specs.DiskMeaning.{DiskMeaning}
+use Rattle.je_disk.specs.Moments.{now}
 use Rattle.store_model.specs.declared.answer.Answer.{Answer}
 use Rattle.store_model.specs.declared.durability.Durability.{Durability}
 use Rattle.store_model.specs.declared.durability.Durability.TheVariants.{NoSync, Sync}
@@ -26,10 +27,10 @@ use Rattle.script_run.proofs.Pushed.{bounded_push, caused_later, caused_push, la
 use Rattle.script_run.proofs.SessionLaws.{MayBeOf, event_keeps}
 use Rattle.script_run.proofs.Waiting.{IsAwaitedFor}
 
-module _ {D : Type 0} (observable : Bool) (history : D → History) (faults : D → ℕ) where
+module _ {D : Type 0} (meaning : DiskMeaning D) where
   -- an event that a run may go on with behind its last one, what was awaited before it and is behind it
   pub record IsNextEvent (p : Beginning) (before awaited : Awaited) (old new : Environment D) (last : Option Event) (st : Standing) (event : Event) : Type 0 where
-    pub done : HasDone p.most observable (now (history (disk_of new))) old new st event
+    pub done : HasDone p.most meaning.observable (now (meaning.history (disk_of new))) old new st event
     pub grows : IsWithin (reach_of new) (reach_behind (reach_of old) st event)
     pub synced : (later : List Event) → IsMet awaited (after_event st event) later → IsMet before st (event ∷ later) × IsSyncedAtOnce st event later
     pub fresh : IsFresh awaited (after_event st event)
@@ -37,16 +38,16 @@ module _ {D : Type 0} (observable : Bool) (history : D → History) (faults : D 
     pub steps : IsStepInPlace last st event
     pub sessions : MayBeOf (λ s. s < 256) event
     pub bounds : CanGoOn new
-    pub never_falls : faults (disk_of old) ≤ faults (disk_of new)
-    pub fault : answers_some is_disk_fault event ≡ true → HasRisen (faults (disk_of old)) (faults (disk_of new))
+    pub never_falls : meaning.faults (disk_of old) ≤ meaning.faults (disk_of new)
+    pub fault : answers_some is_disk_fault event ≡ true → HasRisen (meaning.faults (disk_of old)) (meaning.faults (disk_of new))
 
-  pub running_push : (p : Beginning) (before awaited : Awaited) (old new : Environment D) (journal : List Event) (event : Event) → IsRunning observable history faults p before old journal →
-      IsNextEvent p before awaited old new (last_after None journal) (after_events p.st journal) event → IsRunning observable history faults p awaited new (journal ++ event ∷ [])
+  pub running_push : (p : Beginning) (before awaited : Awaited) (old new : Environment D) (journal : List Event) (event : Event) → IsRunning meaning p before old journal →
+      IsNextEvent p before awaited old new (last_after None journal) (after_events p.st journal) event → IsRunning meaning p awaited new (journal ++ event ∷ [])
   running_push p before awaited old new journal event running next =
       let st = after_events p.st journal in
       let stands = after_events-append p.st journal (event ∷ []) in
       record {
-        here = subst (λ (s : Standing). IsAt p.most observable (now (history (disk_of new))) new s) (sym stands) next.done.here;
+        here = subst (λ (s : Standing). IsAt p.most meaning.observable (now (meaning.history (disk_of new))) new s) (sym stands) next.done.here;
         limits = running.limits ++ next.done.limit ∷ [];
         answers = answers-push p.st running.limits journal next.done.limit event running.answers next.done.answered;
         bounded = bounded_push p.first (reach_of old) p.st running.limits journal next.done.limit event running.answers running.bounded running.near next.done.bounded;
@@ -59,26 +60,26 @@ module _ {D : Type 0} (observable : Bool) (history : D → History) (faults : D 
         steps = steps_push None p.st journal event running.steps next.steps;
         sessions = subst (λ (s : Standing). AreOf (λ n. n < 256) s.actives) (sym stands) (event_keeps (λ n. n < 256) st event next.sessions running.sessions);
         bounds = next.bounds;
-        caused = caused_push p.faults (faults (disk_of old)) (faults (disk_of new)) journal event running.caused next.never_falls next.fault;
+        caused = caused_push p.faults (meaning.faults (disk_of old)) (meaning.faults (disk_of new)) journal event running.caused next.never_falls next.fault;
       }
 
   -- the same of an environment with its journal
-  pub pushed : (p : Beginning) (before awaited : Awaited) (x y : Recorded D) (event : Event) → y.journal.items ≡ x.journal.items ++ event ∷ [] → IsUnderWay observable history faults p before x →
+  pub pushed : (p : Beginning) (before awaited : Awaited) (x y : Recorded D) (event : Event) → y.journal.items ≡ x.journal.items ++ event ∷ [] → IsUnderWay meaning p before x →
       IsNextEvent p before awaited x.environment y.environment (last_event x) (standing p x) event →
-      (observable ≡ true → IsGuarded p.most p.st p.start (history (disk_of y.environment)) y.environment (x.journal.items ++ event ∷ [])) → IsUnderWay observable history faults p awaited y
+      (meaning.observable ≡ true → IsGuarded p.most p.st p.start (meaning.history (disk_of y.environment)) y.environment (x.journal.items ++ event ∷ [])) → IsUnderWay meaning p awaited y
   pushed p before awaited x y event items under next guarded = record {
-    running = subst (λ (l : List Event). IsRunning observable history faults p awaited y.environment l) (sym items)
+    running = subst (λ (l : List Event). IsRunning meaning p awaited y.environment l) (sym items)
         (running_push p before awaited x.environment y.environment x.journal.items event under.running next);
-    guarded = λ observed. subst (λ (l : List Event). IsGuarded p.most p.st p.start (history (disk_of y.environment)) y.environment l) (sym items) (guarded observed);
+    guarded = λ observed. subst (λ (l : List Event). IsGuarded p.most p.st p.start (meaning.history (disk_of y.environment)) y.environment l) (sym items) (guarded observed);
   }
 
   -- no event more: a call found no memory
-  pub kept : (p : Beginning) (x y : Recorded D) → y.journal.items ≡ x.journal.items → IsUnderWay observable history faults p Nothing x →
-      IsAt p.most observable (now (history (disk_of y.environment))) y.environment (standing p x) → IsWithin (reach_of y.environment) (reach_of x.environment) → CanGoOn y.environment →
-      faults (disk_of x.environment) ≤ faults (disk_of y.environment) →
-      (observable ≡ true → IsGuarded p.most p.st p.start (history (disk_of y.environment)) y.environment x.journal.items) → IsUnderWay observable history faults p Nothing y
+  pub kept : (p : Beginning) (x y : Recorded D) → y.journal.items ≡ x.journal.items → IsUnderWay meaning p Nothing x →
+      IsAt p.most meaning.observable (now (meaning.history (disk_of y.environment))) y.environment (standing p x) → IsWithin (reach_of y.environment) (reach_of x.environment) → CanGoOn y.environment →
+      meaning.faults (disk_of x.environment) ≤ meaning.faults (disk_of y.environment) →
+      (meaning.observable ≡ true → IsGuarded p.most p.st p.start (meaning.history (disk_of y.environment)) y.environment x.journal.items) → IsUnderWay meaning p Nothing y
   kept p x y items under here within bounds steps guarded = record {
-    running = subst (λ (l : List Event). IsRunning observable history faults p Nothing y.environment l) (sym items) (record {
+    running = subst (λ (l : List Event). IsRunning meaning p Nothing y.environment l) (sym items) (record {
       here = here;
       limits = under.running.limits;
       answers = under.running.answers;
@@ -90,13 +91,13 @@ module _ {D : Type 0} (observable : Bool) (history : D → History) (faults : D 
       steps = under.running.steps;
       sessions = under.running.sessions;
       bounds = bounds;
-      caused = caused_later p.faults (faults (disk_of x.environment)) (faults (disk_of y.environment)) x.journal.items under.running.caused steps;
+      caused = caused_later p.faults (meaning.faults (disk_of x.environment)) (meaning.faults (disk_of y.environment)) x.journal.items under.running.caused steps;
     });
-    guarded = λ observed. subst (λ (l : List Event). IsGuarded p.most p.st p.start (history (disk_of y.environment)) y.environment l) (sym items) (guarded observed);
+    guarded = λ observed. subst (λ (l : List Event). IsGuarded p.most p.st p.start (meaning.history (disk_of y.environment)) y.environment l) (sym items) (guarded observed);
   }
 
   -- a logged commit that is not only written out waits for a sync
-  pub as_synced : (p : Beginning) (x : Recorded D) → IsUnderWay observable history faults p (Follow NoSync) x → IsUnderWay observable history faults p (Follow Sync) x
+  pub as_synced : (p : Beginning) (x : Recorded D) → IsUnderWay meaning p (Follow NoSync) x → IsUnderWay meaning p (Follow Sync) x
   as_synced p x under = record {
     running = record {
       here = under.running.here;
@@ -116,7 +117,7 @@ module _ {D : Type 0} (observable : Bool) (history : D → History) (faults : D 
   }
 
   -- where nothing is awaited a sync may be, unless the environment is invalid
-  pub may_sync : (p : Beginning) (x : Recorded D) → (standing p x).fault ≡ None → IsUnderWay observable history faults p Nothing x → IsUnderWay observable history faults p (Follow Sync) x
+  pub may_sync : (p : Beginning) (x : Recorded D) → (standing p x).fault ≡ None → IsUnderWay meaning p Nothing x → IsUnderWay meaning p (Follow Sync) x
   may_sync p x valid under = record {
     running = record {
       here = under.running.here;
@@ -136,13 +137,13 @@ module _ {D : Type 0} (observable : Bool) (history : D → History) (faults : D 
   }
 
   -- a run that begins
-  pub started : (p : Beginning) (x : Recorded D) → [] ≡ x.journal.items → Begins observable history faults p x.environment → IsUnderWay observable history faults p Nothing x
+  pub started : (p : Beginning) (x : Recorded D) → [] ≡ x.journal.items → Begins meaning p x.environment → IsUnderWay meaning p Nothing x
   started p x none begins = record {
-    running = subst (λ (l : List Event). IsRunning observable history faults p Nothing x.environment l) none begins.running;
-    guarded = λ observed. subst (λ (l : List Event). IsGuarded p.most p.st p.start (history (disk_of x.environment)) x.environment l) none (begins.guarded observed);
+    running = subst (λ (l : List Event). IsRunning meaning p Nothing x.environment l) none begins.running;
+    guarded = λ observed. subst (λ (l : List Event). IsGuarded p.most p.st p.start (meaning.history (disk_of x.environment)) x.environment l) none (begins.guarded observed);
   }
 
-  pub starts_calm : (p : Beginning) (x : Recorded D) → [] ≡ x.journal.items → Begins observable history faults p x.environment → IsCalm p x
+  pub starts_calm : (p : Beginning) (x : Recorded D) → [] ≡ x.journal.items → Begins meaning p x.environment → IsCalm p x
   starts_calm p x none begins = subst (λ (l : List Event). first_ready (after_events p.st l) ≡ None) none begins.calm
 
 module _ {D : Type 0} where

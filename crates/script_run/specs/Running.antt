@@ -1,6 +1,6 @@
 -- A run of lines: what it has been given, and whom it gives no more.
-use Rattle.std.specs.Prelude.{ℕ, ◌≡◌, ◌<◌, ◌++◌, ◌∷◌, [], List, None, Bool, true, false, length, slice_index_or}
-use Rattle.je_disk.specs.Moments.{History}
+use Rattle.std.specs.Prelude.{ℕ, ◌≡◌, ◌<◌, ◌++◌, ◌∷◌, [], List, None, true, false, length, slice_index_or}
+use Rattle.je_disk.specs.DiskMeaning.{DiskMeaning}
 use Rattle.je_answers.specs.Journal.{first_ready}
 use Rattle.store_model.specs.declared.event.Event.TheVariants.{End}
 use Rattle.store_model.specs.declared.plan.ScriptLine.{ScriptLine}
@@ -58,9 +58,9 @@ module _ {D : Type 0} where
   abbrev pub HasSettledOrHalted : Beginning → Running D → Running D → Type 0
   HasSettledOrHalted p old new = new.halted ≡ false → HasSettled p old.recorded new.recorded
 
-module _ {D : Type 0} (observable : Bool) (history : D → History) (faults : D → ℕ) where
+module _ {D : Type 0} (meaning : DiskMeaning D) where
   -- a run begins here with an environment in which no call may go on
   pub record Begins (p : Beginning) (environment : Environment D) : Type 0 where
-    pub running : IsRunning observable history faults p Nothing environment []
-    pub guarded : observable ≡ true → IsGuarded p.most p.st p.start (history (disk_of environment)) environment []
+    pub running : IsRunning meaning p Nothing environment []
+    pub guarded : meaning.observable ≡ true → IsGuarded p.most p.st p.start (meaning.history (disk_of environment)) environment []
     pub calm : first_ready p.st ≡ None

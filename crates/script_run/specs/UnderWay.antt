@@ -1,8 +1,9 @@
 -- A run under way.
-use Rattle.std.specs.Prelude.{ℕ, ◌≡◌, ◌≤◌, ◌<◌, ◌+◌, ◌⊎◌, List, Option, None, Some, Bool, Result, Ok, Err, true, length, vec_capacity, option_map}
+use Rattle.std.specs.Prelude.{ℕ, ◌≡◌, ◌≤◌, ◌<◌, ◌+◌, ◌⊎◌, List, Option, None, Some, Result, Ok, Err, true, length, vec_capacity, option_map}
 use Rattle.std.specs.declared.alloc.AllocError.{AllocError}
 use Rattle.std.specs.Option.{is_some}
 use Rattle.je_order.specs.Counts.{HasRisen}
+use Rattle.je_disk.specs.DiskMeaning.{DiskMeaning}
 use Rattle.je_disk.specs.Moments.{History, now}
 use Rattle.store_model.specs.declared.answer.Answer.{Answer}
 use Rattle.store_model.specs.declared.answer.Answer.TheVariants.{Durable}
@@ -40,11 +41,11 @@ pub record IsCaused (before after : ℕ) (journal : List Event) : Type 0 where
   pub never_falls : before ≤ after
   pub fault : has_answer is_disk_fault journal ≡ true → HasRisen before after
 
-module _ {D : Type 0} (observable : Bool) (history : D → History) (faults : D → ℕ) where
+module _ {D : Type 0} (meaning : DiskMeaning D) where
   -- A run is under way, whose last event may still wait for something. The environment is where the journal leaves the model; each answer so far is
   -- the model's, within the limits of the log; each commit was followed by what its durability asks for, and the calls that waited went on in order.
   pub record IsRunning (p : Beginning) (awaited : Awaited) (environment : Environment D) (journal : List Event) : Type 0 where
-    pub here : IsAt p.most observable (now (history (disk_of environment))) environment (after_events p.st journal)
+    pub here : IsAt p.most meaning.observable (now (meaning.history (disk_of environment))) environment (after_events p.st journal)
     pub limits : List (Option Answer)
     pub answers : AnswersAsModel p.st limits journal
     pub bounded : AreBounded p.first p.st journal limits
@@ -55,12 +56,12 @@ module _ {D : Type 0} (observable : Bool) (history : D → History) (faults : D 
     pub steps : AreStepsInPlace None p.st journal
     pub sessions : AreOf (λ s. s < 256) (after_events p.st journal).actives
     pub bounds : CanGoOn environment
-    pub caused : IsCaused p.faults (faults (disk_of environment)) journal
+    pub caused : IsCaused p.faults (meaning.faults (disk_of environment)) journal
 
   -- and where the disk is observable, it was safe at each moment
   pub record IsUnderWay (p : Beginning) (awaited : Awaited) (x : Recorded D) : Type 0 where
     pub running : IsRunning p awaited x.environment x.journal.items
-    pub guarded : observable ≡ true → IsGuarded p.most p.st p.start (history (disk_of x.environment)) x.environment x.journal.items
+    pub guarded : meaning.observable ≡ true → IsGuarded p.most p.st p.start (meaning.history (disk_of x.environment)) x.environment x.journal.items
 
   -- a call was given, and something may be awaited; or there was no memory, and nothing is
   abbrev pub GoesOnWith : Beginning → Result (Option Durability) AllocError → Recorded D → Type 0

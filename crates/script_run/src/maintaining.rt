@@ -23,10 +23,10 @@ fn is_sync(step: Step) -> bool
 impl<D: Disk> Recorded<D> {
     // Syncs the log where a step asks for it, unless the environment is invalid.
     fn sync_for(&mut self, step: Step)
-        requires here { (p : Beginning) × IsUnderWay D.observable D.history D.faults p Nothing self.old × IsCalm p self.old }
+        requires here { (p : Beginning) × IsUnderWay D.meaning p Nothing self.old × IsCalm p self.old }
         requires room { HasRoom 3 self.old }
-        ensures goes_on { (p : Beginning) → IsUnderWay D.observable D.history D.faults p Nothing self.old → IsCalm p self.old → IsUnderWay D.observable D.history D.faults p Nothing self.new }
-        ensures may { (p : Beginning) → IsUnderWay D.observable D.history D.faults p Nothing self.old → IsCalm p self.old → MayTurn p step self.new }
+        ensures goes_on { (p : Beginning) → IsUnderWay D.meaning p Nothing self.old → IsCalm p self.old → IsUnderWay D.meaning p Nothing self.new }
+        ensures may { (p : Beginning) → IsUnderWay D.meaning p Nothing self.old → IsCalm p self.old → MayTurn p step self.new }
         ensures gained { (stopped : List Bool) → HasGained stopped self.old.journal.items self.new.journal.items }
         ensures room { HasRoom 1 self.new }
     {
@@ -41,10 +41,10 @@ impl<D: Disk> Recorded<D> {
 
     // Takes a step, which the journal gains with its answer. Running out of memory leaves the journal as it was.
     fn turn(&mut self, alloc: Global, line: u32, step: Step) -> Result<(), AllocError>
-        requires here { (p : Beginning) × IsUnderWay D.observable D.history D.faults p Nothing self.old × MayTurn p step self.old }
+        requires here { (p : Beginning) × IsUnderWay D.meaning p Nothing self.old × MayTurn p step self.old }
         requires room { HasRoom 1 self.old }
         requires line { line ≢ 0 }
-        ensures goes_on { (p : Beginning) → IsUnderWay D.observable D.history D.faults p Nothing self.old → MayTurn p step self.old → IsUnderWay D.observable D.history D.faults p Nothing self.new }
+        ensures goes_on { (p : Beginning) → IsUnderWay D.meaning p Nothing self.old → MayTurn p step self.old → IsUnderWay D.meaning p Nothing self.new }
         ensures line { OnOk result (lines_of self.new.journal.items ≡ lines_of self.old.journal.items ++ Maintenance line step ∷ []) }
         ensures ends { (stopped : List Bool) → AreEndsStopped stopped self.old.journal.items → AreEndsStopped stopped self.new.journal.items }
         ensures err { OnErr result (self.new.journal.items ≡ self.old.journal.items) }
@@ -60,9 +60,9 @@ impl<D: Disk> Recorded<D> {
     /// Gives a step of maintenance, while no call may go on; one that asks for a sync is behind that sync.
     /// Running out of memory leaves the step out of the journal.
     pub fn maintain(&mut self, alloc: Global, line: u32, step: Step) -> Result<(), AllocError>
-        requires here { (p : Beginning) × IsUnderWay D.observable D.history D.faults p Nothing self.old × IsCalm p self.old }
+        requires here { (p : Beginning) × IsUnderWay D.meaning p Nothing self.old × IsCalm p self.old }
         requires line { line ≢ 0 }
-        ensures goes_on { (p : Beginning) → IsUnderWay D.observable D.history D.faults p Nothing self.old → IsCalm p self.old → IsUnderWay D.observable D.history D.faults p Nothing self.new }
+        ensures goes_on { (p : Beginning) → IsUnderWay D.meaning p Nothing self.old → IsCalm p self.old → IsUnderWay D.meaning p Nothing self.new }
         ensures line { OnOk result (lines_of self.new.journal.items ≡ lines_of self.old.journal.items ++ Maintenance line step ∷ []) }
         ensures ends { (stopped : List Bool) → AreEndsStopped stopped self.old.journal.items → AreEndsStopped stopped self.new.journal.items }
         ensures err { OnErr result (lines_of self.new.journal.items ≡ lines_of self.old.journal.items) }

@@ -65,9 +65,9 @@ impl<D: Disk> Recorded<D> {
         line: u32,
         call: Call,
     ) -> Result<Option<Durability>, AllocError>
-        requires here { (p : Beginning) × IsUnderWay D.observable D.history D.faults p Nothing self.old }
+        requires here { (p : Beginning) × IsUnderWay D.meaning p Nothing self.old }
         requires room { HasRoom 3 self.old }
-        ensures goes_on { (p : Beginning) → IsUnderWay D.observable D.history D.faults p Nothing self.old → IsCalm p self.old → GoesOnWith D.observable D.history D.faults p result self.new }
+        ensures goes_on { (p : Beginning) → IsUnderWay D.meaning p Nothing self.old → IsCalm p self.old → GoesOnWith D.meaning p result self.new }
         ensures line { OnOk result (lines_of self.new.journal.items ≡ lines_of self.old.journal.items ++ Session session line call ∷ []) }
         ensures ends { (stopped : List Bool) → slice_index_or stopped session false ≡ false → AreEndsStopped stopped self.old.journal.items → AreEndsStopped stopped self.new.journal.items }
         ensures err { OnErr result (self.new.journal.items ≡ self.old.journal.items) }
@@ -103,11 +103,11 @@ impl<D: Disk> Recorded<D> {
         session: u8,
         line: u32,
     ) -> Result<Option<Durability>, AllocError>
-        requires here { (p : Beginning) × IsUnderWay D.observable D.history D.faults p Nothing self.old × IsNext p session line self.old }
+        requires here { (p : Beginning) × IsUnderWay D.meaning p Nothing self.old × IsNext p session line self.old }
         requires room { HasRoom 3 self.old }
-        ensures goes_on { (p : Beginning) → IsUnderWay D.observable D.history D.faults p Nothing self.old → IsNext p session line self.old → GoesOnWith D.observable D.history D.faults p result self.new }
-        ensures settles { (p : Beginning) → IsUnderWay D.observable D.history D.faults p Nothing self.old → IsNext p session line self.old → Settles p result self.old self.new }
-        ensures begins_none { (p : Beginning) → IsUnderWay D.observable D.history D.faults p Nothing self.old → IsNext p session line self.old → BeginsNone p self.old self.new }
+        ensures goes_on { (p : Beginning) → IsUnderWay D.meaning p Nothing self.old → IsNext p session line self.old → GoesOnWith D.meaning p result self.new }
+        ensures settles { (p : Beginning) → IsUnderWay D.meaning p Nothing self.old → IsNext p session line self.old → Settles p result self.old self.new }
+        ensures begins_none { (p : Beginning) → IsUnderWay D.meaning p Nothing self.old → IsNext p session line self.old → BeginsNone p self.old self.new }
         ensures gained { (stopped : List Bool) → OnErr result (IsStopped stopped session) → HasGained stopped self.old.journal.items self.new.journal.items }
         ensures room { OnOk result (HasRoom 2 self.new) }
     {
@@ -135,9 +135,9 @@ impl<D: Disk> Recorded<D> {
     /// Ends a session, for which the journal has room: its call that waits is withdrawn, and its transaction
     /// aborted.
     pub fn end_session(&mut self, session: u8)
-        requires here { (p : Beginning) × IsUnderWay D.observable D.history D.faults p Nothing self.old }
+        requires here { (p : Beginning) × IsUnderWay D.meaning p Nothing self.old }
         requires room { HasRoom 1 self.old }
-        ensures goes_on { (p : Beginning) → IsUnderWay D.observable D.history D.faults p Nothing self.old → MayEnd p session self.old → IsUnderWay D.observable D.history D.faults p Nothing self.new }
+        ensures goes_on { (p : Beginning) → IsUnderWay D.meaning p Nothing self.old → MayEnd p session self.old → IsUnderWay D.meaning p Nothing self.new }
         ensures ended { self.new.journal.items ≡ self.old.journal.items ++ End session ∷ [] }
     {
         self.environment.end_session(session);
@@ -146,9 +146,9 @@ impl<D: Disk> Recorded<D> {
 
     // Writes the log out, which a commit waits for.
     fn write_out(&mut self)
-        requires here { (p : Beginning) × IsUnderWay D.observable D.history D.faults p (Follow WriteNoSync) self.old }
+        requires here { (p : Beginning) × IsUnderWay D.meaning p (Follow WriteNoSync) self.old }
         requires room { HasRoom 2 self.old }
-        ensures goes_on { (p : Beginning) → IsUnderWay D.observable D.history D.faults p (Follow WriteNoSync) self.old → IsUnderWay D.observable D.history D.faults p Nothing self.new }
+        ensures goes_on { (p : Beginning) → IsUnderWay D.meaning p (Follow WriteNoSync) self.old → IsUnderWay D.meaning p Nothing self.new }
         ensures alike { (p : Beginning) → StandsAlike p self.old self.new }
         ensures gained { (stopped : List Bool) → HasGained stopped self.old.journal.items self.new.journal.items }
     {
@@ -158,11 +158,11 @@ impl<D: Disk> Recorded<D> {
 
     // Syncs the log, which a commit waits for, or a step.
     pub(crate) fn sync(&mut self)
-        requires here { (p : Beginning) × IsUnderWay D.observable D.history D.faults p (Follow Sync) self.old }
+        requires here { (p : Beginning) × IsUnderWay D.meaning p (Follow Sync) self.old }
         requires room { HasRoom 2 self.old }
-        ensures goes_on { (p : Beginning) → IsUnderWay D.observable D.history D.faults p (Follow Sync) self.old → IsUnderWay D.observable D.history D.faults p Nothing self.new }
+        ensures goes_on { (p : Beginning) → IsUnderWay D.meaning p (Follow Sync) self.old → IsUnderWay D.meaning p Nothing self.new }
         ensures alike { (p : Beginning) → StandsAlike p self.old self.new }
-        ensures synced { (p : Beginning) → IsUnderWay D.observable D.history D.faults p (Follow Sync) self.old → HasSynced p self.old self.new }
+        ensures synced { (p : Beginning) → IsUnderWay D.meaning p (Follow Sync) self.old → HasSynced p self.old self.new }
         ensures gained { (stopped : List Bool) → HasGained stopped self.old.journal.items self.new.journal.items }
         ensures room { HasRoom 3 self.old → HasRoom 1 self.new }
     {
@@ -180,9 +180,9 @@ impl<D: Disk> Recorded<D> {
 
     // Does what a commit of this durability waits for.
     fn follow_commit(&mut self, durability: Durability)
-        requires here { (p : Beginning) × IsUnderWay D.observable D.history D.faults p (Follow durability) self.old }
+        requires here { (p : Beginning) × IsUnderWay D.meaning p (Follow durability) self.old }
         requires room { HasRoom 2 self.old }
-        ensures goes_on { (p : Beginning) → IsUnderWay D.observable D.history D.faults p (Follow durability) self.old → IsUnderWay D.observable D.history D.faults p Nothing self.new }
+        ensures goes_on { (p : Beginning) → IsUnderWay D.meaning p (Follow durability) self.old → IsUnderWay D.meaning p Nothing self.new }
         ensures alike { (p : Beginning) → StandsAlike p self.old self.new }
         ensures gained { (stopped : List Bool) → HasGained stopped self.old.journal.items self.new.journal.items }
     {
@@ -196,9 +196,9 @@ impl<D: Disk> Recorded<D> {
 
     // Does what a commit waits for, if one does.
     fn follow(&mut self, awaited: Option<Durability>)
-        requires here { (p : Beginning) × IsUnderWay D.observable D.history D.faults p (awaited_of awaited) self.old }
+        requires here { (p : Beginning) × IsUnderWay D.meaning p (awaited_of awaited) self.old }
         requires room { HasRoom 2 self.old }
-        ensures goes_on { (p : Beginning) → IsUnderWay D.observable D.history D.faults p (awaited_of awaited) self.old → IsUnderWay D.observable D.history D.faults p Nothing self.new }
+        ensures goes_on { (p : Beginning) → IsUnderWay D.meaning p (awaited_of awaited) self.old → IsUnderWay D.meaning p Nothing self.new }
         ensures alike { (p : Beginning) → StandsAlike p self.old self.new }
         ensures none { awaited ≡ None → self.new ≡ self.old }
         ensures gained { (stopped : List Bool) → HasGained stopped self.old.journal.items self.new.journal.items }
@@ -211,7 +211,7 @@ impl<D: Disk> Recorded<D> {
 
     /// Makes room in the journal for so many events more.
     pub fn make_room(&mut self, events: usize) -> Result<(), AllocError>
-        ensures goes_on { (p : Beginning) → IsUnderWay D.observable D.history D.faults p Nothing self.old → IsUnderWay D.observable D.history D.faults p Nothing self.new }
+        ensures goes_on { (p : Beginning) → IsUnderWay D.meaning p Nothing self.old → IsUnderWay D.meaning p Nothing self.new }
         ensures same { self.new.environment ≡ self.old.environment }
         ensures items { self.new.journal.items ≡ self.old.journal.items }
         ensures room { OnOk result (HasRoom events self.new) }
@@ -228,8 +228,8 @@ impl<D: Disk> Recorded<D> {
         line: u32,
         call: Call,
     ) -> Result<(), AllocError>
-        requires here { (p : Beginning) × IsUnderWay D.observable D.history D.faults p Nothing self.old × IsCalm p self.old }
-        ensures goes_on { (p : Beginning) → IsUnderWay D.observable D.history D.faults p Nothing self.old → IsCalm p self.old → IsUnderWay D.observable D.history D.faults p Nothing self.new }
+        requires here { (p : Beginning) × IsUnderWay D.meaning p Nothing self.old × IsCalm p self.old }
+        ensures goes_on { (p : Beginning) → IsUnderWay D.meaning p Nothing self.old → IsCalm p self.old → IsUnderWay D.meaning p Nothing self.new }
         ensures line { OnOk result (lines_of self.new.journal.items ≡ lines_of self.old.journal.items ++ Session session line call ∷ []) }
         ensures ends { (stopped : List Bool) → slice_index_or stopped session false ≡ false → AreEndsStopped stopped self.old.journal.items → AreEndsStopped stopped self.new.journal.items }
         ensures err { OnErr result (self.new.journal.items ≡ self.old.journal.items) }
@@ -246,11 +246,11 @@ impl<D: Disk> Recorded<D> {
     /// Goes on with the first call that may, and does what its commit waits for. Where memory runs out, its
     /// session is ended.
     pub fn go_on(&mut self, alloc: Global, session: u8, line: u32) -> Result<(), AllocError>
-        requires here { (p : Beginning) × IsUnderWay D.observable D.history D.faults p Nothing self.old × IsNext p session line self.old }
+        requires here { (p : Beginning) × IsUnderWay D.meaning p Nothing self.old × IsNext p session line self.old }
         requires room { HasRoom 3 self.old }
-        ensures goes_on { (p : Beginning) → IsUnderWay D.observable D.history D.faults p Nothing self.old → IsNext p session line self.old → IsUnderWay D.observable D.history D.faults p Nothing self.new }
-        ensures settles { (p : Beginning) → IsUnderWay D.observable D.history D.faults p Nothing self.old → IsNext p session line self.old → HasSettled p self.old self.new }
-        ensures begins_none { (p : Beginning) → IsUnderWay D.observable D.history D.faults p Nothing self.old → IsNext p session line self.old → BeginsNone p self.old self.new }
+        ensures goes_on { (p : Beginning) → IsUnderWay D.meaning p Nothing self.old → IsNext p session line self.old → IsUnderWay D.meaning p Nothing self.new }
+        ensures settles { (p : Beginning) → IsUnderWay D.meaning p Nothing self.old → IsNext p session line self.old → HasSettled p self.old self.new }
+        ensures begins_none { (p : Beginning) → IsUnderWay D.meaning p Nothing self.old → IsNext p session line self.old → BeginsNone p self.old self.new }
         ensures gained { (stopped : List Bool) → OnErr result (IsStopped stopped session) → HasGained stopped self.old.journal.items self.new.journal.items }
     {
         let awaited = self.resume(alloc, session, line)?;

@@ -90,10 +90,10 @@ impl<D: Disk> Running<D> {
 
     // Ends a session that may end; where the journal has no room for that, the run is halted.
     fn end_session(&mut self, session: u8)
-        requires here { (p : Beginning) × IsUnderWay D.observable D.history D.faults p Nothing self.old.recorded }
+        requires here { (p : Beginning) × IsUnderWay D.meaning p Nothing self.old.recorded }
         requires flags { AreFlags self.old }
         ensures flags { AreFlags self.new }
-        ensures goes_on { (p : Beginning) → IsUnderWay D.observable D.history D.faults p Nothing self.old.recorded → MayEnd p session self.old.recorded → IsUnderWay D.observable D.history D.faults p Nothing self.new.recorded }
+        ensures goes_on { (p : Beginning) → IsUnderWay D.meaning p Nothing self.old.recorded → MayEnd p session self.old.recorded → IsUnderWay D.meaning p Nothing self.new.recorded }
         ensures ended { HasEnded session self.old self.new ⊎ HasHalted self.old self.new }
         ensures given { (lines : List Line) → HasLines self.old lines → HasLines self.new lines }
     {
@@ -106,10 +106,10 @@ impl<D: Disk> Running<D> {
 
     // The first call that may go on, unless the run was halted.
     fn next_ready(&self) -> Option<(u8, u32)>
-        requires here { (p : Beginning) × IsUnderWay D.observable D.history D.faults p Nothing self.now.recorded }
-        ensures next { (p : Beginning) → IsUnderWay D.observable D.history D.faults p Nothing self.now.recorded → IfSome result (λ q. IsNext p q.0 q.1 self.now.recorded) }
+        requires here { (p : Beginning) × IsUnderWay D.meaning p Nothing self.now.recorded }
+        ensures next { (p : Beginning) → IsUnderWay D.meaning p Nothing self.now.recorded → IfSome result (λ q. IsNext p q.0 q.1 self.now.recorded) }
         ensures works { IfSome result (λ q. self.now.halted ≡ false) }
-        ensures none { (p : Beginning) → IsUnderWay D.observable D.history D.faults p Nothing self.now.recorded → IsNone result → IsCalmOrHalted p self.now }
+        ensures none { (p : Beginning) → IsUnderWay D.meaning p Nothing self.now.recorded → IsNone result → IsCalmOrHalted p self.now }
     {
         if self.halted {
             return None;
@@ -119,12 +119,12 @@ impl<D: Disk> Running<D> {
 
     // Goes on with the first call that may.
     fn go_on(&mut self, alloc: Global, session: u8, line: u32)
-        requires here { (p : Beginning) × IsUnderWay D.observable D.history D.faults p Nothing self.old.recorded × IsNext p session line self.old.recorded }
+        requires here { (p : Beginning) × IsUnderWay D.meaning p Nothing self.old.recorded × IsNext p session line self.old.recorded }
         requires flags { AreFlags self.old }
         ensures flags { AreFlags self.new }
-        ensures goes_on { (p : Beginning) → IsUnderWay D.observable D.history D.faults p Nothing self.old.recorded → IsNext p session line self.old.recorded → IsUnderWay D.observable D.history D.faults p Nothing self.new.recorded }
-        ensures settles { (p : Beginning) → IsUnderWay D.observable D.history D.faults p Nothing self.old.recorded → IsNext p session line self.old.recorded → HasSettledOrHalted p self.old self.new }
-        ensures begins_none { (p : Beginning) → IsUnderWay D.observable D.history D.faults p Nothing self.old.recorded → IsNext p session line self.old.recorded → BeginsNone p self.old.recorded self.new.recorded }
+        ensures goes_on { (p : Beginning) → IsUnderWay D.meaning p Nothing self.old.recorded → IsNext p session line self.old.recorded → IsUnderWay D.meaning p Nothing self.new.recorded }
+        ensures settles { (p : Beginning) → IsUnderWay D.meaning p Nothing self.old.recorded → IsNext p session line self.old.recorded → HasSettledOrHalted p self.old self.new }
+        ensures begins_none { (p : Beginning) → IsUnderWay D.meaning p Nothing self.old.recorded → IsNext p session line self.old.recorded → BeginsNone p self.old.recorded self.new.recorded }
         ensures gone_on { HasGoneOn self.old self.new }
         ensures given { (lines : List Line) → HasLines self.old lines → HasLines self.new lines }
     {
@@ -141,12 +141,12 @@ impl<D: Disk> Running<D> {
     // Goes on with the calls that may, one after another. Each is answered, or waits again; so `waiting` falls, or
     // `left`, which no fewer may go on than.
     fn resume_ready(&mut self, alloc: Global)
-        requires here { (p : Beginning) × IsUnderWay D.observable D.history D.faults p Nothing self.old.recorded }
+        requires here { (p : Beginning) × IsUnderWay D.meaning p Nothing self.old.recorded }
         requires flags { AreFlags self.old }
         ensures flags { AreFlags self.new }
-        ensures goes_on { (p : Beginning) → IsUnderWay D.observable D.history D.faults p Nothing self.old.recorded → IsUnderWay D.observable D.history D.faults p Nothing self.new.recorded }
-        ensures calm { (p : Beginning) → IsUnderWay D.observable D.history D.faults p Nothing self.old.recorded → IsCalmOrHalted p self.new }
-        ensures begins_none { (p : Beginning) → IsUnderWay D.observable D.history D.faults p Nothing self.old.recorded → BeginsNone p self.old.recorded self.new.recorded }
+        ensures goes_on { (p : Beginning) → IsUnderWay D.meaning p Nothing self.old.recorded → IsUnderWay D.meaning p Nothing self.new.recorded }
+        ensures calm { (p : Beginning) → IsUnderWay D.meaning p Nothing self.old.recorded → IsCalmOrHalted p self.new }
+        ensures begins_none { (p : Beginning) → IsUnderWay D.meaning p Nothing self.old.recorded → BeginsNone p self.old.recorded self.new.recorded }
         ensures gone_on { HasGoneOn self.old self.new }
         ensures given { (lines : List Line) → HasLines self.old lines → HasLines self.new lines }
     {
@@ -165,10 +165,10 @@ impl<D: Disk> Running<D> {
 
     // Gives a line, unless its session was ended. A call that finds no memory ends its session.
     fn give_line(&mut self, alloc: Global, session: u8, line: u32, call: Call)
-        requires here { (p : Beginning) × IsUnderWay D.observable D.history D.faults p Nothing self.old.recorded × IsCalmOrHalted p self.old }
+        requires here { (p : Beginning) × IsUnderWay D.meaning p Nothing self.old.recorded × IsCalmOrHalted p self.old }
         requires flags { AreFlags self.old }
         ensures flags { AreFlags self.new }
-        ensures goes_on { (p : Beginning) → IsUnderWay D.observable D.history D.faults p Nothing self.old.recorded → IsCalmOrHalted p self.old → IsUnderWay D.observable D.history D.faults p Nothing self.new.recorded }
+        ensures goes_on { (p : Beginning) → IsUnderWay D.meaning p Nothing self.old.recorded → IsCalmOrHalted p self.old → IsUnderWay D.meaning p Nothing self.new.recorded }
         ensures ends { EndsStopped self.old → EndsStopped self.new }
         ensures given { (lines : List Line) → HasLines self.old lines → HasLines self.new (lines ++ Session session line call ∷ []) }
     {
@@ -188,11 +188,11 @@ impl<D: Disk> Running<D> {
 
     // Gives a line; then the calls that may go on do.
     fn execute_line(&mut self, alloc: Global, session: u8, line: u32, call: Call)
-        requires here { (p : Beginning) × IsUnderWay D.observable D.history D.faults p Nothing self.old.recorded × IsCalmOrHalted p self.old }
+        requires here { (p : Beginning) × IsUnderWay D.meaning p Nothing self.old.recorded × IsCalmOrHalted p self.old }
         requires flags { AreFlags self.old }
         ensures flags { AreFlags self.new }
-        ensures goes_on { (p : Beginning) → IsUnderWay D.observable D.history D.faults p Nothing self.old.recorded → IsCalmOrHalted p self.old → IsUnderWay D.observable D.history D.faults p Nothing self.new.recorded }
-        ensures calm { (p : Beginning) → IsUnderWay D.observable D.history D.faults p Nothing self.old.recorded → IsCalmOrHalted p self.old → IsCalmOrHalted p self.new }
+        ensures goes_on { (p : Beginning) → IsUnderWay D.meaning p Nothing self.old.recorded → IsCalmOrHalted p self.old → IsUnderWay D.meaning p Nothing self.new.recorded }
+        ensures calm { (p : Beginning) → IsUnderWay D.meaning p Nothing self.old.recorded → IsCalmOrHalted p self.old → IsCalmOrHalted p self.new }
         ensures ends { EndsStopped self.old → EndsStopped self.new }
         ensures given { (lines : List Line) → HasLines self.old lines → HasLines self.new (lines ++ Session session line call ∷ []) }
     {
@@ -202,11 +202,11 @@ impl<D: Disk> Running<D> {
 
     // Gives a step of maintenance, unless one found no memory.
     fn give_step(&mut self, alloc: Global, line: u32, step: Step)
-        requires here { (p : Beginning) × IsUnderWay D.observable D.history D.faults p Nothing self.old.recorded × IsCalmOrHalted p self.old }
+        requires here { (p : Beginning) × IsUnderWay D.meaning p Nothing self.old.recorded × IsCalmOrHalted p self.old }
         requires flags { AreFlags self.old }
         requires line { line ≢ 0 }
         ensures flags { AreFlags self.new }
-        ensures goes_on { (p : Beginning) → IsUnderWay D.observable D.history D.faults p Nothing self.old.recorded → IsCalmOrHalted p self.old → IsUnderWay D.observable D.history D.faults p Nothing self.new.recorded }
+        ensures goes_on { (p : Beginning) → IsUnderWay D.meaning p Nothing self.old.recorded → IsCalmOrHalted p self.old → IsUnderWay D.meaning p Nothing self.new.recorded }
         ensures ends { EndsStopped self.old → EndsStopped self.new }
         ensures given { (lines : List Line) → HasLines self.old lines → HasLines self.new (lines ++ Maintenance line step ∷ []) }
     {
@@ -221,12 +221,12 @@ impl<D: Disk> Running<D> {
 
     // Gives a step of maintenance; then the calls that may go on do.
     fn execute_step(&mut self, alloc: Global, line: u32, step: Step)
-        requires here { (p : Beginning) × IsUnderWay D.observable D.history D.faults p Nothing self.old.recorded × IsCalmOrHalted p self.old }
+        requires here { (p : Beginning) × IsUnderWay D.meaning p Nothing self.old.recorded × IsCalmOrHalted p self.old }
         requires flags { AreFlags self.old }
         requires line { line ≢ 0 }
         ensures flags { AreFlags self.new }
-        ensures goes_on { (p : Beginning) → IsUnderWay D.observable D.history D.faults p Nothing self.old.recorded → IsCalmOrHalted p self.old → IsUnderWay D.observable D.history D.faults p Nothing self.new.recorded }
-        ensures calm { (p : Beginning) → IsUnderWay D.observable D.history D.faults p Nothing self.old.recorded → IsCalmOrHalted p self.old → IsCalmOrHalted p self.new }
+        ensures goes_on { (p : Beginning) → IsUnderWay D.meaning p Nothing self.old.recorded → IsCalmOrHalted p self.old → IsUnderWay D.meaning p Nothing self.new.recorded }
+        ensures calm { (p : Beginning) → IsUnderWay D.meaning p Nothing self.old.recorded → IsCalmOrHalted p self.old → IsCalmOrHalted p self.new }
         ensures ends { EndsStopped self.old → EndsStopped self.new }
         ensures given { (lines : List Line) → HasLines self.old lines → HasLines self.new (lines ++ Maintenance line step ∷ []) }
     {
@@ -236,12 +236,12 @@ impl<D: Disk> Running<D> {
 
     // Gives the next line.
     fn execute_next(&mut self, alloc: Global, given: ScriptLine)
-        requires here { (p : Beginning) × IsUnderWay D.observable D.history D.faults p Nothing self.old.recorded × IsCalmOrHalted p self.old }
+        requires here { (p : Beginning) × IsUnderWay D.meaning p Nothing self.old.recorded × IsCalmOrHalted p self.old }
         requires flags { AreFlags self.old }
         requires line { is_line given ≡ true }
         ensures flags { AreFlags self.new }
-        ensures goes_on { (p : Beginning) → IsUnderWay D.observable D.history D.faults p Nothing self.old.recorded → IsCalmOrHalted p self.old → IsUnderWay D.observable D.history D.faults p Nothing self.new.recorded }
-        ensures calm { (p : Beginning) → IsUnderWay D.observable D.history D.faults p Nothing self.old.recorded → IsCalmOrHalted p self.old → IsCalmOrHalted p self.new }
+        ensures goes_on { (p : Beginning) → IsUnderWay D.meaning p Nothing self.old.recorded → IsCalmOrHalted p self.old → IsUnderWay D.meaning p Nothing self.new.recorded }
+        ensures calm { (p : Beginning) → IsUnderWay D.meaning p Nothing self.old.recorded → IsCalmOrHalted p self.old → IsCalmOrHalted p self.new }
         ensures ends { EndsStopped self.old → EndsStopped self.new }
         ensures given { (lines : List Line) → HasLines self.old lines → HasLines self.new (lines ++ given ∷ []) }
     {
@@ -257,14 +257,14 @@ impl<D: Disk> Running<D> {
 
     // Ends a session that has a transaction; then the calls that may go on do.
     fn end_if_open(&mut self, alloc: Global, session: u8)
-        requires here { (p : Beginning) × IsUnderWay D.observable D.history D.faults p Nothing self.old.recorded × IsCalmOrHalted p self.old }
+        requires here { (p : Beginning) × IsUnderWay D.meaning p Nothing self.old.recorded × IsCalmOrHalted p self.old }
         requires flags { AreFlags self.old }
         ensures flags { AreFlags self.new }
-        ensures goes_on { (p : Beginning) → IsUnderWay D.observable D.history D.faults p Nothing self.old.recorded → IsCalmOrHalted p self.old → IsUnderWay D.observable D.history D.faults p Nothing self.new.recorded }
-        ensures calm { (p : Beginning) → IsUnderWay D.observable D.history D.faults p Nothing self.old.recorded → IsCalmOrHalted p self.old → IsCalmOrHalted p self.new }
-        ensures begins_none { (p : Beginning) → IsUnderWay D.observable D.history D.faults p Nothing self.old.recorded → IsCalmOrHalted p self.old → BeginsNone p self.old.recorded self.new.recorded }
-        ensures ended { (p : Beginning) → IsUnderWay D.observable D.history D.faults p Nothing self.old.recorded → IsCalmOrHalted p self.old → self.new.halted ≡ false → IsOutside p session self.new.recorded }
-        ensures ends { (p : Beginning) → IsUnderWay D.observable D.history D.faults p Nothing self.old.recorded → IsCalmOrHalted p self.old → EndsBelow p session self.old → EndsBelow p (session + 1) self.new }
+        ensures goes_on { (p : Beginning) → IsUnderWay D.meaning p Nothing self.old.recorded → IsCalmOrHalted p self.old → IsUnderWay D.meaning p Nothing self.new.recorded }
+        ensures calm { (p : Beginning) → IsUnderWay D.meaning p Nothing self.old.recorded → IsCalmOrHalted p self.old → IsCalmOrHalted p self.new }
+        ensures begins_none { (p : Beginning) → IsUnderWay D.meaning p Nothing self.old.recorded → IsCalmOrHalted p self.old → BeginsNone p self.old.recorded self.new.recorded }
+        ensures ended { (p : Beginning) → IsUnderWay D.meaning p Nothing self.old.recorded → IsCalmOrHalted p self.old → self.new.halted ≡ false → IsOutside p session self.new.recorded }
+        ensures ends { (p : Beginning) → IsUnderWay D.meaning p Nothing self.old.recorded → IsCalmOrHalted p self.old → EndsBelow p session self.old → EndsBelow p (session + 1) self.new }
         ensures works { self.new.halted ≡ false → self.old.halted ≡ false }
         ensures given { (lines : List Line) → HasLines self.old lines → HasLines self.new lines }
     {
@@ -280,13 +280,13 @@ impl<D: Disk> Running<D> {
 
     // Ends each session that has a transaction, in the order of their numbers.
     fn end_sessions(&mut self, alloc: Global)
-        requires here { (p : Beginning) × IsUnderWay D.observable D.history D.faults p Nothing self.old.recorded × IsCalmOrHalted p self.old }
+        requires here { (p : Beginning) × IsUnderWay D.meaning p Nothing self.old.recorded × IsCalmOrHalted p self.old }
         requires flags { AreFlags self.old }
         ensures flags { AreFlags self.new }
-        ensures goes_on { (p : Beginning) → IsUnderWay D.observable D.history D.faults p Nothing self.old.recorded → IsCalmOrHalted p self.old → IsUnderWay D.observable D.history D.faults p Nothing self.new.recorded }
-        ensures calm { (p : Beginning) → IsUnderWay D.observable D.history D.faults p Nothing self.old.recorded → IsCalmOrHalted p self.old → IsCalmOrHalted p self.new }
-        ensures ended { (p : Beginning) → IsUnderWay D.observable D.history D.faults p Nothing self.old.recorded → IsCalmOrHalted p self.old → self.new.halted ≡ false → (standing p self.new.recorded).actives ≡ [] }
-        ensures ends { (p : Beginning) → IsUnderWay D.observable D.history D.faults p Nothing self.old.recorded → IsCalmOrHalted p self.old → EndsStopped self.old → AreEndsInPlace self.new.stopped p.st self.new.recorded.journal.items }
+        ensures goes_on { (p : Beginning) → IsUnderWay D.meaning p Nothing self.old.recorded → IsCalmOrHalted p self.old → IsUnderWay D.meaning p Nothing self.new.recorded }
+        ensures calm { (p : Beginning) → IsUnderWay D.meaning p Nothing self.old.recorded → IsCalmOrHalted p self.old → IsCalmOrHalted p self.new }
+        ensures ended { (p : Beginning) → IsUnderWay D.meaning p Nothing self.old.recorded → IsCalmOrHalted p self.old → self.new.halted ≡ false → (standing p self.new.recorded).actives ≡ [] }
+        ensures ends { (p : Beginning) → IsUnderWay D.meaning p Nothing self.old.recorded → IsCalmOrHalted p self.old → EndsStopped self.old → AreEndsInPlace self.new.stopped p.st self.new.recorded.journal.items }
         ensures given { (lines : List Line) → HasLines self.old lines → HasLines self.new lines }
     {
         for session in 0..=255u8 {
@@ -296,13 +296,13 @@ impl<D: Disk> Running<D> {
 
     // Gives lines, one after another.
     fn execute_all(&mut self, alloc: Global, lines: Vec<ScriptLine>)
-        requires here { (p : Beginning) × IsUnderWay D.observable D.history D.faults p Nothing self.old.recorded × IsCalmOrHalted p self.old }
+        requires here { (p : Beginning) × IsUnderWay D.meaning p Nothing self.old.recorded × IsCalmOrHalted p self.old }
         requires flags { AreFlags self.old }
         requires lines { list_all is_line lines.items ≡ true }
         requires given { HasLines self.old [] }
         ensures flags { AreFlags self.new }
-        ensures goes_on { (p : Beginning) → IsUnderWay D.observable D.history D.faults p Nothing self.old.recorded → IsCalmOrHalted p self.old → IsUnderWay D.observable D.history D.faults p Nothing self.new.recorded }
-        ensures calm { (p : Beginning) → IsUnderWay D.observable D.history D.faults p Nothing self.old.recorded → IsCalmOrHalted p self.old → IsCalmOrHalted p self.new }
+        ensures goes_on { (p : Beginning) → IsUnderWay D.meaning p Nothing self.old.recorded → IsCalmOrHalted p self.old → IsUnderWay D.meaning p Nothing self.new.recorded }
+        ensures calm { (p : Beginning) → IsUnderWay D.meaning p Nothing self.old.recorded → IsCalmOrHalted p self.old → IsCalmOrHalted p self.new }
         ensures ends { EndsStopped self.old → EndsStopped self.new }
         ensures given { HasLines self.new lines.items }
     {
@@ -322,12 +322,12 @@ pub fn run<D: Disk>(
     environment: Environment<D>,
     lines: Vec<ScriptLine>,
 ) -> Running<D>
-    requires start { (p : Beginning) × Begins D.observable D.history D.faults p environment }
+    requires start { (p : Beginning) × Begins D.meaning p environment }
     requires lines { list_all is_line lines.items ≡ true }
-    ensures goes_on { (p : Beginning) → Begins D.observable D.history D.faults p environment → IsUnderWay D.observable D.history D.faults p Nothing result.recorded }
-    ensures calm { (p : Beginning) → Begins D.observable D.history D.faults p environment → result.memory_ended ≡ false → IsCalm p result.recorded }
-    ensures ended { (p : Beginning) → Begins D.observable D.history D.faults p environment → result.memory_ended ≡ false → (standing p result.recorded).actives ≡ [] }
-    ensures ends { (p : Beginning) → Begins D.observable D.history D.faults p environment → AreEndsInPlace result.stopped p.st result.recorded.journal.items }
+    ensures goes_on { (p : Beginning) → Begins D.meaning p environment → IsUnderWay D.meaning p Nothing result.recorded }
+    ensures calm { (p : Beginning) → Begins D.meaning p environment → result.memory_ended ≡ false → IsCalm p result.recorded }
+    ensures ended { (p : Beginning) → Begins D.meaning p environment → result.memory_ended ≡ false → (standing p result.recorded).actives ≡ [] }
+    ensures ends { (p : Beginning) → Begins D.meaning p environment → AreEndsInPlace result.stopped p.st result.recorded.journal.items }
     ensures given { HasLines result lines.items }
 {
     let recorded = Recorded {

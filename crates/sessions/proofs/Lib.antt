@@ -1,6 +1,6 @@
 -- A waiting call that is taken out.
 pub mod Waits
--- Own changes that are put and cut off.
+-- Transactions with own changes, by their counts.
 pub mod Owns
 -- A wait that is forgotten.
 pub mod Forgetting

@@ -8,7 +8,7 @@ use Rattle.je_answers.specs.declared.active.Active.{Active}
 use Rattle.je_answers.specs.Standing.{LockState, Standing}
 use Rattle.je_answers.specs.After.{marked, is_victim, all_ended, autos_in, without_waits_of, with_victims}
 use Rattle.active_txns.specs.Marks.{HaveOwnSessions}
-use Rattle.active_txns.specs.Own.{own_of}
+use Rattle.active_txns.specs.Own.{AreCounted, OwnEntries}
 use Rattle.open_cursors.specs.declared.open_cursors.OpenCursors.{OpenCursors}
 use Rattle.txn_locks.specs.declared.call_locks.CallLocks.{CallLocks}
 use Rattle.txn_locks.specs.Taking.{state_of}
@@ -40,7 +40,7 @@ stop_stands vs us ends_of w old mid new given as_ is ended_is list marks own wai
     back ∙ (ap₂ (λ (v : List Victim) (l : List Active). all_back (told_among v l) (state_of mid.locks.locks)) is marked_now ∙ ap (λ (l : CallLocks). all_back (told_among vs (marked vs st.actives)) (state_of l.locks)) locks) in
     let there : AreSessionsAt (with_locks_of given mid) next = record {
       actives = marks ∙ ap (marked vs) at.actives;
-      own = ap own_of own ∙ at.own;
+      own = subst (λ (entries : OwnEntries). AreCounted entries st.own) (sym own) at.own;
       places = subst (λ (o : OpenCursors). AreCursorsOn o st.store st.numbers st.places) (sym cursors) at.places;
       waiting = waiting ∙ ap (λ (ws : List Wait). filter (λ x. not (is_victim x.session vs)) (ws ++ w ∷ [])) at.waiting;
       locks = given_at st.fault given old.locks (told_among vs (marked vs st.actives)) (told_among vs st.actives) st.locks gives (backs_marked vs vs st.actives) at.locks;

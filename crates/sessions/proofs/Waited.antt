@@ -30,7 +30,7 @@ use Rattle.sessions.specs.declared.asker.Asker.{Asker}
 use Rattle.sessions.specs.declared.blocked.Blocked.{Blocked}
 use Rattle.sessions.specs.declared.stop_room.StopRoom.{StopRoom}
 use Rattle.active_txns.specs.declared.active_txns.ActiveTxns.{ActiveTxns}
-use Rattle.active_txns.specs.Own.{own_of}
+use Rattle.active_txns.specs.Own.{AreCounted}
 use Rattle.open_cursors.specs.declared.open_cursors.OpenCursors.{OpenCursors}
 use Rattle.lock_table.specs.Table.{Locks}
 use Rattle.sessions.specs.AtStanding.{AreCursorsOn, AreSessionsAt, AreLocksAt}
@@ -144,7 +144,7 @@ waited (Stopped answer victims) k session line call db kind others needs ns room
     ∙ ap (λ (q : Kind). target_by others (g.database.name, q) m.need) (sym are.its_kind) ∙ target_is others g m.need are.beside)) in
     let there_at : AreSessionsAt mid (record st { locks = state_of mid.locks.locks }) = record {
       actives = ap (λ (t : ActiveTxns). t.actives.items) txns_is ∙ at.actives;
-      own = ap (λ (t : ActiveTxns). own_of t.own.entries) txns_is ∙ at.own;
+      own = subst (λ (t : ActiveTxns). AreCounted t.own.entries st.own) (sym txns_is) at.own;
       places = subst (λ (o : OpenCursors). AreCursorsOn o st.store st.numbers st.places) (sym cursors_is) at.places;
       waiting = list;
       locks = its_own st.fault mid.locks.locks;

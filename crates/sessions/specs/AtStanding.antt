@@ -16,7 +16,7 @@ use Rattle.store_model.specs.declared.place.Place.{Place}
 use Rattle.je_answers.specs.declared.active.Active.{Active}
 use Rattle.je_answers.specs.declared.wait.Wait.{Wait}
 use Rattle.je_answers.specs.Standing.{LockState, Standing, with_at}
-use Rattle.active_txns.specs.Own.{own_of, has_changes}
+use Rattle.active_txns.specs.Own.{AreCounted, has_changes}
 use Rattle.open_cursors.specs.declared.open_cursors.OpenCursors.{OpenCursors}
 use Rattle.open_cursors.specs.Places.{AreCursorsAt, AreUnder}
 use Rattle.txn_locks.specs.Taking.{state_of}
@@ -32,10 +32,10 @@ pub record AreCursorsOn (open_ : OpenCursors) (store : Store) (numbers : List �
   pub at : AreCursorsAt open_ cursors
   pub under : AreUnder store numbers open_
 
--- the sessions have these transactions, own changes, cursors, waits and locks, and a store has the databases of the cursors
+-- the sessions have these transactions, as many own changes of each, these cursors, waits and locks, and a store has the databases of the cursors
 pub record HaveParts (s : Sessions) (fault : Option Fault) (store : Store) (numbers : List ℕ → ℕ) (as_ : List Active) (changes : ℕ → List (ℕ × RecordChange)) (cursors : ℕ → List Place) (ws : List Wait) (state : LockState) : Type 0 where
   pub actives : s.txns.actives.items ≡ as_
-  pub own : own_of s.txns.own.entries ≡ changes
+  pub own : AreCounted s.txns.own.entries changes
   pub places : AreCursorsOn s.cursors store numbers cursors
   pub waiting : s.waiting.items ≡ ws
   pub locks : AreLocksAt fault s.locks.locks state

@@ -13,7 +13,7 @@ use Rattle.je_answers.specs.Views.{Target, needs_in}
 use Rattle.je_answers.specs.Locking.{first_blocked, owner_before}
 use Rattle.je_answers.specs.Events.{queues_before, IsStopped}
 use Rattle.je_answers.specs.After.{after_stop}
-use Rattle.active_txns.specs.Own.{own_of}
+use Rattle.active_txns.specs.Own.{AreCounted}
 use Rattle.txn_locks.specs.Taking.{state_of, with_all, when_answered}
 use Rattle.txn_locks.specs.Undoing.{AreGot, HasNoRead, AreReadsAmong}
 use Rattle.standing_laws.specs.Right.{HaveWaits}
@@ -35,7 +35,7 @@ pub record MayAsk (s : Sessions) (session : ℕ) (resumed : Bool) : Type 0 where
 -- a call of a transaction got all its needs, which are not yet given back; all else is as the standing before it has it
 pub record HasTaken (s : Sessions) (resumed : Bool) (a : Active) (needs : List Need) (st : Standing) : Type 0 where
   pub actives : s.txns.actives.items ≡ st.actives
-  pub own : own_of s.txns.own.entries ≡ st.own
+  pub own : AreCounted s.txns.own.entries st.own
   pub places : AreCursorsOn s.cursors st.store st.numbers st.places
   pub waiting : s.waiting.items ≡ st.waiting
   pub free : first_blocked a.txn needs st.locks.at ≡ None

@@ -15,6 +15,7 @@ ghost use Rattle.je_answers.specs.Events.{resumed as resumed_in, IsReady};
 ghost use Rattle.je_answers.specs.After.{ended, moved_to, with_locks};
 ghost use Rattle.je_answers.specs.Journal.{first_ready};
 ghost use Rattle.standing_laws.specs.Right.{AreSound, AreTables, MayWait};
+ghost use Rattle.active_txns.specs.Own.{counted};
 ghost use Rattle.open_cursors.specs.Under.{IsUnderIn};
 ghost use Rattle.sessions.specs.AtStanding.{AreSessionsAt, with_active, with_own, with_places, without_call, owing as owing_in};
 ghost use Rattle.sessions.specs.Taking.{MayAsk, HasTaken, HasStopped, IfReady, IfStopped, AreNeedsOf};
@@ -25,12 +26,12 @@ use crate::refusing::early_refusal_in;
 use crate::taking::take_for;
 use crate::using::{cursor_user_in, lesser_of};
 use crate::{NamedDb, Taken};
-use active_txns::ActiveTxns;
+use active_txns::{ActiveTxns, OwnCounts};
 use je_answers::{Active, Wait};
 use je_order::{List, Name, TxnId, Word};
 use open_cursors::{OpenCursor, OpenCursors};
 use std::alloc::{AllocError, Global};
-use store_model::{Answer, Call, Durability, Fault, Isolation, Kind, Need, RecordChange};
+use store_model::{Answer, Call, Durability, Fault, Isolation, Kind, Need};
 use txn_locks::CallLocks;
 
 /// The sessions of an environment. It is made once and lives as long as the environment. A session, from 1 to
@@ -70,9 +71,9 @@ impl Sessions {
         self.txns.of_session(session)
     }
 
-    /// What a transaction has changed so far, in order, each change with its database's number.
-    pub fn own(&self, txn: TxnId) -> &[(u32, RecordChange)]
-        ensures { (st : Standing) → AreSessionsAt self.now st → result.now ≡ st.own txn.0 }
+    /// How many changes a transaction has made so far, and how many of them set a name.
+    pub fn own(&self, txn: TxnId) -> OwnCounts
+        ensures { (st : Standing) → AreSessionsAt self.now st → result ≡ counted (st.own txn.0) }
     {
         self.txns.own(txn)
     }
@@ -124,7 +125,7 @@ impl Sessions {
         self.txns.undo_begin();
     }
 
-    /// Ends a session's transaction: what it changed is forgotten here, its cursors are closed, and its locks
+    /// Ends a session's transaction: how much it changed is forgotten here, its cursors are closed, and its locks
     /// and waits go. It takes no memory.
     pub fn end(&mut self, session: u8, txn: TxnId)
         ensures stands { (st : Standing) (a : Active) → a.session ≡ session → a.txn ≡ txn → AreSessionsAt self.old st → AreSessionsAt self.new (ended a st) }
@@ -177,26 +178,21 @@ impl Sessions {
         self.locks.give_up(txn);
     }
 
-    /// Puts changes, each with its database's number, at the end of a transaction's own, all of them or none.
-    /// The only error is out of memory, and nothing is changed by it.
-    pub fn push_own(
-        &mut self,
-        alloc: Global,
-        txn: TxnId,
-        changes: Vec<(u32, RecordChange)>,
-    ) -> Result<(), AllocError>
-        ensures taken { OnOk result ((resumed : Bool) (a : Active) (needs : List Need) (st : Standing) → HasTaken self.old resumed a needs st → HasTaken self.new resumed a needs (with_own txn.0 changes.items st)) }
+    /// Counts changes that are put at the end of a transaction's own. The only error is out of memory, or that a
+    /// number ends; nothing is changed by it.
+    pub fn push_own(&mut self, txn: TxnId, counts: OwnCounts) -> Result<(), AllocError>
+        ensures taken { OnOk result ((resumed : Bool) (a : Active) (needs : List Need) (st : Standing) (more : List (ℕ × RecordChange)) → counts ≡ counted more → HasTaken self.old resumed a needs st → HasTaken self.new resumed a needs (with_own txn.0 more st)) }
         ensures err { OnErr result ((resumed : Bool) (a : Active) (needs : List Need) (st : Standing) → HasTaken self.old resumed a needs st → HasTaken self.new resumed a needs st) }
     {
-        self.txns.push_all(alloc, txn, changes)
+        self.txns.push(txn, counts)
     }
 
-    /// Leaves the first changes of a transaction, those before it pushed its last ones, as where the log did
-    /// not take these. It takes no memory.
-    pub fn truncate_own(&mut self, txn: TxnId, len: usize)
-        ensures taken { (resumed : Bool) (a : Active) (needs : List Need) (st : Standing) (more : List (ℕ × RecordChange)) → len ≡ length (st.own txn.0) → HasTaken self.old resumed a needs (with_own txn.0 more st) → HasTaken self.new resumed a needs st }
+    /// Sets a transaction's counts back to those before its last changes, as where the log did not take these.
+    /// It takes no memory.
+    pub fn set_back_own(&mut self, txn: TxnId, counts: OwnCounts)
+        ensures taken { (resumed : Bool) (a : Active) (needs : List Need) (st : Standing) (more : List (ℕ × RecordChange)) → counts ≡ counted (st.own txn.0) → HasTaken self.old resumed a needs (with_own txn.0 more st) → HasTaken self.new resumed a needs st }
     {
-        self.txns.truncate_own(txn, len);
+        self.txns.set_back(txn, counts);
     }
 
     /// How many calls wait.

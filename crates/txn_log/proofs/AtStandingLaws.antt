@@ -5,7 +5,7 @@ use Rattle.std.specs.List.{AllByRecursion}
 use Rattle.std.proofs.lemmas.Bool.{cond-false, cond-true, eq-eqb, ne_eqb}
 use Rattle.std.proofs.lemmas.List.{append-nil}
 use mathlib.Core.Path.{fun_ext, path_j, subst_refl}
-use Rattle.je_disk.specs.Moments.{History}
+use Rattle.je_disk.specs.DiskMeaning.{DiskMeaning}
 use Rattle.je_order.specs.declared.txn_id.TxnId.{TxnId}
 use Rattle.je_order.proofs.Lists.{all_append, all_weaker}
 use Rattle.store_model.specs.declared.change.Change.{Change}
@@ -75,15 +75,15 @@ may_without rows t own may u =
 pub same_under : {X Y : Type 0} (P : X → Type 0) (f : (x : X) → P x → Y) {x y : X} (p : x ≡ y) (u : P x) → f y (subst P p u) ≡ f x u
 same_under P f {x} p u = path_j (λ y q. f y (subst P q u) ≡ f x u) (ap (f x) (subst_refl P u)) p
 
-module _ {D : Type 0} (observable : Bool) (history : D → History) (sync_out read_out : D → Option ℕ) (read_of : D → ℕ) where
-  unfoldable pub changes_leave_log : ChangesLeaveLog observable history sync_out read_out read_of
+module _ {D : Type 0} (meaning : DiskMeaning D) where
+  unfoldable pub changes_leave_log : ChangesLeaveLog meaning
   changes_leave_log old new log rows is_active st after t changes at may may_own a store numbers last_db last_txn own =
-      let given : HasGiven observable history new (longer old a.entries log) rows st.last_txn st.last_db is_active (own_with t.0 changes st.own) =
-      changes_are_given observable history sync_out read_out read_of old new log rows st.last_txn st.last_db is_active st.own t changes at.given may a in
+      let given : HasGiven meaning new (longer old a.entries log) rows st.last_txn st.last_db is_active (own_with t.0 changes st.own) =
+      changes_are_given meaning old new log rows st.last_txn st.last_db is_active st.own t changes at.given may a in
       record {
-        given = subst (λ (n : ℕ). HasGiven observable history new (longer old a.entries log) rows n after.last_db is_active after.own) (sym last_txn)
-            (subst (λ (n : ℕ). HasGiven observable history new (longer old a.entries log) rows st.last_txn n is_active after.own) (sym last_db)
-            (subst (λ (f : Owns). HasGiven observable history new (longer old a.entries log) rows st.last_txn st.last_db is_active f) (sym (fun_ext own)) given));
+        given = subst (λ (n : ℕ). HasGiven meaning new (longer old a.entries log) rows n after.last_db is_active after.own) (sym last_txn)
+            (subst (λ (n : ℕ). HasGiven meaning new (longer old a.entries log) rows st.last_txn n is_active after.own) (sym last_db)
+            (subst (λ (f : Owns). HasGiven meaning new (longer old a.entries log) rows st.last_txn st.last_db is_active f) (sym (fun_ext own)) given));
         makes = makes_same rows st after store numbers last_db at.makes;
         may = λ u. subst (AllByRecursion (MayBeCommitted rows)) (sym (own u)) (may_at u);
       }
@@ -97,26 +97,26 @@ module _ {D : Type 0} (observable : Bool) (history : D → History) (sync_out re
           (λ other. subst (AllByRecursion (MayBeCommitted rows)) (sym (at_other t.0 (st.own t.0 ++ map own_of changes) st.own u other)) (at.may u))
 
   -- this life of the environment began where it did
-  pub changes_leave_base : (old new : LogBuffer D) (log : Log) (rows : Rows) (is_active : Flags) (st after : Standing) (t : TxnId) (changes : List TreeChange) (at : IsLogAt observable history old log rows is_active st)
-      (may : MayAddChanges st.last_txn is_active st.own t changes) (may_own : AllByRecursion (MayBeCommitted rows) (map own_of changes)) (a : HasAdded observable history sync_out read_out read_of old new (LogsChanges t changes))
+  pub changes_leave_base : (old new : LogBuffer D) (log : Log) (rows : Rows) (is_active : Flags) (st after : Standing) (t : TxnId) (changes : List TreeChange) (at : IsLogAt meaning old log rows is_active st)
+      (may : MayAddChanges st.last_txn is_active st.own t changes) (may_own : AllByRecursion (MayBeCommitted rows) (map own_of changes)) (a : HasAdded meaning old new (LogsChanges t changes))
       (store : after.store ≡ st.store) (numbers : after.numbers ≡ st.numbers) (last_db : after.last_db ≡ st.last_db) (last_txn : after.last_txn ≡ st.last_txn) (own : (u : ℕ) → after.own u ≡ own_with t.0 changes st.own u) →
       (changes_leave_log old new log rows is_active st after t changes at may may_own a store numbers last_db last_txn own).given.gives.base ≡ at.given.gives.base
   unfolding changes_leave_log changes_are_given changes_give
   changes_leave_base old new log rows is_active st after t changes at may may_own a store numbers last_db last_txn own =
-      let given : HasGiven observable history new (longer old a.entries log) rows st.last_txn st.last_db is_active (own_with t.0 changes st.own) =
-      changes_are_given observable history sync_out read_out read_of old new log rows st.last_txn st.last_db is_active st.own t changes at.given may a in
-      let with_own : HasGiven observable history new (longer old a.entries log) rows st.last_txn st.last_db is_active after.own =
-      subst (λ (f : Owns). HasGiven observable history new (longer old a.entries log) rows st.last_txn st.last_db is_active f) (sym (fun_ext own)) given in
-      let with_db : HasGiven observable history new (longer old a.entries log) rows st.last_txn after.last_db is_active after.own =
-      subst (λ (n : ℕ). HasGiven observable history new (longer old a.entries log) rows st.last_txn n is_active after.own) (sym last_db) with_own in
-      same_under (λ (n : ℕ). HasGiven observable history new (longer old a.entries log) rows n after.last_db is_active after.own) (λ n (h : HasGiven observable history new (longer old a.entries log) rows n after.last_db is_active after.own). h.gives.base) (sym last_txn) with_db
-      ∙ same_under (λ (n : ℕ). HasGiven observable history new (longer old a.entries log) rows st.last_txn n is_active after.own) (λ n (h : HasGiven observable history new (longer old a.entries log) rows st.last_txn n is_active after.own). h.gives.base) (sym last_db) with_own
-      ∙ same_under (λ (f : Owns). HasGiven observable history new (longer old a.entries log) rows st.last_txn st.last_db is_active f) (λ f (h : HasGiven observable history new (longer old a.entries log) rows st.last_txn st.last_db is_active f). h.gives.base) (sym (fun_ext own)) given
+      let given : HasGiven meaning new (longer old a.entries log) rows st.last_txn st.last_db is_active (own_with t.0 changes st.own) =
+      changes_are_given meaning old new log rows st.last_txn st.last_db is_active st.own t changes at.given may a in
+      let with_own : HasGiven meaning new (longer old a.entries log) rows st.last_txn st.last_db is_active after.own =
+      subst (λ (f : Owns). HasGiven meaning new (longer old a.entries log) rows st.last_txn st.last_db is_active f) (sym (fun_ext own)) given in
+      let with_db : HasGiven meaning new (longer old a.entries log) rows st.last_txn after.last_db is_active after.own =
+      subst (λ (n : ℕ). HasGiven meaning new (longer old a.entries log) rows st.last_txn n is_active after.own) (sym last_db) with_own in
+      same_under (λ (n : ℕ). HasGiven meaning new (longer old a.entries log) rows n after.last_db is_active after.own) (λ n (h : HasGiven meaning new (longer old a.entries log) rows n after.last_db is_active after.own). h.gives.base) (sym last_txn) with_db
+      ∙ same_under (λ (n : ℕ). HasGiven meaning new (longer old a.entries log) rows st.last_txn n is_active after.own) (λ n (h : HasGiven meaning new (longer old a.entries log) rows st.last_txn n is_active after.own). h.gives.base) (sym last_db) with_own
+      ∙ same_under (λ (f : Owns). HasGiven meaning new (longer old a.entries log) rows st.last_txn st.last_db is_active f) (λ f (h : HasGiven meaning new (longer old a.entries log) rows st.last_txn st.last_db is_active f). h.gives.base) (sym (fun_ext own)) given
 
-  unfoldable pub transaction_leaves_log : TransactionLeavesLog observable history sync_out read_out read_of
+  unfoldable pub transaction_leaves_log : TransactionLeavesLog meaning
   transaction_leaves_log old new log rows later is_active still st after goes t had changes committed at may store named may_own a has le are =
-      let given : HasGiven observable history new (longer old a.entries log) later st.last_txn after.last_db is_active (with_at t.0 [] st.own) =
-      transaction_is_given observable history sync_out read_out read_of old new log rows later st.last_txn st.last_db after.last_db is_active st.own goes t had changes at.given may a in
+      let given : HasGiven meaning new (longer old a.entries log) later st.last_txn after.last_db is_active (with_at t.0 [] st.own) =
+      transaction_is_given meaning old new log rows later st.last_txn st.last_db after.last_db is_active st.own goes t had changes at.given may a in
       record {
         given = record {
           has = given.has;
@@ -135,12 +135,12 @@ module _ {D : Type 0} (observable : Bool) (history : D → History) (sync_out re
 
   -- own changes that a transaction commits, those that it had and those that it logs with its Commit
   unfoldable pub commit_own : (old new : LogBuffer D) (log : Log) (rows : Rows) (is_active still : Flags) (st after : Standing) (t : TxnId) (had : List OwnChange) (changes : List TreeChange) (all : List OwnChange) →
-      IsLogAt observable history old log rows is_active st → HasOwn st.last_txn is_active st.own t.0 had → AreFreeNames is_active st.own t.0 changes →
+      IsLogAt meaning old log rows is_active st → HasOwn st.last_txn is_active st.own t.0 had → AreFreeNames is_active st.own t.0 changes →
       AllByRecursion (MayBeCommitted rows) all → map tree_of all ≡ map tree_of had ++ changes →
-      (a : HasAdded observable history sync_out read_out read_of old new (LogsTransaction t changes)) →
+      (a : HasAdded meaning old new (LogsTransaction t changes)) →
       HasCommitted st after (changes_named st all) → st.last_txn ≤ after.last_txn → AreStillActive st.last_txn is_active (with_at t.0 [] st.own) still after.own →
       ((u : ℕ) → AllByRecursion (MayBeCommitted rows) (after.own u)) →
-      IsLogAt observable history new (longer old a.entries log) (rows_own all rows) still after
+      IsLogAt meaning new (longer old a.entries log) (rows_own all rows) still after
   commit_own old new log rows is_active still st after t had changes all at own free may_all trees a has le are may_own =
       let is : OwnAreCommitted rows st.last_db st all = own_may_be_committed rows st.last_db st all at.makes may_all in
       let later : Rows = rows_own all rows in
@@ -154,12 +154,12 @@ module _ {D : Type 0} (observable : Bool) (history : D → History) (sync_out re
       (λ name. is.named name ∙ at.makes.named name ∙ ap (λ (f : List ℕ → ℕ). f name) (sym is.numbers))
       (λ u. all_stay rows later (after.own u) catalog (may_own u)) a has le are
 
-  unfoldable pub own_commit_leaves_log : OwnCommitLeavesLog observable history sync_out read_out read_of
+  unfoldable pub own_commit_leaves_log : OwnCommitLeavesLog meaning
   own_commit_leaves_log old new log rows is_active still st after t at active a has last_txn fewer own =
       commit_own old new log rows is_active still st after t (st.own t.0) [] (st.own t.0) at (inl (active, refl)) tt (at.may t.0) (sym (append-nil (map tree_of (st.own t.0)))) a has
       (omega (arith, last_txn)) (λ u is. inl (fewer u is, own u))
       (λ u. subst (AllByRecursion (MayBeCommitted rows)) (sym (own u)) (may_without rows t.0 st.own at.may u))
 
-  pub lone_commit_leaves_log : LoneCommitLeavesLog observable history sync_out read_out read_of
+  pub lone_commit_leaves_log : LoneCommitLeavesLog meaning
   lone_commit_leaves_log old new log rows is_active still st after t changes at own free none may_all a has le are may_own =
       commit_own old new log rows is_active still st after t [] changes (map own_of changes) at own free may_all (trees_are_own changes none) a has le are may_own

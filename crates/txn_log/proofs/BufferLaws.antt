@@ -1,7 +1,8 @@
 -- A log buffer whose log gives records while transactions are under way.
-use Rattle.std.proofs.Common.{◌≡◌, ℕ, ◌+◌, ◌<◌, ◌⊎◌, inl, inr, Bool, List, [], ◌∷◌, ◌++◌, Option, map, refl, sym, ap, ap₂, subst, ◌∙◌, arith}
+use Rattle.std.proofs.Common.{◌≡◌, ℕ, ◌+◌, ◌<◌, ◌⊎◌, inl, inr, Bool, List, [], ◌∷◌, ◌++◌, map, refl, sym, ap, ap₂, subst, ◌∙◌, arith}
 use Rattle.std.proofs.lemmas.List.{append-nil, map-append}
-use Rattle.je_disk.specs.Moments.{History, now}
+use Rattle.je_disk.specs.DiskMeaning.{DiskMeaning}
+use Rattle.je_disk.specs.Moments.{now}
 use Rattle.je_order.specs.declared.txn_id.TxnId.{TxnId}
 use Rattle.je_order.proofs.Lists.{all_weaker}
 use Rattle.store_model.specs.declared.change.Change.{Change}
@@ -66,14 +67,14 @@ rise_behind at (e ∷ entries) =
 
 -- ---- a buffer's log
 
-module _ {D : Type 0} (observable : Bool) (history : D → History) where
+module _ {D : Type 0} (meaning : DiskMeaning D) where
   -- the LSNs of entries that the log has room for rise behind it
-  pub rises : (buffer : LogBuffer D) (log : Log) (rows : Rows) (last_txn last_db : ℕ) (is_active : Flags) (own : Owns) (entries : List Entry) (h : HasGiven observable history buffer log rows last_txn last_db is_active own) →
+  pub rises : (buffer : LogBuffer D) (log : Log) (rows : Rows) (last_txn last_db : ℕ) (is_active : Flags) (own : Owns) (entries : List Entry) (h : HasGiven meaning buffer log rows last_txn last_db is_active own) →
       IsLog (longer buffer entries log) → AreAppendedBehind (file_max_of buffer) (end_of buffer) entries h.gives.next
   rises buffer log rows last_txn last_db is_active own entries h long =
       appended_rise log (end_of buffer) (last_of buffer) (file_max_of buffer) entries h.gives.next h.has.is_log h.has.ends long h.gives.below
 
-  pub longer_placed : (buffer : LogBuffer D) (log : Log) (entries : List Entry) → HasLog observable (now (history (disk_of buffer))) buffer log →
+  pub longer_placed : (buffer : LogBuffer D) (log : Log) (entries : List Entry) → HasLog meaning.observable (now (meaning.history (disk_of buffer))) buffer log →
       placed (longer buffer entries log) ≡ placed log ++ placed_by (file_max_of buffer) (end_of buffer) entries
   longer_placed buffer log entries has = appended_are_placed log (end_of buffer) (last_of buffer) (file_max_of buffer) entries has.is_log has.ends
 
@@ -85,7 +86,7 @@ module _ {D : Type 0} (observable : Bool) (history : D → History) where
     rise : RiseBehind next more
 
   in_front : (buffer : LogBuffer D) (log : Log) (rows : Rows) (last_txn last_db : ℕ) (is_active : Flags) (own : Owns) (front rest : List Entry)
-      (h : HasGiven observable history buffer log rows last_txn last_db is_active own) (first : ℕ) (opening : Store) (found : ℕ) (transactions : List (List Change)) →
+      (h : HasGiven meaning buffer log rows last_txn last_db is_active own) (first : ℕ) (opening : Store) (found : ℕ) (transactions : List (List Change)) →
       HaveRoom (file_max_of buffer) (end_of buffer) front → RecoversLog first opening found transactions log → AreInFront buffer front rest h.gives.next
   in_front buffer log rows last_txn last_db is_active own front rest h first opening found transactions room recovers =
       let most : ℕ = file_max_of buffer in
@@ -109,7 +110,7 @@ module _ {D : Type 0} (observable : Bool) (history : D → History) where
 
   changes_recovered : (buffer : LogBuffer D) (log : Log) (rows : Rows) (last_txn last_db : ℕ) (is_active : Flags) (own : Owns) (t : TxnId) (changes : List TreeChange) (front rest : List Entry)
       (first : ℕ) (opening : Store) (found : ℕ) (transactions : List (List Change)) →
-      HasGiven observable history buffer log rows last_txn last_db is_active own → MayAddChanges last_txn is_active own t changes → LogsChanges t changes (front ++ rest) →
+      HasGiven meaning buffer log rows last_txn last_db is_active own → MayAddChanges last_txn is_active own t changes → LogsChanges t changes (front ++ rest) →
       HaveRoom (file_max_of buffer) (end_of buffer) front → RecoversLog first opening found transactions log → RecoversLog first opening found transactions (longer buffer front log)
   changes_recovered buffer log rows last_txn last_db is_active own t changes front rest first opening found transactions h may logs room is =
       let parts = in_front buffer log rows last_txn last_db is_active own front rest h first opening found transactions room is in
@@ -134,7 +135,7 @@ module _ {D : Type 0} (observable : Bool) (history : D → History) where
 
   commit_in_front : (buffer : LogBuffer D) (log : Log) (rows after : Rows) (last_txn last_db later_db : ℕ) (is_active : Flags) (own : Owns) (goes : Flags) (t : TxnId) (had : List OwnChange) (changes : List TreeChange)
       (committed : List Change) (front rest : List Entry) (first : ℕ) (opening : Store) (found : ℕ) (transactions : List (List Change)) →
-      (h : HasGiven observable history buffer log rows last_txn last_db is_active own) → MayCommit last_txn is_active own rows after last_db later_db goes t had changes →
+      (h : HasGiven meaning buffer log rows last_txn last_db is_active own) → MayCommit last_txn is_active own rows after last_db later_db goes t had changes →
       store_of after ≡ all_changed committed (store_of rows) → LogsTransaction t changes (front ++ rest) →
       HaveRoom (file_max_of buffer) (end_of buffer) front → RecoversLog first opening found transactions log → IsRecoveredInFront buffer log h.gives.next front rest first opening found transactions committed
   commit_in_front buffer log rows after last_txn last_db later_db is_active own goes t had changes committed front rest first opening found transactions h may store logs room is =
@@ -148,7 +149,7 @@ module _ {D : Type 0} (observable : Bool) (history : D → History) where
 
   commit_recovered : (buffer : LogBuffer D) (log : Log) (rows after : Rows) (last_txn last_db later_db : ℕ) (is_active : Flags) (own : Owns) (goes : Flags) (t : TxnId) (had : List OwnChange) (changes : List TreeChange)
       (committed : List Change) (entries : List Entry) (first : ℕ) (opening : Store) (found : ℕ) (transactions : List (List Change)) →
-      HasGiven observable history buffer log rows last_txn last_db is_active own → MayCommit last_txn is_active own rows after last_db later_db goes t had changes →
+      HasGiven meaning buffer log rows last_txn last_db is_active own → MayCommit last_txn is_active own rows after last_db later_db goes t had changes →
       store_of after ≡ all_changed committed (store_of rows) → LogsTransaction t changes entries →
       HaveRoom (file_max_of buffer) (end_of buffer) entries → RecoversLog first opening found transactions log → RecoversLog first opening found (transactions ++ committed ∷ []) (longer buffer entries log)
   commit_recovered buffer log rows after last_txn last_db later_db is_active own goes t had changes committed entries first opening found transactions h may store logs room is =
@@ -158,80 +159,79 @@ module _ {D : Type 0} (observable : Bool) (history : D → History) where
       longer_recovers first opening found transactions (transactions ++ committed ∷ []) log (end_of buffer) (last_of buffer) (file_max_of buffer) entries is h.has.ends room
       (subst (λ (l : List Placed). Recovers first opening found (transactions ++ committed ∷ []) (placed log ++ l)) (append-nil own_placed) whole.recovers.whole.recovers)
 
-  module _ (sync_out read_out : D → Option ℕ) (read_of : D → ℕ) where
-    unfoldable pub changes_are_given : ChangesAreGiven observable history sync_out read_out read_of
-    changes_are_given old new log rows last_txn last_db is_active own t changes h may a =
-        let longer_has : HasLog observable (now (history (disk_of new))) new (longer old a.entries log) = a.grew.log log h.has in
-        let rise = rises old log rows last_txn last_db is_active own a.entries h longer_has.is_log in
-        let more : List Placed = placed_by (file_max_of old) (end_of old) a.entries in
-        record {
-          has = longer_has;
-          gives = changes_give log (end_of old) rows last_txn last_db is_active own t changes more (longer old a.entries log) (end_of new) h.gives
-              (adds_changes last_txn h.gives.next is_active own t changes more may (subst (LogsChanges t changes) (sym rise.entries_are) a.logs) rise.rise)
-              (longer_placed old log a.entries h.has) (subst (λ (e : LogPos). last_lsn h.gives.next more < pos_lsn e) (sym a.grew.end) rise.below);
-        }
+  unfoldable pub changes_are_given : ChangesAreGiven meaning
+  changes_are_given old new log rows last_txn last_db is_active own t changes h may a =
+      let longer_has : HasLog meaning.observable (now (meaning.history (disk_of new))) new (longer old a.entries log) = a.grew.log log h.has in
+      let rise = rises old log rows last_txn last_db is_active own a.entries h longer_has.is_log in
+      let more : List Placed = placed_by (file_max_of old) (end_of old) a.entries in
+      record {
+        has = longer_has;
+        gives = changes_give log (end_of old) rows last_txn last_db is_active own t changes more (longer old a.entries log) (end_of new) h.gives
+            (adds_changes last_txn h.gives.next is_active own t changes more may (subst (LogsChanges t changes) (sym rise.entries_are) a.logs) rise.rise)
+            (longer_placed old log a.entries h.has) (subst (λ (e : LogPos). last_lsn h.gives.next more < pos_lsn e) (sym a.grew.end) rise.below);
+      }
 
-    pub changes_are_recovered : ChangesAreRecovered observable history sync_out read_out read_of
-    changes_are_recovered old new log rows last_txn last_db is_active own t changes first opening found transactions h may a is =
-        changes_recovered old log rows last_txn last_db is_active own t changes a.entries [] first opening found transactions h may (subst (LogsChanges t changes) (sym (append-nil a.entries)) a.logs) a.room is
+  pub changes_are_recovered : ChangesAreRecovered meaning
+  changes_are_recovered old new log rows last_txn last_db is_active own t changes first opening found transactions h may a is =
+      changes_recovered old log rows last_txn last_db is_active own t changes a.entries [] first opening found transactions h may (subst (LogsChanges t changes) (sym (append-nil a.entries)) a.logs) a.room is
 
-    pub tried_changes_are_recovered : TriedChangesAreRecovered observable history sync_out read_out read_of
-    tried_changes_are_recovered old new log rows last_txn last_db is_active own t changes first opening found transactions h may f is =
-        changes_recovered old log rows last_txn last_db is_active own t changes f.front f.is_front.0 first opening found transactions h may
-        (subst (LogsChanges t changes) (sym f.is_front.1) f.logs) f.room is
+  pub tried_changes_are_recovered : TriedChangesAreRecovered meaning
+  tried_changes_are_recovered old new log rows last_txn last_db is_active own t changes first opening found transactions h may f is =
+      changes_recovered old log rows last_txn last_db is_active own t changes f.front f.is_front.0 first opening found transactions h may
+      (subst (LogsChanges t changes) (sym f.is_front.1) f.logs) f.room is
 
-    unfoldable pub transaction_is_given : TransactionIsGiven observable history sync_out read_out read_of
-    transaction_is_given old new log rows after last_txn last_db later_db is_active own goes t had changes h may a =
-        let longer_has : HasLog observable (now (history (disk_of new))) new (longer old a.entries log) = a.grew.log log h.has in
-        let rise = rises old log rows last_txn last_db is_active own a.entries h longer_has.is_log in
-        let more : List Placed = placed_by (file_max_of old) (end_of old) a.entries in
-        record {
-          has = longer_has;
-          gives = transaction_gives log (end_of old) rows after last_txn last_db later_db is_active own goes t had changes more (longer old a.entries log) (end_of new) h.gives
-              (adds_transaction last_txn h.gives.next is_active own rows after last_db later_db goes t had changes more may (subst (LogsTransaction t changes) (sym rise.entries_are) a.logs) rise.rise)
-              (longer_placed old log a.entries h.has) (subst (λ (e : LogPos). last_lsn h.gives.next more < pos_lsn e) (sym a.grew.end) rise.below);
-        }
+  unfoldable pub transaction_is_given : TransactionIsGiven meaning
+  transaction_is_given old new log rows after last_txn last_db later_db is_active own goes t had changes h may a =
+      let longer_has : HasLog meaning.observable (now (meaning.history (disk_of new))) new (longer old a.entries log) = a.grew.log log h.has in
+      let rise = rises old log rows last_txn last_db is_active own a.entries h longer_has.is_log in
+      let more : List Placed = placed_by (file_max_of old) (end_of old) a.entries in
+      record {
+        has = longer_has;
+        gives = transaction_gives log (end_of old) rows after last_txn last_db later_db is_active own goes t had changes more (longer old a.entries log) (end_of new) h.gives
+            (adds_transaction last_txn h.gives.next is_active own rows after last_db later_db goes t had changes more may (subst (LogsTransaction t changes) (sym rise.entries_are) a.logs) rise.rise)
+            (longer_placed old log a.entries h.has) (subst (λ (e : LogPos). last_lsn h.gives.next more < pos_lsn e) (sym a.grew.end) rise.below);
+      }
 
-    pub commit_is_recovered : CommitIsRecovered observable history sync_out read_out read_of
-    commit_is_recovered old new log rows after last_txn last_db later_db is_active own goes t had changes committed first opening found transactions h may store a is =
-        commit_recovered old log rows after last_txn last_db later_db is_active own goes t had changes committed a.entries first opening found transactions h may store a.logs a.room is
+  pub commit_is_recovered : CommitIsRecovered meaning
+  commit_is_recovered old new log rows after last_txn last_db later_db is_active own goes t had changes committed first opening found transactions h may store a is =
+      commit_recovered old log rows after last_txn last_db later_db is_active own goes t had changes committed a.entries first opening found transactions h may store a.logs a.room is
 
-    -- where the disk failed: the transaction is not recovered, whatever was, or it is
-    pub tried_commit_decided : (old new : LogBuffer D) (rows after : Rows) (last_txn last_db later_db : ℕ) (is_active : Flags) (own : Owns) (goes : Flags) (t : TxnId) (had : List OwnChange) (changes : List TreeChange)
-        (committed : List Change) → MayCommit last_txn is_active own rows after last_db later_db goes t had changes → store_of after ≡ all_changed committed (store_of rows) →
-        (f : HasFailed observable history sync_out read_out read_of old new (LogsTransaction t changes)) →
-        ((log : Log) → HasGiven observable history old log rows last_txn last_db is_active own → (first : ℕ) (opening : Store) (found : ℕ) (transactions : List (List Change)) →
-        RecoversLog first opening found transactions log → RecoversLog first opening found transactions (longer old f.front log))
-        ⊎ ((log : Log) → HasGiven observable history old log rows last_txn last_db is_active own → (first : ℕ) (opening : Store) (found : ℕ) (transactions : List (List Change)) →
-        RecoversLog first opening found transactions log → RecoversLog first opening found (transactions ++ committed ∷ []) (longer old f.front log))
-    tried_commit_decided old new rows after last_txn last_db later_db is_active own goes t had changes committed may store f = by_rest f.is_front.0 f.is_front.1
-      where
-        by_rest : (rest : List Entry) → f.front ++ rest ≡ f.entries →
-            ((log : Log) → HasGiven observable history old log rows last_txn last_db is_active own → (first : ℕ) (opening : Store) (found : ℕ) (transactions : List (List Change)) →
-            RecoversLog first opening found transactions log → RecoversLog first opening found transactions (longer old f.front log))
-            ⊎ ((log : Log) → HasGiven observable history old log rows last_txn last_db is_active own → (first : ℕ) (opening : Store) (found : ℕ) (transactions : List (List Change)) →
-            RecoversLog first opening found transactions log → RecoversLog first opening found (transactions ++ committed ∷ []) (longer old f.front log))
-        by_rest [] parts = inr
-            (λ log h first opening found transactions is.
-            commit_recovered old log rows after last_txn last_db later_db is_active own goes t had changes committed f.front first opening found transactions h may store
-            (subst (LogsTransaction t changes) (sym parts ∙ append-nil f.front) f.logs) f.room is)
-        by_rest (e ∷ rest) parts = inl
-            (λ log h first opening found transactions is.
-            let own_placed : List Placed = placed_by (file_max_of old) (end_of old) f.front in
-            let at : ℕ = last_lsn h.gives.next own_placed in
-            let recovery = commit_in_front old log rows after last_txn last_db later_db is_active own goes t had changes committed f.front (e ∷ rest) first opening found transactions h may store
-            (subst (LogsTransaction t changes) (sym parts) f.logs) f.room is in
-            longer_recovers first opening found transactions transactions log (end_of old) (last_of old) (file_max_of old) f.front is h.has.ends f.room
-            (recovery.recovers.fronts own_placed (placed_behind (at + 1) rest) (at + 1, e) refl).recovers)
+  -- where the disk failed: the transaction is not recovered, whatever was, or it is
+  pub tried_commit_decided : (old new : LogBuffer D) (rows after : Rows) (last_txn last_db later_db : ℕ) (is_active : Flags) (own : Owns) (goes : Flags) (t : TxnId) (had : List OwnChange) (changes : List TreeChange)
+      (committed : List Change) → MayCommit last_txn is_active own rows after last_db later_db goes t had changes → store_of after ≡ all_changed committed (store_of rows) →
+      (f : HasFailed meaning old new (LogsTransaction t changes)) →
+      ((log : Log) → HasGiven meaning old log rows last_txn last_db is_active own → (first : ℕ) (opening : Store) (found : ℕ) (transactions : List (List Change)) →
+      RecoversLog first opening found transactions log → RecoversLog first opening found transactions (longer old f.front log))
+      ⊎ ((log : Log) → HasGiven meaning old log rows last_txn last_db is_active own → (first : ℕ) (opening : Store) (found : ℕ) (transactions : List (List Change)) →
+      RecoversLog first opening found transactions log → RecoversLog first opening found (transactions ++ committed ∷ []) (longer old f.front log))
+  tried_commit_decided old new rows after last_txn last_db later_db is_active own goes t had changes committed may store f = by_rest f.is_front.0 f.is_front.1
+    where
+      by_rest : (rest : List Entry) → f.front ++ rest ≡ f.entries →
+          ((log : Log) → HasGiven meaning old log rows last_txn last_db is_active own → (first : ℕ) (opening : Store) (found : ℕ) (transactions : List (List Change)) →
+          RecoversLog first opening found transactions log → RecoversLog first opening found transactions (longer old f.front log))
+          ⊎ ((log : Log) → HasGiven meaning old log rows last_txn last_db is_active own → (first : ℕ) (opening : Store) (found : ℕ) (transactions : List (List Change)) →
+          RecoversLog first opening found transactions log → RecoversLog first opening found (transactions ++ committed ∷ []) (longer old f.front log))
+      by_rest [] parts = inr
+          (λ log h first opening found transactions is.
+          commit_recovered old log rows after last_txn last_db later_db is_active own goes t had changes committed f.front first opening found transactions h may store
+          (subst (LogsTransaction t changes) (sym parts ∙ append-nil f.front) f.logs) f.room is)
+      by_rest (e ∷ rest) parts = inl
+          (λ log h first opening found transactions is.
+          let own_placed : List Placed = placed_by (file_max_of old) (end_of old) f.front in
+          let at : ℕ = last_lsn h.gives.next own_placed in
+          let recovery = commit_in_front old log rows after last_txn last_db later_db is_active own goes t had changes committed f.front (e ∷ rest) first opening found transactions h may store
+          (subst (LogsTransaction t changes) (sym parts) f.logs) f.room is in
+          longer_recovers first opening found transactions transactions log (end_of old) (last_of old) (file_max_of old) f.front is h.has.ends f.room
+          (recovery.recovers.fronts own_placed (placed_behind (at + 1) rest) (at + 1, e) refl).recovers)
 
-    pub tried_commit_is_recovered : TriedCommitIsRecovered observable history sync_out read_out read_of
-    tried_commit_is_recovered old new log rows after last_txn last_db later_db is_active own goes t had changes committed first opening found transactions h may store f is =
-        by_case (tried_commit_decided old new rows after last_txn last_db later_db is_active own goes t had changes committed may store f)
-      where
-        by_case : ((l : Log) → HasGiven observable history old l rows last_txn last_db is_active own → (x : ℕ) (o : Store) (b : ℕ) (ts : List (List Change)) →
-            RecoversLog x o b ts l → RecoversLog x o b ts (longer old f.front l))
-            ⊎ ((l : Log) → HasGiven observable history old l rows last_txn last_db is_active own → (x : ℕ) (o : Store) (b : ℕ) (ts : List (List Change)) →
-            RecoversLog x o b ts l → RecoversLog x o b (ts ++ committed ∷ []) (longer old f.front l)) →
-            RecoversLog first opening found transactions (longer old f.front log) ⊎ RecoversLog first opening found (transactions ++ committed ∷ []) (longer old f.front log)
-        by_case (inl less) = inl (less log h first opening found transactions is)
-        by_case (inr all) = inr (all log h first opening found transactions is)
+  pub tried_commit_is_recovered : TriedCommitIsRecovered meaning
+  tried_commit_is_recovered old new log rows after last_txn last_db later_db is_active own goes t had changes committed first opening found transactions h may store f is =
+      by_case (tried_commit_decided old new rows after last_txn last_db later_db is_active own goes t had changes committed may store f)
+    where
+      by_case : ((l : Log) → HasGiven meaning old l rows last_txn last_db is_active own → (x : ℕ) (o : Store) (b : ℕ) (ts : List (List Change)) →
+          RecoversLog x o b ts l → RecoversLog x o b ts (longer old f.front l))
+          ⊎ ((l : Log) → HasGiven meaning old l rows last_txn last_db is_active own → (x : ℕ) (o : Store) (b : ℕ) (ts : List (List Change)) →
+          RecoversLog x o b ts l → RecoversLog x o b (ts ++ committed ∷ []) (longer old f.front l)) →
+          RecoversLog first opening found transactions (longer old f.front log) ⊎ RecoversLog first opening found (transactions ++ committed ∷ []) (longer old f.front log)
+      by_case (inl less) = inl (less log h first opening found transactions is)
+      by_case (inr all) = inr (all log h first opening found transactions is)

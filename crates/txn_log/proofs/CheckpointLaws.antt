@@ -2,7 +2,8 @@
 use Rattle.std.proofs.Common.{◌≡◌, ℕ, ◌<◌, Bool, true, List, [], ◌∷◌, ◌++◌, Option, map, refl, sym, ap, subst, ◌∙◌}
 use Rattle.std.specs.List.{AllByRecursion}
 use Rattle.std.proofs.lemmas.List.{append-nil}
-use Rattle.je_disk.specs.Moments.{History, now}
+use Rattle.je_disk.specs.DiskMeaning.{DiskMeaning}
+use Rattle.je_disk.specs.Moments.{now}
 use Rattle.store_model.specs.declared.change.Change.{Change}
 use Rattle.store_model.specs.declared.store.Store.{Store}
 use Rattle.log_entry.specs.declared.entry.Entry.{Entry}
@@ -50,7 +51,7 @@ by_front e P [] rest parts none all = none
 by_front e P (x ∷ []) rest parts none all = subst P (sym (ap (λ (y : Entry). y ∷ []) (cc))) all
 by_front e P (x ∷ y ∷ front) rest parts none all = cc
 
-module _ {D : Type 0} (observable : Bool) (history : D → History) where
+module _ {D : Type 0} (meaning : DiskMeaning D) where
   -- ---- entries that change nothing
 
   neutral_placed : (buffer : LogBuffer D) (entries : List Entry) → map (λ p. p.1) (placed_by (file_max_of buffer) (end_of buffer) entries) ≡ entries → AreNeutral entries →
@@ -60,14 +61,14 @@ module _ {D : Type 0} (observable : Bool) (history : D → History) where
 
   neutrals_recovered : (buffer : LogBuffer D) (log : Log) (rows : Rows) (last_txn last_db : ℕ) (is_active : Flags) (own : Owns) (entries : List Entry)
       (first : ℕ) (opening : Store) (found : ℕ) (transactions : List (List Change)) →
-      HasGiven observable history buffer log rows last_txn last_db is_active own → AreNeutral entries → HaveRoom (file_max_of buffer) (end_of buffer) entries →
+      HasGiven meaning buffer log rows last_txn last_db is_active own → AreNeutral entries → HaveRoom (file_max_of buffer) (end_of buffer) entries →
       RecoversLog first opening found transactions log → RecoversLog first opening found transactions (longer buffer entries log)
   neutrals_recovered buffer log rows last_txn last_db is_active own entries first opening found transactions h neutral room is =
       let most : ℕ = file_max_of buffer in
       let end : LogPos = end_of buffer in
       let more : List Placed = placed_by most end entries in
       let long = longer_is_named log end (last_of buffer) most entries is.named h.has.ends room in
-      let rise = rises observable history buffer log rows last_txn last_db is_active own entries h long.named.is_log in
+      let rise = rises meaning buffer log rows last_txn last_db is_active own entries h long.named.is_log in
       let whole = leaves_all first opening found transactions (placed log) is.recovers in
       longer_recovers first opening found transactions transactions log end (last_of buffer) most entries is h.has.ends room
       (neutrals_recover first opening found transactions (placed log) h.gives.base h.gives.next h.gives.is_open (λ d x. data_at x (rows d)) (is_live last_txn is_active) h.gives.logged more rows
@@ -78,8 +79,8 @@ module _ {D : Type 0} (observable : Bool) (history : D → History) where
 
   -- the log with it
   ends_it : (buffer : LogBuffer D) (log : Log) (rows : Rows) (last_txn last_db : ℕ) (is_active : Flags) (own : Owns) (first : ℕ) (opening : Store) (found : ℕ) (transactions : List (List Change))
-      (p : EndParts) (summary : Option ℕ) (h : HasGiven observable history buffer log rows last_txn last_db is_active own) → RecoversLog first opening found transactions log →
-      MayHaveEnd observable history buffer log rows last_txn last_db is_active own h first p summary →
+      (p : EndParts) (summary : Option ℕ) (h : HasGiven meaning buffer log rows last_txn last_db is_active own) → RecoversLog first opening found transactions log →
+      MayHaveEnd meaning buffer log rows last_txn last_db is_active own h first p summary →
       Ends first opening found transactions (placed log ++ placed_by (file_max_of buffer) (end_of buffer) (end_entry p summary ∷ [])) h.gives.base
       (last_lsn h.gives.next (placed_by (file_max_of buffer) (end_of buffer) (end_entry p summary ∷ []))) h.gives.is_open (λ d x. data_at x (rows d)) (is_live last_txn is_active) h.gives.logged
   ends_it buffer log rows last_txn last_db is_active own first opening found transactions p summary h is may =
@@ -88,97 +89,96 @@ module _ {D : Type 0} (observable : Bool) (history : D → History) where
       (gives_store log (end_of buffer) rows last_txn last_db is_active own first opening found transactions h.gives is.recovers)
 
   end_recovered : (buffer : LogBuffer D) (log : Log) (rows : Rows) (last_txn last_db : ℕ) (is_active : Flags) (own : Owns) (first : ℕ) (opening : Store) (found : ℕ) (transactions : List (List Change))
-      (p : EndParts) (summary : Option ℕ) (h : HasGiven observable history buffer log rows last_txn last_db is_active own) →
-      MayHaveEnd observable history buffer log rows last_txn last_db is_active own h first p summary → HaveRoom (file_max_of buffer) (end_of buffer) (end_entry p summary ∷ []) →
+      (p : EndParts) (summary : Option ℕ) (h : HasGiven meaning buffer log rows last_txn last_db is_active own) →
+      MayHaveEnd meaning buffer log rows last_txn last_db is_active own h first p summary → HaveRoom (file_max_of buffer) (end_of buffer) (end_entry p summary ∷ []) →
       RecoversLog first opening found transactions log → RecoversLog first opening found transactions (longer buffer (end_entry p summary ∷ []) log)
   end_recovered buffer log rows last_txn last_db is_active own first opening found transactions p summary h may room is =
       longer_recovers first opening found transactions transactions log (end_of buffer) (last_of buffer) (file_max_of buffer) (end_entry p summary ∷ []) is h.has.ends room
       (ends_it buffer log rows last_txn last_db is_active own first opening found transactions p summary h is may).recovers
 
-  module _ (sync_out read_out : D → Option ℕ) (read_of : D → ℕ) where
-    pub neutrals_are_given : NeutralsAreGiven observable history sync_out read_out read_of
-    neutrals_are_given old new log rows last_txn last_db is_active own h a =
-        let longer_has : HasLog observable (now (history (disk_of new))) new (longer old a.entries log) = a.grew.log log h.has in
-        let rise = rises observable history old log rows last_txn last_db is_active own a.entries h longer_has.is_log in
-        let more : List Placed = placed_by (file_max_of old) (end_of old) a.entries in
-        record {
-          has = longer_has;
-          gives = record {
-            base = h.gives.base;
-            next = last_lsn h.gives.next more;
-            is_open = h.gives.is_open;
-            logged = h.gives.logged;
-            stands = subst (λ (l : List Placed). Stands l h.gives.base (last_lsn h.gives.next more) h.gives.is_open (λ d x. data_at x (rows d)) (is_live last_txn is_active) h.gives.logged)
-                (sym (longer_placed observable history old log a.entries h.has))
-                (neutrals_stand (placed log) h.gives.base h.gives.next h.gives.is_open (λ d x. data_at x (rows d)) (is_live last_txn is_active) h.gives.logged more h.gives.stands rise.rise
-                (neutral_placed old a.entries rise.entries_are a.logs));
-            own_is = h.gives.own_is;
-            none = h.gives.none;
-            below = subst (λ (e : LogPos). last_lsn h.gives.next more < pos_lsn e) (sym a.grew.end) rise.below;
-            listed = h.gives.listed;
-            later = h.gives.later;
-            unused = h.gives.unused;
-            numbers = h.gives.numbers;
-          };
-        }
+  pub neutrals_are_given : NeutralsAreGiven meaning
+  neutrals_are_given old new log rows last_txn last_db is_active own h a =
+      let longer_has : HasLog meaning.observable (now (meaning.history (disk_of new))) new (longer old a.entries log) = a.grew.log log h.has in
+      let rise = rises meaning old log rows last_txn last_db is_active own a.entries h longer_has.is_log in
+      let more : List Placed = placed_by (file_max_of old) (end_of old) a.entries in
+      record {
+        has = longer_has;
+        gives = record {
+          base = h.gives.base;
+          next = last_lsn h.gives.next more;
+          is_open = h.gives.is_open;
+          logged = h.gives.logged;
+          stands = subst (λ (l : List Placed). Stands l h.gives.base (last_lsn h.gives.next more) h.gives.is_open (λ d x. data_at x (rows d)) (is_live last_txn is_active) h.gives.logged)
+              (sym (longer_placed meaning old log a.entries h.has))
+              (neutrals_stand (placed log) h.gives.base h.gives.next h.gives.is_open (λ d x. data_at x (rows d)) (is_live last_txn is_active) h.gives.logged more h.gives.stands rise.rise
+              (neutral_placed old a.entries rise.entries_are a.logs));
+          own_is = h.gives.own_is;
+          none = h.gives.none;
+          below = subst (λ (e : LogPos). last_lsn h.gives.next more < pos_lsn e) (sym a.grew.end) rise.below;
+          listed = h.gives.listed;
+          later = h.gives.later;
+          unused = h.gives.unused;
+          numbers = h.gives.numbers;
+        };
+      }
 
-    -- this life of the environment began where it did
-    pub neutrals_leave_base : (old new : LogBuffer D) (log : Log) (rows : Rows) (last_txn last_db : ℕ) (is_active : Flags) (own : Owns) (h : HasGiven observable history old log rows last_txn last_db is_active own)
-        (a : HasAdded observable history sync_out read_out read_of old new AreNeutral) →
-        (neutrals_are_given old new log rows last_txn last_db is_active own h a).gives.base ≡ h.gives.base
-    unfolding neutrals_are_given
-    neutrals_leave_base old new log rows last_txn last_db is_active own h a = refl
+  -- this life of the environment began where it did
+  pub neutrals_leave_base : (old new : LogBuffer D) (log : Log) (rows : Rows) (last_txn last_db : ℕ) (is_active : Flags) (own : Owns) (h : HasGiven meaning old log rows last_txn last_db is_active own)
+      (a : HasAdded meaning old new AreNeutral) →
+      (neutrals_are_given old new log rows last_txn last_db is_active own h a).gives.base ≡ h.gives.base
+  unfolding neutrals_are_given
+  neutrals_leave_base old new log rows last_txn last_db is_active own h a = refl
 
-    pub neutrals_are_recovered : NeutralsAreRecovered observable history sync_out read_out read_of
-    neutrals_are_recovered old new log rows last_txn last_db is_active own first opening found transactions h a is =
-        neutrals_recovered old log rows last_txn last_db is_active own a.entries first opening found transactions h a.logs a.room is
+  pub neutrals_are_recovered : NeutralsAreRecovered meaning
+  neutrals_are_recovered old new log rows last_txn last_db is_active own first opening found transactions h a is =
+      neutrals_recovered old log rows last_txn last_db is_active own a.entries first opening found transactions h a.logs a.room is
 
-    pub tried_neutrals_are_recovered : TriedNeutralsAreRecovered observable history sync_out read_out read_of
-    tried_neutrals_are_recovered old new log rows last_txn last_db is_active own first opening found transactions h f is =
-        neutrals_recovered old log rows last_txn last_db is_active own f.front first opening found transactions h (neutral_front f.front f.is_front.0 (subst AreNeutral (sym f.is_front.1) f.logs)) f.room is
+  pub tried_neutrals_are_recovered : TriedNeutralsAreRecovered meaning
+  tried_neutrals_are_recovered old new log rows last_txn last_db is_active own first opening found transactions h f is =
+      neutrals_recovered old log rows last_txn last_db is_active own f.front first opening found transactions h (neutral_front f.front f.is_front.0 (subst AreNeutral (sym f.is_front.1) f.logs)) f.room is
 
-    pub end_is_given : EndIsGiven observable history sync_out read_out read_of
-    end_is_given old new log rows last_txn last_db is_active own first opening found transactions p summary h is may a =
-        let longer_has : HasLog observable (now (history (disk_of new))) new (longer old a.entries log) = a.grew.log log h.has in
-        let rise = rises observable history old log rows last_txn last_db is_active own a.entries h longer_has.is_log in
-        let more : List Placed = placed_by (file_max_of old) (end_of old) a.entries in
-        let stands : Stands (placed log ++ more) h.gives.base (last_lsn h.gives.next more) h.gives.is_open (λ d x. data_at x (rows d)) (is_live last_txn is_active) h.gives.logged =
-        subst (λ (es : List Entry). Stands (placed log ++ placed_by (file_max_of old) (end_of old) es) h.gives.base (last_lsn h.gives.next (placed_by (file_max_of old) (end_of old) es)) h.gives.is_open
-        (λ d x. data_at x (rows d)) (is_live last_txn is_active) h.gives.logged) (sym a.logs)
-        (ends_it old log rows last_txn last_db is_active own first opening found transactions p summary h is may).stands in
-        record {
-          has = longer_has;
-          gives = record {
-            base = h.gives.base;
-            next = last_lsn h.gives.next more;
-            is_open = h.gives.is_open;
-            logged = h.gives.logged;
-            stands = subst (λ (l : List Placed). Stands l h.gives.base (last_lsn h.gives.next more) h.gives.is_open (λ d x. data_at x (rows d)) (is_live last_txn is_active) h.gives.logged)
-                (sym (longer_placed observable history old log a.entries h.has)) stands;
-            own_is = h.gives.own_is;
-            none = h.gives.none;
-            below = subst (λ (e : LogPos). last_lsn h.gives.next more < pos_lsn e) (sym a.grew.end) rise.below;
-            listed = h.gives.listed;
-            later = h.gives.later;
-            unused = h.gives.unused;
-            numbers = h.gives.numbers;
-          };
-        }
+  pub end_is_given : EndIsGiven meaning
+  end_is_given old new log rows last_txn last_db is_active own first opening found transactions p summary h is may a =
+      let longer_has : HasLog meaning.observable (now (meaning.history (disk_of new))) new (longer old a.entries log) = a.grew.log log h.has in
+      let rise = rises meaning old log rows last_txn last_db is_active own a.entries h longer_has.is_log in
+      let more : List Placed = placed_by (file_max_of old) (end_of old) a.entries in
+      let stands : Stands (placed log ++ more) h.gives.base (last_lsn h.gives.next more) h.gives.is_open (λ d x. data_at x (rows d)) (is_live last_txn is_active) h.gives.logged =
+      subst (λ (es : List Entry). Stands (placed log ++ placed_by (file_max_of old) (end_of old) es) h.gives.base (last_lsn h.gives.next (placed_by (file_max_of old) (end_of old) es)) h.gives.is_open
+      (λ d x. data_at x (rows d)) (is_live last_txn is_active) h.gives.logged) (sym a.logs)
+      (ends_it old log rows last_txn last_db is_active own first opening found transactions p summary h is may).stands in
+      record {
+        has = longer_has;
+        gives = record {
+          base = h.gives.base;
+          next = last_lsn h.gives.next more;
+          is_open = h.gives.is_open;
+          logged = h.gives.logged;
+          stands = subst (λ (l : List Placed). Stands l h.gives.base (last_lsn h.gives.next more) h.gives.is_open (λ d x. data_at x (rows d)) (is_live last_txn is_active) h.gives.logged)
+              (sym (longer_placed meaning old log a.entries h.has)) stands;
+          own_is = h.gives.own_is;
+          none = h.gives.none;
+          below = subst (λ (e : LogPos). last_lsn h.gives.next more < pos_lsn e) (sym a.grew.end) rise.below;
+          listed = h.gives.listed;
+          later = h.gives.later;
+          unused = h.gives.unused;
+          numbers = h.gives.numbers;
+        };
+      }
 
-    pub end_leaves_base : (old new : LogBuffer D) (log : Log) (rows : Rows) (last_txn last_db : ℕ) (is_active : Flags) (own : Owns) (first : ℕ) (opening : Store) (found : ℕ)
-        (transactions : List (List Change)) (p : EndParts) (summary : Option ℕ) (h : HasGiven observable history old log rows last_txn last_db is_active own) (is : RecoversLog first opening found transactions log)
-        (may : MayHaveEnd observable history old log rows last_txn last_db is_active own h first p summary) (a : HasAdded observable history sync_out read_out read_of old new (IsEndOf p summary)) →
-        (end_is_given old new log rows last_txn last_db is_active own first opening found transactions p summary h is may a).gives.base ≡ h.gives.base
-    unfolding end_is_given
-    end_leaves_base old new log rows last_txn last_db is_active own first opening found transactions p summary h is may a = refl
+  pub end_leaves_base : (old new : LogBuffer D) (log : Log) (rows : Rows) (last_txn last_db : ℕ) (is_active : Flags) (own : Owns) (first : ℕ) (opening : Store) (found : ℕ)
+      (transactions : List (List Change)) (p : EndParts) (summary : Option ℕ) (h : HasGiven meaning old log rows last_txn last_db is_active own) (is : RecoversLog first opening found transactions log)
+      (may : MayHaveEnd meaning old log rows last_txn last_db is_active own h first p summary) (a : HasAdded meaning old new (IsEndOf p summary)) →
+      (end_is_given old new log rows last_txn last_db is_active own first opening found transactions p summary h is may a).gives.base ≡ h.gives.base
+  unfolding end_is_given
+  end_leaves_base old new log rows last_txn last_db is_active own first opening found transactions p summary h is may a = refl
 
-    pub end_is_recovered : EndIsRecovered observable history sync_out read_out read_of
-    end_is_recovered old new log rows last_txn last_db is_active own first opening found transactions p summary h may a is =
-        subst (λ (es : List Entry). RecoversLog first opening found transactions (longer old es log)) (sym a.logs)
-        (end_recovered old log rows last_txn last_db is_active own first opening found transactions p summary h may (subst (HaveRoom (file_max_of old) (end_of old)) a.logs a.room) is)
+  pub end_is_recovered : EndIsRecovered meaning
+  end_is_recovered old new log rows last_txn last_db is_active own first opening found transactions p summary h may a is =
+      subst (λ (es : List Entry). RecoversLog first opening found transactions (longer old es log)) (sym a.logs)
+      (end_recovered old log rows last_txn last_db is_active own first opening found transactions p summary h may (subst (HaveRoom (file_max_of old) (end_of old)) a.logs a.room) is)
 
-    pub tried_end_is_recovered : TriedEndIsRecovered observable history sync_out read_out read_of
-    tried_end_is_recovered old new log rows last_txn last_db is_active own first opening found transactions p summary h may f is =
-        by_front (end_entry p summary) (λ front. HaveRoom (file_max_of old) (end_of old) front → RecoversLog first opening found transactions (longer old front log)) f.front f.is_front.0 (f.is_front.1 ∙ f.logs)
-        (λ room. is)
-        (λ room. end_recovered old log rows last_txn last_db is_active own first opening found transactions p summary h may room is) f.room
+  pub tried_end_is_recovered : TriedEndIsRecovered meaning
+  tried_end_is_recovered old new log rows last_txn last_db is_active own first opening found transactions p summary h may f is =
+      by_front (end_entry p summary) (λ front. HaveRoom (file_max_of old) (end_of old) front → RecoversLog first opening found transactions (longer old front log)) f.front f.is_front.0 (f.is_front.1 ∙ f.logs)
+      (λ room. is)
+      (λ room. end_recovered old log rows last_txn last_db is_active own first opening found transactions p summary h may room is) f.room

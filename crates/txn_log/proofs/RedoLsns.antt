@@ -3,7 +3,7 @@ use Rattle.std.proofs.Common.{◌≡◌, ℕ, zero, suc, ◌==◌, ◌≤◌, �
 use Rattle.std.specs.List.{AllByRecursion}
 use Rattle.std.proofs.lemmas.Bool.{eqb-true}
 use Rattle.std.proofs.Math.Nat.{le_trans}
-use Rattle.je_disk.specs.Moments.{History}
+use Rattle.je_disk.specs.DiskMeaning.{DiskMeaning}
 use Rattle.log_entry.specs.Encoding.{size_of}
 use Rattle.log_entry.specs.declared.entry.Entry.{Entry}
 use Rattle.log_entry.specs.declared.entry.Entry.TheVariants.{FileHeader, Put, Delete, Migrated, Commit, In, Bin, BinDelta, CkptStart, CkptEnd, FileSummary}
@@ -133,22 +133,22 @@ all_from from u (p ∷ more) redo le all = all_from from u more (redo_entry p.0 
 pub waits_from : WaitsFrom
 waits_from from u more logged le all = all_from from u more (record { done = []; pending = logged }) le all
 
-module _ {D : Type 0} (observable : Bool) (history : D → History) where
-  pub ends_from_stays : EndsFromStays observable history
+module _ {D : Type 0} (meaning : DiskMeaning D) where
+  pub ends_from_stays : EndsFromStays meaning
   ends_from_stays old log entries base since has none ends = record {
     life = ends.life;
     redo = subst (λ (o : Option Checkpoint). (unwrap_or o no_checkpoint).redo ≤ since)
-        (sym (ap last_end (longer_placed observable history old log entries has) ∙ last_stays (placed log) (placed_by (file_max_of old) (end_of old) entries) (no_ends (file_max_of old) (end_of old) entries none)))
+        (sym (ap last_end (longer_placed meaning old log entries has) ∙ last_stays (placed log) (placed_by (file_max_of old) (end_of old) entries) (no_ends (file_max_of old) (end_of old) entries none)))
         ends.redo;
     file = begins_all (file_max_of old) (end_of old) entries log (since / 2 ^ 32) ends.file;
   }
 
-  pub ends_from_end : EndsFromEnd observable history
+  pub ends_from_end : EndsFromEnd meaning
   ends_from_end old log p summary base since has up ends =
       let entries : List Entry = end_entry p summary ∷ [] in
       record {
         life = le_trans ends.life up;
         redo = subst (λ (o : Option Checkpoint). (unwrap_or o no_checkpoint).redo ≤ p.redo)
-            (sym (ap last_end (longer_placed observable history old log entries has) ∙ last_end-push (placed log) _)) (omega arith);
+            (sym (ap last_end (longer_placed meaning old log entries has) ∙ last_end-push (placed log) _)) (omega arith);
         file = begins_all (file_max_of old) (end_of old) entries log (p.redo / 2 ^ 32) (further log (since / 2 ^ 32) (p.redo / 2 ^ 32) (div_le since p.redo up) ends.file);
       }

@@ -1,7 +1,7 @@
 -- The log of an environment beside the model, while transactions are under way.
-use Rattle.std.specs.Prelude.{ℕ, ◌≡◌, ◌≤◌, ◌+◌, Bool, true, None, Some, Option, List, [], map}
+use Rattle.std.specs.Prelude.{ℕ, ◌≡◌, ◌≤◌, ◌+◌, Bool, true, None, Some, List, [], map}
 use Rattle.std.specs.List.{AllByRecursion}
-use Rattle.je_disk.specs.Moments.{History}
+use Rattle.je_disk.specs.DiskMeaning.{DiskMeaning}
 use Rattle.je_order.specs.declared.txn_id.TxnId.{TxnId}
 use Rattle.store_model.specs.declared.change.Change.{Change}
 use Rattle.store_model.specs.declared.record_change.RecordChange.{RecordChange}
@@ -35,47 +35,47 @@ NamedAreOn = (st : Standing) (g : Target) (changes : List RecordChange) → data
 module _ {D : Type 0} where
   -- a buffer's log gives the committed records and each transaction's own changes; the records make the standing's store, and the own changes may be
   -- committed
-  pub record IsLogAt (observable : Bool) (history : D → History) (buffer : LogBuffer D) (log : Log) (rows : Rows) (is_active : ℕ → Bool) (st : Standing) : Type 0 where
-    pub given : HasGiven observable history buffer log rows st.last_txn st.last_db is_active st.own
+  pub record IsLogAt (meaning : DiskMeaning D) (buffer : LogBuffer D) (log : Log) (rows : Rows) (is_active : ℕ → Bool) (st : Standing) : Type 0 where
+    pub given : HasGiven meaning buffer log rows st.last_txn st.last_db is_active st.own
     pub makes : MakesStore rows st.last_db st
     pub may : (t : ℕ) → AllByRecursion (MayBeCommitted rows) (st.own t)
 
-  module _ (observable : Bool) (history : D → History) (sync_out read_out : D → Option ℕ) (read_of : D → ℕ) where
+  module _ (meaning : DiskMeaning D) where
     -- changes of a transaction under way, and nothing else
     abbrev pub ChangesLeaveLog : Type 0
     ChangesLeaveLog = (old new : LogBuffer D) (log : Log) (rows : Rows) (is_active : ℕ → Bool) (st after : Standing) (t : TxnId) (changes : List TreeChange)
-        → IsLogAt observable history old log rows is_active st → MayAddChanges st.last_txn is_active st.own t changes → AllByRecursion (MayBeCommitted rows) (map own_of changes)
-        → (a : HasAdded observable history sync_out read_out read_of old new (LogsChanges t changes))
+        → IsLogAt meaning old log rows is_active st → MayAddChanges st.last_txn is_active st.own t changes → AllByRecursion (MayBeCommitted rows) (map own_of changes)
+        → (a : HasAdded meaning old new (LogsChanges t changes))
         → after.store ≡ st.store → after.numbers ≡ st.numbers → after.last_db ≡ st.last_db → after.last_txn ≡ st.last_txn
         → ((u : ℕ) → after.own u ≡ own_with t.0 changes st.own u)
-        → IsLogAt observable history new (longer old a.entries log) rows is_active after
+        → IsLogAt meaning new (longer old a.entries log) rows is_active after
 
     -- a transaction that was logged with its Commit
     abbrev pub TransactionLeavesLog : Type 0
     TransactionLeavesLog = (old new : LogBuffer D) (log : Log) (rows later : Rows) (is_active still : ℕ → Bool) (st after : Standing) (goes : ℕ → Bool) (t : TxnId) (had : List OwnChange)
         (changes : List TreeChange) (committed : List Change)
-        → IsLogAt observable history old log rows is_active st → MayCommit st.last_txn is_active st.own rows later st.last_db after.last_db goes t had changes
+        → IsLogAt meaning old log rows is_active st → MayCommit st.last_txn is_active st.own rows later st.last_db after.last_db goes t had changes
         → store_of later ≡ all_changed committed (store_of rows) → ((name : List ℕ) → number_named later name ≡ all_numbered committed st.last_db st.numbers name)
         → ((u : ℕ) → AllByRecursion (MayBeCommitted later) (after.own u))
-        → (a : HasAdded observable history sync_out read_out read_of old new (LogsTransaction t changes))
+        → (a : HasAdded meaning old new (LogsTransaction t changes))
         → HasCommitted st after committed → st.last_txn ≤ after.last_txn → AreStillActive st.last_txn is_active (with_at t.0 [] st.own) still after.own
-        → IsLogAt observable history new (longer old a.entries log) later still after
+        → IsLogAt meaning new (longer old a.entries log) later still after
 
     -- a transaction under way commits its own changes
     abbrev pub OwnCommitLeavesLog : Type 0
     OwnCommitLeavesLog = (old new : LogBuffer D) (log : Log) (rows : Rows) (is_active still : ℕ → Bool) (st after : Standing) (t : TxnId)
-        → IsLogAt observable history old log rows is_active st → is_active t.0 ≡ true
-        → (a : HasAdded observable history sync_out read_out read_of old new (LogsTransaction t []))
+        → IsLogAt meaning old log rows is_active st → is_active t.0 ≡ true
+        → (a : HasAdded meaning old new (LogsTransaction t []))
         → HasCommitted st after (changes_named st (st.own t.0)) → after.last_txn ≡ st.last_txn
         → ((u : ℕ) → still u ≡ true → is_active u ≡ true) → ((u : ℕ) → after.own u ≡ with_at t.0 [] st.own u)
-        → IsLogAt observable history new (longer old a.entries log) (rows_own (st.own t.0) rows) still after
+        → IsLogAt meaning new (longer old a.entries log) (rows_own (st.own t.0) rows) still after
 
     -- a call of its own logs its changes with their Commit
     abbrev pub LoneCommitLeavesLog : Type 0
     LoneCommitLeavesLog = (old new : LogBuffer D) (log : Log) (rows : Rows) (is_active still : ℕ → Bool) (st after : Standing) (t : TxnId) (changes : List TreeChange)
-        → IsLogAt observable history old log rows is_active st → HasOwn st.last_txn is_active st.own t.0 [] → AreFreeNames is_active st.own t.0 changes
+        → IsLogAt meaning old log rows is_active st → HasOwn st.last_txn is_active st.own t.0 [] → AreFreeNames is_active st.own t.0 changes
         → AllByRecursion (λ c. c.makes ≡ None) changes → AllByRecursion (MayBeCommitted rows) (map own_of changes)
-        → (a : HasAdded observable history sync_out read_out read_of old new (LogsTransaction t changes))
+        → (a : HasAdded meaning old new (LogsTransaction t changes))
         → HasCommitted st after (changes_named st (map own_of changes)) → st.last_txn ≤ after.last_txn
         → AreStillActive st.last_txn is_active (with_at t.0 [] st.own) still after.own → ((u : ℕ) → AllByRecursion (MayBeCommitted rows) (after.own u))
-        → IsLogAt observable history new (longer old a.entries log) (rows_own (map own_of changes) rows) still after
+        → IsLogAt meaning new (longer old a.entries log) (rows_own (map own_of changes) rows) still after

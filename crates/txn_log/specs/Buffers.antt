@@ -1,6 +1,7 @@
 -- A log buffer whose log gives records while transactions are under way, and grows by the entries of one of them.
-use Rattle.std.specs.Prelude.{ℕ, ◌≡◌, ◌≤◌, ◌⊎◌, Bool, true, List, [], ◌∷◌, ◌++◌, Option, map}
-use Rattle.je_disk.specs.Moments.{History, now}
+use Rattle.std.specs.Prelude.{ℕ, ◌≡◌, ◌≤◌, ◌⊎◌, Bool, true, List, [], ◌∷◌, ◌++◌, map}
+use Rattle.je_disk.specs.DiskMeaning.{DiskMeaning}
+use Rattle.je_disk.specs.Moments.{now}
 use Rattle.je_order.specs.declared.txn_id.TxnId.{TxnId}
 use Rattle.store_model.specs.declared.change.Change.{Change}
 use Rattle.store_model.specs.declared.store.Store.{Store}
@@ -37,16 +38,16 @@ pub record MayCommit (last_txn : ℕ) (is_active : ℕ → Bool) (own : ℕ → 
 
 module _ {D : Type 0} where
   -- a buffer has a log that gives records
-  pub record HasGiven (observable : Bool) (history : D → History) (buffer : LogBuffer D) (log : Log) (rows : Rows) (last_txn last_db : ℕ) (is_active : ℕ → Bool) (own : ℕ → List OwnChange) : Type 0 where
-    pub has : HasLog observable (now (history (disk_of buffer))) buffer log
+  pub record HasGiven (meaning : DiskMeaning D) (buffer : LogBuffer D) (log : Log) (rows : Rows) (last_txn last_db : ℕ) (is_active : ℕ → Bool) (own : ℕ → List OwnChange) : Type 0 where
+    pub has : HasLog meaning.observable (now (meaning.history (disk_of buffer))) buffer log
     pub gives : GivesRecordsWith log (end_of buffer) rows last_txn last_db is_active own
 
-  module _ (observable : Bool) (history : D → History) (sync_out read_out : D → Option ℕ) (read_of : D → ℕ) where
+  module _ (meaning : DiskMeaning D) where
     -- the log got entries, for which it has room
     pub record HasAdded (old new : LogBuffer D) (AreLogged : List Entry → Type 0) : Type 0 where
       pub entries : List Entry
       pub logs : AreLogged entries
-      pub grew : Grew observable history sync_out read_out read_of old new entries
+      pub grew : Grew meaning old new entries
       pub room : HaveRoom (file_max_of old) (end_of old) entries
 
     -- or the disk failed while the first of them were appended
@@ -55,27 +56,27 @@ module _ {D : Type 0} where
       pub front : List Entry
       pub logs : AreLogged entries
       pub is_front : IsFront front entries
-      pub tried : Tried observable history sync_out read_out read_of old new front
+      pub tried : Tried meaning old new front
       pub room : HaveRoom (file_max_of old) (end_of old) front
 
     -- ---- changes without a commit
 
     abbrev pub ChangesAreGiven : Type 0
     ChangesAreGiven = (old new : LogBuffer D) (log : Log) (rows : Rows) (last_txn last_db : ℕ) (is_active : ℕ → Bool) (own : ℕ → List OwnChange) (t : TxnId) (changes : List TreeChange)
-        → HasGiven observable history old log rows last_txn last_db is_active own → MayAddChanges last_txn is_active own t changes → (a : HasAdded old new (LogsChanges t changes))
-        → HasGiven observable history new (longer old a.entries log) rows last_txn last_db is_active (own_with t.0 changes own)
+        → HasGiven meaning old log rows last_txn last_db is_active own → MayAddChanges last_txn is_active own t changes → (a : HasAdded old new (LogsChanges t changes))
+        → HasGiven meaning new (longer old a.entries log) rows last_txn last_db is_active (own_with t.0 changes own)
 
     -- the longer log recovers what the log did, and so it is where the disk failed
     abbrev pub ChangesAreRecovered : Type 0
     ChangesAreRecovered = (old new : LogBuffer D) (log : Log) (rows : Rows) (last_txn last_db : ℕ) (is_active : ℕ → Bool) (own : ℕ → List OwnChange) (t : TxnId) (changes : List TreeChange)
         (first : ℕ) (opening : Store) (found : ℕ) (transactions : List (List Change))
-        → HasGiven observable history old log rows last_txn last_db is_active own → MayAddChanges last_txn is_active own t changes → (a : HasAdded old new (LogsChanges t changes))
+        → HasGiven meaning old log rows last_txn last_db is_active own → MayAddChanges last_txn is_active own t changes → (a : HasAdded old new (LogsChanges t changes))
         → RecoversLog first opening found transactions log → RecoversLog first opening found transactions (longer old a.entries log)
 
     abbrev pub TriedChangesAreRecovered : Type 0
     TriedChangesAreRecovered = (old new : LogBuffer D) (log : Log) (rows : Rows) (last_txn last_db : ℕ) (is_active : ℕ → Bool) (own : ℕ → List OwnChange) (t : TxnId) (changes : List TreeChange)
         (first : ℕ) (opening : Store) (found : ℕ) (transactions : List (List Change))
-        → HasGiven observable history old log rows last_txn last_db is_active own → MayAddChanges last_txn is_active own t changes → (f : HasFailed old new (LogsChanges t changes))
+        → HasGiven meaning old log rows last_txn last_db is_active own → MayAddChanges last_txn is_active own t changes → (f : HasFailed old new (LogsChanges t changes))
         → RecoversLog first opening found transactions log → RecoversLog first opening found transactions (longer old f.front log)
 
     -- ---- a commit
@@ -83,15 +84,15 @@ module _ {D : Type 0} where
     abbrev pub TransactionIsGiven : Type 0
     TransactionIsGiven = (old new : LogBuffer D) (log : Log) (rows after : Rows) (last_txn last_db later_db : ℕ) (is_active : ℕ → Bool) (own : ℕ → List OwnChange) (goes : ℕ → Bool) (t : TxnId)
         (had : List OwnChange) (changes : List TreeChange)
-        → HasGiven observable history old log rows last_txn last_db is_active own → MayCommit last_txn is_active own rows after last_db later_db goes t had changes
+        → HasGiven meaning old log rows last_txn last_db is_active own → MayCommit last_txn is_active own rows after last_db later_db goes t had changes
         → (a : HasAdded old new (LogsTransaction t changes))
-        → HasGiven observable history new (longer old a.entries log) after last_txn later_db is_active (with_at t.0 [] own)
+        → HasGiven meaning new (longer old a.entries log) after last_txn later_db is_active (with_at t.0 [] own)
 
     -- the longer log recovers the transaction
     abbrev pub CommitIsRecovered : Type 0
     CommitIsRecovered = (old new : LogBuffer D) (log : Log) (rows after : Rows) (last_txn last_db later_db : ℕ) (is_active : ℕ → Bool) (own : ℕ → List OwnChange) (goes : ℕ → Bool) (t : TxnId)
         (had : List OwnChange) (changes : List TreeChange) (committed : List Change) (first : ℕ) (opening : Store) (found : ℕ) (transactions : List (List Change))
-        → HasGiven observable history old log rows last_txn last_db is_active own → MayCommit last_txn is_active own rows after last_db later_db goes t had changes
+        → HasGiven meaning old log rows last_txn last_db is_active own → MayCommit last_txn is_active own rows after last_db later_db goes t had changes
         → store_of after ≡ all_changed committed (store_of rows) → (a : HasAdded old new (LogsTransaction t changes))
         → RecoversLog first opening found transactions log → RecoversLog first opening found (transactions ++ committed ∷ []) (longer old a.entries log)
 
@@ -99,7 +100,7 @@ module _ {D : Type 0} where
     abbrev pub TriedCommitIsRecovered : Type 0
     TriedCommitIsRecovered = (old new : LogBuffer D) (log : Log) (rows after : Rows) (last_txn last_db later_db : ℕ) (is_active : ℕ → Bool) (own : ℕ → List OwnChange) (goes : ℕ → Bool) (t : TxnId)
         (had : List OwnChange) (changes : List TreeChange) (committed : List Change) (first : ℕ) (opening : Store) (found : ℕ) (transactions : List (List Change))
-        → HasGiven observable history old log rows last_txn last_db is_active own → MayCommit last_txn is_active own rows after last_db later_db goes t had changes
+        → HasGiven meaning old log rows last_txn last_db is_active own → MayCommit last_txn is_active own rows after last_db later_db goes t had changes
         → store_of after ≡ all_changed committed (store_of rows) → (f : HasFailed old new (LogsTransaction t changes))
         → RecoversLog first opening found transactions log
         → RecoversLog first opening found transactions (longer old f.front log) ⊎ RecoversLog first opening found (transactions ++ committed ∷ []) (longer old f.front log)

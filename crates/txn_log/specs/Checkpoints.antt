@@ -1,7 +1,8 @@
 -- A log buffer whose log gives records while transactions are under way, and gets the entries of a checkpoint.
 use Rattle.std.specs.Prelude.{ℕ, ◌≡◌, ◌≤◌, ◌/◌, ◌^◌, ◌∷◌, [], Bool, true, None, List, Option}
 use Rattle.std.specs.List.{AllByRecursion}
-use Rattle.je_disk.specs.Moments.{History, now}
+use Rattle.je_disk.specs.DiskMeaning.{DiskMeaning}
+use Rattle.je_disk.specs.Moments.{now}
 use Rattle.je_order.specs.declared.txn_id.TxnId.{TxnId}
 use Rattle.store_model.specs.declared.change.Change.{Change}
 use Rattle.store_model.specs.declared.store.Store.{Store}
@@ -79,31 +80,31 @@ AreNoEnds entries = AllByRecursion (λ e. (at : ℕ) → checkpoint_in at e ≡ 
 
 module _ {D : Type 0} where
   -- such an end may stand behind a log
-  abbrev pub MayHaveEnd : (observable : Bool) (history : D → History) (buffer : LogBuffer D) (log : Log) (rows : Rows) (last_txn last_db : ℕ) (is_active : ℕ → Bool) (own : ℕ → List OwnChange) →
-      HasGiven observable history buffer log rows last_txn last_db is_active own → ℕ → EndParts → Option ℕ → Type 0
-  MayHaveEnd observable history buffer log rows last_txn last_db is_active own h first p summary =
+  abbrev pub MayHaveEnd : (meaning : DiskMeaning D) (buffer : LogBuffer D) (log : Log) (rows : Rows) (last_txn last_db : ℕ) (is_active : ℕ → Bool) (own : ℕ → List OwnChange) →
+      HasGiven meaning buffer log rows last_txn last_db is_active own → ℕ → EndParts → Option ℕ → Type 0
+  MayHaveEnd meaning buffer log rows last_txn last_db is_active own h first p summary =
       MayEnd first (placed log) h.gives.base h.gives.next (pos_lsn (placed_at (file_max_of buffer) (end_of buffer) (size_of (end_entry p summary)))) h.gives.is_open (λ d x. data_at x (rows d))
       (is_live last_txn is_active) h.gives.logged p.redo p.roots
 
-  module _ (observable : Bool) (history : D → History) (sync_out read_out : D → Option ℕ) (read_of : D → ℕ) where
+  module _ (meaning : DiskMeaning D) where
     -- ---- entries that change nothing
 
     -- the longer log gives the same, and recovers what the log did, and so it is where the disk failed
     abbrev pub NeutralsAreGiven : Type 0
     NeutralsAreGiven = (old new : LogBuffer D) (log : Log) (rows : Rows) (last_txn last_db : ℕ) (is_active : ℕ → Bool) (own : ℕ → List OwnChange)
-        → HasGiven observable history old log rows last_txn last_db is_active own → (a : HasAdded observable history sync_out read_out read_of old new AreNeutral)
-        → HasGiven observable history new (longer old a.entries log) rows last_txn last_db is_active own
+        → HasGiven meaning old log rows last_txn last_db is_active own → (a : HasAdded meaning old new AreNeutral)
+        → HasGiven meaning new (longer old a.entries log) rows last_txn last_db is_active own
 
     abbrev pub NeutralsAreRecovered : Type 0
     NeutralsAreRecovered = (old new : LogBuffer D) (log : Log) (rows : Rows) (last_txn last_db : ℕ) (is_active : ℕ → Bool) (own : ℕ → List OwnChange)
         (first : ℕ) (opening : Store) (found : ℕ) (transactions : List (List Change))
-        → HasGiven observable history old log rows last_txn last_db is_active own → (a : HasAdded observable history sync_out read_out read_of old new AreNeutral)
+        → HasGiven meaning old log rows last_txn last_db is_active own → (a : HasAdded meaning old new AreNeutral)
         → RecoversLog first opening found transactions log → RecoversLog first opening found transactions (longer old a.entries log)
 
     abbrev pub TriedNeutralsAreRecovered : Type 0
     TriedNeutralsAreRecovered = (old new : LogBuffer D) (log : Log) (rows : Rows) (last_txn last_db : ℕ) (is_active : ℕ → Bool) (own : ℕ → List OwnChange)
         (first : ℕ) (opening : Store) (found : ℕ) (transactions : List (List Change))
-        → HasGiven observable history old log rows last_txn last_db is_active own → (f : HasFailed observable history sync_out read_out read_of old new AreNeutral)
+        → HasGiven meaning old log rows last_txn last_db is_active own → (f : HasFailed meaning old new AreNeutral)
         → RecoversLog first opening found transactions log → RecoversLog first opening found transactions (longer old f.front log)
 
     -- ---- the end of a checkpoint
@@ -112,35 +113,35 @@ module _ {D : Type 0} where
     abbrev pub EndIsGiven : Type 0
     EndIsGiven = (old new : LogBuffer D) (log : Log) (rows : Rows) (last_txn last_db : ℕ) (is_active : ℕ → Bool) (own : ℕ → List OwnChange)
         (first : ℕ) (opening : Store) (found : ℕ) (transactions : List (List Change)) (p : EndParts) (summary : Option ℕ)
-        → (h : HasGiven observable history old log rows last_txn last_db is_active own) → RecoversLog first opening found transactions log
-        → MayHaveEnd observable history old log rows last_txn last_db is_active own h first p summary
-        → (a : HasAdded observable history sync_out read_out read_of old new (IsEndOf p summary))
-        → HasGiven observable history new (longer old a.entries log) rows last_txn last_db is_active own
+        → (h : HasGiven meaning old log rows last_txn last_db is_active own) → RecoversLog first opening found transactions log
+        → MayHaveEnd meaning old log rows last_txn last_db is_active own h first p summary
+        → (a : HasAdded meaning old new (IsEndOf p summary))
+        → HasGiven meaning new (longer old a.entries log) rows last_txn last_db is_active own
 
     abbrev pub EndIsRecovered : Type 0
     EndIsRecovered = (old new : LogBuffer D) (log : Log) (rows : Rows) (last_txn last_db : ℕ) (is_active : ℕ → Bool) (own : ℕ → List OwnChange)
         (first : ℕ) (opening : Store) (found : ℕ) (transactions : List (List Change)) (p : EndParts) (summary : Option ℕ)
-        → (h : HasGiven observable history old log rows last_txn last_db is_active own)
-        → MayHaveEnd observable history old log rows last_txn last_db is_active own h first p summary
-        → (a : HasAdded observable history sync_out read_out read_of old new (IsEndOf p summary))
+        → (h : HasGiven meaning old log rows last_txn last_db is_active own)
+        → MayHaveEnd meaning old log rows last_txn last_db is_active own h first p summary
+        → (a : HasAdded meaning old new (IsEndOf p summary))
         → RecoversLog first opening found transactions log → RecoversLog first opening found transactions (longer old a.entries log)
 
     abbrev pub TriedEndIsRecovered : Type 0
     TriedEndIsRecovered = (old new : LogBuffer D) (log : Log) (rows : Rows) (last_txn last_db : ℕ) (is_active : ℕ → Bool) (own : ℕ → List OwnChange)
         (first : ℕ) (opening : Store) (found : ℕ) (transactions : List (List Change)) (p : EndParts) (summary : Option ℕ)
-        → (h : HasGiven observable history old log rows last_txn last_db is_active own)
-        → MayHaveEnd observable history old log rows last_txn last_db is_active own h first p summary
-        → (f : HasFailed observable history sync_out read_out read_of old new (IsEndOf p summary))
+        → (h : HasGiven meaning old log rows last_txn last_db is_active own)
+        → MayHaveEnd meaning old log rows last_txn last_db is_active own h first p summary
+        → (f : HasFailed meaning old new (IsEndOf p summary))
         → RecoversLog first opening found transactions log → RecoversLog first opening found transactions (longer old f.front log)
 
   -- ---- where a redo may begin
 
-  module _ (observable : Bool) (history : D → History) where
+  module _ (meaning : DiskMeaning D) where
     -- where it may begin it may in a longer log without another end; and behind an end from its redo LSN on
     abbrev pub EndsFromStays : Type 0
-    EndsFromStays = (old : LogBuffer D) (log : Log) (entries : List Entry) (base since : ℕ) → HasLog observable (now (history (disk_of old))) old log → AreNoEnds entries → EndsFrom log base since
+    EndsFromStays = (old : LogBuffer D) (log : Log) (entries : List Entry) (base since : ℕ) → HasLog meaning.observable (now (meaning.history (disk_of old))) old log → AreNoEnds entries → EndsFrom log base since
         → EndsFrom (longer old entries log) base since
 
     abbrev pub EndsFromEnd : Type 0
-    EndsFromEnd = (old : LogBuffer D) (log : Log) (p : EndParts) (summary : Option ℕ) (base since : ℕ) → HasLog observable (now (history (disk_of old))) old log → since ≤ p.redo → EndsFrom log base since
+    EndsFromEnd = (old : LogBuffer D) (log : Log) (p : EndParts) (summary : Option ℕ) (base since : ℕ) → HasLog meaning.observable (now (meaning.history (disk_of old))) old log → since ≤ p.redo → EndsFrom log base since
         → EndsFrom (longer old (end_entry p summary ∷ []) log) base p.redo

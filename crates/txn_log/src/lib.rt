@@ -53,30 +53,30 @@ pub fn own_changes_are_committed()
 
 /// The same of a log buffer that grows, and of one that fails on the way.
 pub fn buffers_go_on<D: Disk>()
-    ensures changes { ChangesAreGiven D.observable D.history D.sync_out D.read_out D.read_of }
-    ensures changes_recover { ChangesAreRecovered D.observable D.history D.sync_out D.read_out D.read_of }
-    ensures changes_tried { TriedChangesAreRecovered D.observable D.history D.sync_out D.read_out D.read_of }
-    ensures transaction { TransactionIsGiven D.observable D.history D.sync_out D.read_out D.read_of }
-    ensures transaction_recovers { CommitIsRecovered D.observable D.history D.sync_out D.read_out D.read_of }
-    ensures transaction_tried { TriedCommitIsRecovered D.observable D.history D.sync_out D.read_out D.read_of }
+    ensures changes { ChangesAreGiven D.meaning }
+    ensures changes_recover { ChangesAreRecovered D.meaning }
+    ensures changes_tried { TriedChangesAreRecovered D.meaning }
+    ensures transaction { TransactionIsGiven D.meaning }
+    ensures transaction_recovers { CommitIsRecovered D.meaning }
+    ensures transaction_tried { TriedCommitIsRecovered D.meaning }
 {}
 
 /// The entries of a checkpoint, its beginning, images of nodes, its end: the log gives what it gave, and what is
 /// recovered is as it was, also where the disk fails on the way.
 pub fn checkpoints_go_on<D: Disk>()
-    ensures neutrals { NeutralsAreGiven D.observable D.history D.sync_out D.read_out D.read_of }
-    ensures neutrals_recover { NeutralsAreRecovered D.observable D.history D.sync_out D.read_out D.read_of }
-    ensures neutrals_tried { TriedNeutralsAreRecovered D.observable D.history D.sync_out D.read_out D.read_of }
-    ensures end { EndIsGiven D.observable D.history D.sync_out D.read_out D.read_of }
-    ensures end_recovers { EndIsRecovered D.observable D.history D.sync_out D.read_out D.read_of }
-    ensures end_tried { TriedEndIsRecovered D.observable D.history D.sync_out D.read_out D.read_of }
+    ensures neutrals { NeutralsAreGiven D.meaning }
+    ensures neutrals_recover { NeutralsAreRecovered D.meaning }
+    ensures neutrals_tried { TriedNeutralsAreRecovered D.meaning }
+    ensures end { EndIsGiven D.meaning }
+    ensures end_recovers { EndIsRecovered D.meaning }
+    ensures end_tried { TriedEndIsRecovered D.meaning }
 {}
 
 /// Where the redo of a log may begin it may still once the log has entries more, and behind a checkpoint's end from its redo
 /// LSN on; it then begins in a file that is needed. What waits of a transaction waits behind its first entry.
 pub fn redo_lsns_rise<D: Disk>()
-    ensures stays { EndsFromStays D.observable D.history }
-    ensures end { EndsFromEnd D.observable D.history }
+    ensures stays { EndsFromStays D.meaning }
+    ensures end { EndsFromEnd D.meaning }
     ensures needed { RedoIsNeeded }
     ensures waits { WaitsFrom }
 {}
@@ -85,8 +85,8 @@ pub fn redo_lsns_rise<D: Disk>()
 /// commit, and by a call of its own.
 pub fn logs_follow_standings<D: Disk>()
     ensures named { NamedAreOn }
-    ensures changes { ChangesLeaveLog D.observable D.history D.sync_out D.read_out D.read_of }
-    ensures transaction { TransactionLeavesLog D.observable D.history D.sync_out D.read_out D.read_of }
-    ensures own { OwnCommitLeavesLog D.observable D.history D.sync_out D.read_out D.read_of }
-    ensures lone { LoneCommitLeavesLog D.observable D.history D.sync_out D.read_out D.read_of }
+    ensures changes { ChangesLeaveLog D.meaning }
+    ensures transaction { TransactionLeavesLog D.meaning }
+    ensures own { OwnCommitLeavesLog D.meaning }
+    ensures lone { LoneCommitLeavesLog D.meaning }
 {}

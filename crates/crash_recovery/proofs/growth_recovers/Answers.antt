@@ -2,10 +2,10 @@ use Rattle.crash_recovery.proofs.Moments.{standing_recovers, growth_recovers, tr
 use Rattle.crash_recovery.proofs.growth_recovers.Goals as goal
 
 pub returns-clause-standing : goal.returns-clause-standing
-returns-clause-standing g c = standing_recovers _ _
+returns-clause-standing g c = standing_recovers g.D.Disk.meaning
 
 pub returns-clause-grew : goal.returns-clause-grew
-returns-clause-grew g c = growth_recovers _ _ _ _ _
+returns-clause-grew g c = growth_recovers g.D.Disk.meaning
 
 pub returns-clause-tried : goal.returns-clause-tried
-returns-clause-tried g c = tried_recovers _ _ _ _ _
+returns-clause-tried g c = tried_recovers g.D.Disk.meaning

@@ -2,10 +2,10 @@ use Rattle.txn_log.proofs.RedoLsns.{ends_from_stays, ends_from_end, redo_is_need
 use Rattle.txn_log.proofs.redo_lsns_rise.Goals as goal
 
 pub returns-clause-stays : goal.returns-clause-stays
-returns-clause-stays g c = ends_from_stays g.D.Disk.observable g.D.Disk.history
+returns-clause-stays g c = ends_from_stays g.D.Disk.meaning
 
 pub returns-clause-end : goal.returns-clause-end
-returns-clause-end g c = ends_from_end g.D.Disk.observable g.D.Disk.history
+returns-clause-end g c = ends_from_end g.D.Disk.meaning
 
 pub returns-clause-needed : goal.returns-clause-needed
 returns-clause-needed g c = redo_is_needed

@@ -15,8 +15,8 @@ use Rattle.in_tree.specs.Observed.{cells_of, waits_of, GrewTrees, grew_then, tri
 
 pub returns-in_err-write_new-clause-tried : goal.returns-in_err-write_new-clause-tried
 returns-in_err-write_new-clause-tried g c =
-    let tried : c.in_err-write_new.field-0.0 ≡ Reason.Fault → (entries : List Entry) × (front : List Entry) × LogsTransaction c.args.txn c.args.changes.now entries × IsFront front entries × TriedFitting g.D.Disk.observable g.D.Disk.history g.D.Disk.sync_out g.D.Disk.read_out g.D.Disk.read_of g.D.Disk.faults c.args.trees.now.log c.write_new.new.self.log front
-    = (λ is. tried_with (TriedFitting g.D.Disk.observable g.D.Disk.history g.D.Disk.sync_out g.D.Disk.read_out g.D.Disk.read_of g.D.Disk.faults) c.args.trees.now.log c.write_new.new.self.log c.args.txn c.args.changes.now (c.in_err-write_new.ensures.tried is)) in
+    let tried : c.in_err-write_new.field-0.0 ≡ Reason.Fault → (entries : List Entry) × (front : List Entry) × LogsTransaction c.args.txn c.args.changes.now entries × IsFront front entries × TriedFitting g.D.Disk.meaning c.args.trees.now.log c.write_new.new.self.log front
+    = (λ is. tried_with (TriedFitting g.D.Disk.meaning) c.args.trees.now.log c.write_new.new.self.log c.args.txn c.args.changes.now (c.in_err-write_new.ensures.tried is)) in
     search rules
 
 pub commit_names-requires-clause-room : goal.commit_names-requires-clause-room
@@ -54,10 +54,10 @@ pub returns-clause-grew : goal.returns-clause-grew
 returns-clause-grew g c =
     let wrote = c.in_ok-write_new.ensures.grew in
     ok_then c.commit_names.result
-    (λ (grew : GrewTrees g.D.Disk.observable g.D.Disk.history g.D.Disk.sync_out g.D.Disk.read_out g.D.Disk.read_of g.D.Disk.faults c.write_new.new.self c.commit_names.new.trees (Commit c.args.txn ∷ [])). (
+    (λ (grew : GrewTrees g.D.Disk.meaning c.write_new.new.self c.commit_names.new.trees (Commit c.args.txn ∷ [])). (
       wrote.0 ++ Commit c.args.txn ∷ [],
       logs_commit c.args.txn c.args.changes.now wrote.0 wrote.1,
-      grew_then g.D.Disk.observable g.D.Disk.history g.D.Disk.sync_out g.D.Disk.read_out g.D.Disk.read_of g.D.Disk.faults c.args.trees.now c.write_new.new.self c.commit_names.new.trees wrote.0 (Commit c.args.txn ∷ []) wrote.2 grew,
+      grew_then g.D.Disk.meaning c.args.trees.now c.write_new.new.self c.commit_names.new.trees wrote.0 (Commit c.args.txn ∷ []) wrote.2 grew,
       entries_few c.args.txn wrote.0 (waits_of c.args.trees.now) (waits_of c.write_new.new.self) (waits_of c.commit_names.new.trees) (most_entries (length c.args.changes.now)) wrote.3 c.commit_names.ensures.waits,
     ))
     c.commit_names.ensures.grew
@@ -66,11 +66,11 @@ pub returns-clause-tried : goal.returns-clause-tried
 returns-clause-tried g c =
     let wrote = c.in_ok-write_new.ensures.grew in
     ends_by c.commit_names.result Reason.Fault
-    (λ (tried : (front : List Entry) × IsFront front (Commit c.args.txn ∷ []) × TriedFitting g.D.Disk.observable g.D.Disk.history g.D.Disk.sync_out g.D.Disk.read_out g.D.Disk.read_of g.D.Disk.faults c.write_new.new.self.log c.commit_names.new.trees.log front). (
+    (λ (tried : (front : List Entry) × IsFront front (Commit c.args.txn ∷ []) × TriedFitting g.D.Disk.meaning c.write_new.new.self.log c.commit_names.new.trees.log front). (
       wrote.0 ++ Commit c.args.txn ∷ [],
       wrote.0 ++ tried.0,
       logs_commit c.args.txn c.args.changes.now wrote.0 wrote.1,
       front_behind wrote.0 tried.0 (Commit c.args.txn ∷ []) tried.1,
-      tried_then g.D.Disk.observable g.D.Disk.history g.D.Disk.sync_out g.D.Disk.read_out g.D.Disk.read_of g.D.Disk.faults c.args.trees.now c.write_new.new.self c.commit_names.new.trees wrote.0 tried.0 wrote.2 tried.2,
+      tried_then g.D.Disk.meaning c.args.trees.now c.write_new.new.self c.commit_names.new.trees wrote.0 tried.0 wrote.2 tried.2,
     ))
     c.commit_names.ensures.tried

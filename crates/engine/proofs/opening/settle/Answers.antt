@@ -9,19 +9,19 @@ use Rattle.engine.proofs.opening.settle.Goals as goal
 
 pub returns-clause-settled : goal.returns-clause-settled
 returns-clause-settled g c = λ observed.
-    let start = now (g.D.Disk.history c.args.disk.now) in
+    let start = now (g.D.Disk.meaning.history c.args.disk.now) in
     on_ok_map c.sync_now.result _ _ (λ is.
     subst (λ (f : Files). HasTornTailCut start.reads f c.args.tail) (sym (ap (λ (s : State). s.reads) is ∙ ap (λ (s : State). s.reads) (c.in_ok-cut_rest.ensures.done observed))) (settles c.args.tail start)) (c.sync_now.ensures.done observed)
 
 pub returns-clause-moments : goal.returns-clause-moments
 returns-clause-moments g c = λ observed.
-    let history = g.D.Disk.history in
-    let old = history c.args.disk.now in
-    let cut = history c.cut_rest.new.disk in
+    let meaning = g.D.Disk.meaning in
+    let old = meaning.history c.args.disk.now in
+    let cut = meaning.history c.cut_rest.new.disk in
     let done = c.in_ok-cut_rest.ensures.done observed in
-    passes_then old cut (history c.sync_now.new.self) (IsSettling c.args.tail (now old))
+    passes_then old cut (meaning.history c.sync_now.new.self) (IsSettling c.args.tail (now old))
     (passes_weaken old cut (IsEither (now old) (cut_off c.args.tail (now old))) (IsSettling c.args.tail (now old)) (λ (s : State) is. inl is) (c.cut_rest.ensures.moments observed))
-    (passes_weaken cut (history c.sync_now.new.self) (IsEither (now cut) (synced (now cut))) (IsSettling c.args.tail (now old))
+    (passes_weaken cut (meaning.history c.sync_now.new.self) (IsEither (now cut) (synced (now cut))) (IsSettling c.args.tail (now old))
     (λ (s : State) is. settling_synced c.args.tail (now old) (now cut) s done is) (c.sync_now.ensures.moments observed))
 
 pub returns-clause-stable : goal.returns-clause-stable

@@ -14,7 +14,7 @@ pub returns-then-fills-clause-logs : goal.returns-then-fills-clause-logs
 returns-then-fills-clause-logs g c =
     let old = c.args.engine.now in
     let n = c.log_filled.new.self in
-    subst (λ (b : Bool). LogsChanges g.D.Disk.observable g.D.Disk.history g.D.Disk.sync_out g.D.Disk.read_out g.D.Disk.read_of old.trees.log n.trees.log (contents_of old) (contents_of n) c.args.changes
+    subst (λ (b : Bool). LogsChanges g.D.Disk.meaning old.trees.log n.trees.log (contents_of old) (contents_of n) c.args.changes
     (limit_found b old.trees c.args.changes.changes.items c.args.owed) c.log_filled.result) (sym c.if-fills.true) c.log_filled.ensures.logs
 
 pub log_among-requires-clause-free : goal.log_among-requires-clause-free
@@ -33,5 +33,5 @@ pub returns-else-fills-clause-logs : goal.returns-else-fills-clause-logs
 returns-else-fills-clause-logs g c =
     let old = c.args.engine.now in
     let n = c.log_among.new.self in
-    subst (λ (b : Bool). LogsChanges g.D.Disk.observable g.D.Disk.history g.D.Disk.sync_out g.D.Disk.read_out g.D.Disk.read_of old.trees.log n.trees.log (contents_of old) (contents_of n) c.args.changes
+    subst (λ (b : Bool). LogsChanges g.D.Disk.meaning old.trees.log n.trees.log (contents_of old) (contents_of n) c.args.changes
     (limit_found b old.trees c.args.changes.changes.items c.args.owed) c.log_among.result) (sym c.if-fills.false) c.log_among.ensures.logs

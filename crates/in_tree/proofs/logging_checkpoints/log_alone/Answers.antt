@@ -27,7 +27,7 @@ returns-clause-grew g c =
       grew.0 ∷ [],
       (grew.1, tt),
       ap (λ (n : ℕ). n ∷ []) grew.2,
-      room_logged g.D.Disk.observable g.D.Disk.history g.D.Disk.sync_out g.D.Disk.read_out g.D.Disk.read_of g.D.Disk.faults c.args.log.now c.log_image.new.log c.args.trees.now (c.get_mut.follows.lender c.log_image.new.tree) c.args.db c.in-Some.tree.now c.log_image.new.tree (c.args.image ∷ []) (grew.0 ∷ [])
+      room_logged g.D.Disk.meaning c.args.log.now c.log_image.new.log c.args.trees.now (c.get_mut.follows.lender c.log_image.new.tree) c.args.db c.in-Some.tree.now c.log_image.new.tree (c.args.image ∷ []) (grew.0 ∷ [])
           c.in-Some.ensures.value ((c.get_mut.follows.holds c.log_image.new.tree).3 (sym (ap is_some c.in-Some.ensures.value))).0 c.log_image.ensures.cells (grew.1, tt) grew.3,
     ))
     c.log_image.ensures.grew

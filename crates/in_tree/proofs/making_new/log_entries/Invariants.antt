@@ -7,5 +7,5 @@ use Rattle.in_tree.proofs.making_new.log_entries.Given as goal
 abbrev pub invariant-loop-entry : goal.invariant-loop-entry
 invariant-loop-entry g l = record {
   loggable : AllByRecursion IsLoggable (drop l.entry-index l.entries);
-  logs : LogsLeft g.D.Disk.observable g.D.Disk.history g.D.Disk.sync_out g.D.Disk.read_out g.D.Disk.read_of g.D.Disk.faults l.initial.log l.log l.entries (drop l.entry-index l.entries);
+  logs : LogsLeft g.D.Disk.meaning l.initial.log l.log l.entries (drop l.entry-index l.entries);
 }

@@ -11,5 +11,5 @@ abbrev pub invariant-loop-i : goal.invariant-loop-i
 invariant-loop-i g l = record {
   entries : AllByRecursion (λ (c : TreeChange). IsEntry (entry_for l.txn c.db c.name c.value)) (drop l.i l.rows);
   loggable : AreAllLoggable (drop l.i l.images);
-  logs : LogsLeft g.D.Disk.observable g.D.Disk.history g.D.Disk.sync_out g.D.Disk.read_out g.D.Disk.read_of g.D.Disk.faults l.initial.log l.log (entries_with l.txn l.rows l.images) (entries_with l.txn (drop l.i l.rows) (drop l.i l.images));
+  logs : LogsLeft g.D.Disk.meaning l.initial.log l.log (entries_with l.txn l.rows l.images) (entries_with l.txn (drop l.i l.rows) (drop l.i l.images));
 }

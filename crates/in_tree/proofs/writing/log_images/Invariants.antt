@@ -2,4 +2,4 @@ use Rattle.in_tree.proofs.Written.{ImagesLeft}
 use Rattle.in_tree.proofs.writing.log_images.Given as goal
 
 abbrev pub invariant-loop-image : goal.invariant-loop-image
-invariant-loop-image g l = ImagesLeft g.D.Disk.observable g.D.Disk.history g.D.Disk.sync_out g.D.Disk.read_out g.D.Disk.read_of g.D.Disk.faults l.initial.log l.log l.initial.tree l.tree l.fn.images.items l.image-iterator.rest.items
+invariant-loop-image g l = ImagesLeft g.D.Disk.meaning l.initial.log l.log l.initial.tree l.tree l.fn.images.items l.image-iterator.rest.items

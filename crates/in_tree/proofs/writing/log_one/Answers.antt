@@ -22,7 +22,7 @@ returns-in-Err-clause-tried g c =
     let failed = c.append_reserved.new.self in
     let D = g.D.Disk in
     record {
-      tried = subst (λ (e : Entry). Tried D.observable D.history D.sync_out D.read_out D.read_of log failed (e ∷ [])) c.entry_of.ensures c.in-Err.ensures.tried;
+      tried = subst (λ (e : Entry). Tried D.meaning log failed (e ∷ [])) c.entry_of.ensures c.in-Err.ensures.tried;
       fits = fits_one log (entry_for c.args.txn change.db change.name change.value) (change_size change) c.requires.room.0 c.requires.entry (change_follows c.args.txn change.db change.name change.value)
           (size_is c.args.txn change) c.requires.room.1;
       never_falls = c.in-Err.ensures.cause.never_falls;

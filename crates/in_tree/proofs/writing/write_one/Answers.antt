@@ -8,13 +8,13 @@ use Rattle.in_tree.proofs.writing.write_one.Goals as goal
 pub returns-in-Ok-clause-grew : goal.returns-in-Ok-clause-grew
 returns-in-Ok-clause-grew g c =
     if_ok_both c.write_entry.result
-    (λ at is grew. change_logged_at g.D.Disk.observable g.D.Disk.history g.D.Disk.sync_out g.D.Disk.read_out g.D.Disk.read_of g.D.Disk.faults c.args.room.images.items c.args.txn c.args.change.now at c.args.log.now c.log_room.new.log c.write_entry.new.log c.args.trees.now c.log_room.new.trees c.write_entry.new.trees c.in-Ok.ensures.grew is grew)
+    (λ at is grew. change_logged_at g.D.Disk.meaning c.args.room.images.items c.args.txn c.args.change.now at c.args.log.now c.log_room.new.log c.write_entry.new.log c.args.trees.now c.log_room.new.trees c.write_entry.new.trees c.in-Ok.ensures.grew is grew)
     c.write_entry.ensures.at c.write_entry.ensures.grew
 
 pub returns-in-Ok-clause-tried : goal.returns-in-Ok-clause-tried
 returns-in-Ok-clause-tried g c =
     err_then c.write_entry.result
-    (entry_tried g.D.Disk.observable g.D.Disk.history g.D.Disk.sync_out g.D.Disk.read_out g.D.Disk.read_of g.D.Disk.faults c.args.room.images.items c.args.txn c.args.change.now c.args.log.now c.log_room.new.log c.write_entry.new.log c.args.trees.now c.log_room.new.trees c.in-Ok.ensures.grew)
+    (entry_tried g.D.Disk.meaning c.args.room.images.items c.args.txn c.args.change.now c.args.log.now c.log_room.new.log c.write_entry.new.log c.args.trees.now c.log_room.new.trees c.in-Ok.ensures.grew)
     c.write_entry.ensures.tried
 
 pub returns-in-Ok-clause-cells : goal.returns-in-Ok-clause-cells

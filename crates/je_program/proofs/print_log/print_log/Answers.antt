@@ -13,23 +13,23 @@ returns-in-Ok-clause-cause g c = ap ends_reading c.unopened.ensures.cause
 
 pub returns-in-Ok-clause-printed : goal.returns-in-Ok-clause-printed
 returns-in-Ok-clause-printed g c =
-    subst (λ (why : Cause). IsPrinted g.D.Disk.observable (now (g.D.Disk.history c.args.disk)).reads (g.D.Disk.faults c.args.disk) (g.D.Disk.faults c.unopened.result.disk) why (Log c.in-Ok.files)) (sym c.unopened.ensures.cause)
+    subst (λ (why : Cause). IsPrinted g.D.Disk.meaning.observable (now (g.D.Disk.meaning.history c.args.disk)).reads (g.D.Disk.meaning.faults c.args.disk) (g.D.Disk.meaning.faults c.unopened.result.disk) why (Log c.in-Ok.files)) (sym c.unopened.ensures.cause)
     c.in-Ok.ensures.read
 
 pub returns-in-Ok-clause-untouched : goal.returns-in-Ok-clause-untouched
 returns-in-Ok-clause-untouched g c = λ observed.
-    subst (λ d. IsUntouched (g.D.Disk.history c.args.disk) (g.D.Disk.history d)) (sym c.unopened.ensures.disk) (record { same = c.in-Ok.ensures.same observed; moments = c.in-Ok.ensures.moments observed })
+    subst (λ d. IsUntouched (g.D.Disk.meaning.history c.args.disk) (g.D.Disk.meaning.history d)) (sym c.unopened.ensures.disk) (record { same = c.in-Ok.ensures.same observed; moments = c.in-Ok.ensures.moments observed })
 
 pub returns-in-Err-clause-cause : goal.returns-in-Err-clause-cause
 returns-in-Err-clause-cause g c = ap ends_reading (c.unopened-in-Err.ensures.cause ∙ c.log_cause.ensures) ∙ log_may c.in-Err.error
 
 pub returns-in-Err-clause-printed : goal.returns-in-Err-clause-printed
 returns-in-Err-clause-printed g c =
-    let faults = g.D.Disk.faults in
-    subst (λ (why : Cause). IsPrinted g.D.Disk.observable (now (g.D.Disk.history c.args.disk)).reads (faults c.args.disk) (faults c.unopened-in-Err.result.disk) why Nothing) (sym (c.unopened-in-Err.ensures.cause ∙ c.log_cause.ensures))
-    (subst (λ d. IsPrinted g.D.Disk.observable (now (g.D.Disk.history c.args.disk)).reads (faults c.args.disk) (faults d) (cause_of_log c.in-Err.error) Nothing) (sym c.unopened-in-Err.ensures.disk)
-    (log_stopped g.D.Disk.observable (now (g.D.Disk.history c.args.disk)).reads (faults c.args.disk) (faults c.read_log.new.disk) c.in-Err.error c.in-Err.ensures.stops))
+    let meaning = g.D.Disk.meaning in
+    subst (λ (why : Cause). IsPrinted g.D.Disk.meaning.observable (now (g.D.Disk.meaning.history c.args.disk)).reads (meaning.faults c.args.disk) (meaning.faults c.unopened-in-Err.result.disk) why Nothing) (sym (c.unopened-in-Err.ensures.cause ∙ c.log_cause.ensures))
+    (subst (λ d. IsPrinted g.D.Disk.meaning.observable (now (g.D.Disk.meaning.history c.args.disk)).reads (meaning.faults c.args.disk) (meaning.faults d) (cause_of_log c.in-Err.error) Nothing) (sym c.unopened-in-Err.ensures.disk)
+    (log_stopped g.D.Disk.meaning.observable (now (g.D.Disk.meaning.history c.args.disk)).reads (meaning.faults c.args.disk) (meaning.faults c.read_log.new.disk) c.in-Err.error c.in-Err.ensures.stops))
 
 pub returns-in-Err-clause-untouched : goal.returns-in-Err-clause-untouched
 returns-in-Err-clause-untouched g c = λ observed.
-    subst (λ d. IsUntouched (g.D.Disk.history c.args.disk) (g.D.Disk.history d)) (sym c.unopened-in-Err.ensures.disk) (record { same = c.in-Err.ensures.same observed; moments = c.in-Err.ensures.moments observed })
+    subst (λ d. IsUntouched (g.D.Disk.meaning.history c.args.disk) (g.D.Disk.meaning.history d)) (sym c.unopened-in-Err.ensures.disk) (record { same = c.in-Err.ensures.same observed; moments = c.in-Err.ensures.moments observed })

@@ -23,12 +23,12 @@ returns-clause-bad_line_found g c = came_bad (command_in (map string_bytes c.arg
 pub returns-clause-unreadable_untouched : goal.returns-clause-unreadable_untouched
 returns-clause-unreadable_untouched g c = λ corruption is observed.
     let a = c.run_unprinted-run in
-    subst (λ why. LeavesUnreadable why (g.D.Disk.history c.args.disk) (g.D.Disk.history a.result.run.disk)) is (a.ensures.comes.left_alone observed)
+    subst (λ why. LeavesUnreadable why (g.D.Disk.meaning.history c.args.disk) (g.D.Disk.meaning.history a.result.run.disk)) is (a.ensures.comes.left_alone observed)
 
 pub returns-clause-wrong_index_untouched : goal.returns-clause-wrong_index_untouched
 returns-clause-wrong_index_untouched g c = λ name is observed.
     let a = c.run_unprinted-run in
-    subst (λ why. LeavesUnreadable why (g.D.Disk.history c.args.disk) (g.D.Disk.history a.result.run.disk)) is (a.ensures.comes.left_alone observed)
+    subst (λ why. LeavesUnreadable why (g.D.Disk.meaning.history c.args.disk) (g.D.Disk.meaning.history a.result.run.disk)) is (a.ensures.comes.left_alone observed)
 
 pub returns-clause-complete : goal.returns-clause-complete
 returns-clause-complete g c = came_well (command_in (map string_bytes c.args.args.now)) c.run_unprinted-run.ensures.comes
@@ -93,7 +93,7 @@ returns-clause-has_database g c = c.run_unprinted-run.ensures.comes.has_database
 pub returns-clause-no_environment_untouched : goal.returns-clause-no_environment_untouched
 returns-clause-no_environment_untouched g c = λ is observed.
     let a = c.run_unprinted-run in
-    subst (λ why. LeavesUnreadable why (g.D.Disk.history c.args.disk) (g.D.Disk.history a.result.run.disk)) is (a.ensures.comes.left_alone observed)
+    subst (λ why. LeavesUnreadable why (g.D.Disk.meaning.history c.args.disk) (g.D.Disk.meaning.history a.result.run.disk)) is (a.ensures.comes.left_alone observed)
 
 pub returns-clause-reads_only : goal.returns-clause-reads_only
 returns-clause-reads_only g c = c.run_unprinted-run.ensures.comes.reads_only

@@ -19,8 +19,8 @@ use Rattle.je_program.proofs.run_result.finish.Goals as goal
 pub returns-clause-caused : goal.returns-clause-caused
 returns-clause-caused g c = λ before caused.
     let r = c.args.running in
-    let mid = g.D.Disk.faults (disk_of r.recorded.environment) in
-    let after = g.D.Disk.faults c.close-closed.result.disk in
+    let mid = g.D.Disk.meaning.faults (disk_of r.recorded.environment) in
+    let after = g.D.Disk.meaning.faults c.close-closed.result.disk in
     let closes = subst (λ (why : Cause). ClosesBy mid after c.end_cause-cause.result why) (sym c.closed_cause-cause.ensures)
     (closes_by mid after c.close-closed.result.failed c.end_cause-cause.result c.close-closed.ensures.cause) in
     closes_run before mid after r.recorded.journal.items r.memory_ended c.end_cause-cause.result c.closed_cause-cause.result
@@ -33,8 +33,8 @@ pub returns-clause-files : goal.returns-clause-files
 returns-clause-files g c = λ p under none done observed.
     let r = c.args.running in
     let journal = r.recorded.journal.items in
-    let mid = g.D.Disk.faults (disk_of r.recorded.environment) in
-    let after = g.D.Disk.faults c.close-closed.result.disk in
+    let mid = g.D.Disk.meaning.faults (disk_of r.recorded.environment) in
+    let after = g.D.Disk.meaning.faults c.close-closed.result.disk in
     let closes = subst (λ (why : Cause). ClosesBy mid after c.end_cause-cause.result why) (sym c.closed_cause-cause.ensures)
     (closes_by mid after c.close-closed.result.failed c.end_cause-cause.result c.close-closed.ensures.cause) in
     let no_fault = done_without_fault mid after journal r.memory_ended c.end_cause-cause.result c.closed_cause-cause.result
@@ -49,8 +49,8 @@ pub returns-clause-crash_end : goal.returns-clause-crash_end
 returns-clause-crash_end g c = λ observed p under none done.
     let r = c.args.running in
     let journal = r.recorded.journal.items in
-    let mid = g.D.Disk.faults (disk_of r.recorded.environment) in
-    let after = g.D.Disk.faults c.close-closed.result.disk in
+    let mid = g.D.Disk.meaning.faults (disk_of r.recorded.environment) in
+    let after = g.D.Disk.meaning.faults c.close-closed.result.disk in
     let closes = subst (λ (why : Cause). ClosesBy mid after c.end_cause-cause.result why) (sym c.closed_cause-cause.ensures)
     (closes_by mid after c.close-closed.result.failed c.end_cause-cause.result c.close-closed.ensures.cause) in
     let no_fault = done_without_fault mid after journal r.memory_ended c.end_cause-cause.result c.closed_cause-cause.result
@@ -62,8 +62,8 @@ pub returns-clause-lengths : goal.returns-clause-lengths
 returns-clause-lengths g c = λ p under none well observed.
     let r = c.args.running in
     let journal = r.recorded.journal.items in
-    let mid = g.D.Disk.faults (disk_of r.recorded.environment) in
-    let after = g.D.Disk.faults c.close-closed.result.disk in
+    let mid = g.D.Disk.meaning.faults (disk_of r.recorded.environment) in
+    let after = g.D.Disk.meaning.faults c.close-closed.result.disk in
     let both = ended_well p.faults mid after journal r.memory_ended c.end_cause-cause.result c.closed_cause-cause.result c.close-closed.result.failed under.running.caused c.close-closed.ensures.never_falls c.close-closed.ensures.cause
     c.end_cause-cause.ensures.memory (rw c.deref.ensures.value at c.end_cause-cause.ensures.journal) c.closed_cause-cause.ensures well in
     c.close-closed.ensures.lengths observed both.1 p.most p.st p.start journal under.running.here (under.guarded observed) (valid_afterwards p.st journal none both.0)
@@ -73,38 +73,36 @@ returns-clause-records g c = c.close-closed.ensures.records
 
 pub returns-clause-run : goal.returns-clause-run
 returns-clause-run g c = λ old before p ran.
-    let observable = g.D.Disk.observable in
-    let history = g.D.Disk.history in
-    let faults = g.D.Disk.faults in
+    let meaning = g.D.Disk.meaning in
     let running = c.args.running in
     let journal = running.recorded.journal.items in
     let cause = c.closed_cause-cause.result in
     let disk = c.close-closed.result.disk in
-    let new = history disk in
-    let after = faults disk in
+    let new = meaning.history disk in
+    let after = meaning.faults disk in
     let under = ran.under in
     let end = c.end_cause-cause.result in
     let failed = c.close-closed.result.failed in
     let memory : running.memory_ended ≡ true → cause ≡ Memory = λ none. closed_memory failed end cause c.closed_cause-cause.ensures (c.end_cause-cause.ensures.memory none) in
     let ends : running.memory_ended ≡ false → EndsBy journal cause = λ left. closed_ends journal failed end cause c.closed_cause-cause.ensures
     (rw c.deref.ensures.value at c.end_cause-cause.ensures.journal left) in
-    let valid : p.st.fault ≡ None = starts_valid observable (now old).reads c.args.opening p.st ran.starts in
+    let valid : p.st.fault ≡ None = starts_valid meaning.observable (now old).reads c.args.opening p.st ran.starts in
     let synced = synced_all p.st journal (under.running.synced [] tt) in
-    let safe : observable ≡ true → IsSafeProgram old new p.st journal cause = λ observed. record {
+    let safe : meaning.observable ≡ true → IsSafeProgram old new p.st journal cause = λ observed. record {
       start = p.start;
       stable = ran.stable observed;
       before = ran.entry observed;
       run = returns-clause-crash g c observed p under;
-      indexed = run_fronts_indexed observable (now old).reads c.args.opening p.st under.running.limits journal ran.starts under.running.answers;
+      indexed = run_fronts_indexed meaning.observable (now old).reads c.args.opening p.st under.running.limits journal ran.starts under.running.answers;
       ends = λ done. returns-clause-crash_end g c observed p under valid done;
     } in
     record {
       starts = ran.starts;
       limits = under.running.limits;
       answers = under.running.answers;
-      replays = run_replays observable (now old).reads c.args.opening p.st under.running.limits journal ran.starts under.running.answers;
-      no_cycle = run_never_cycles observable (now old).reads c.args.opening p.st under.running.limits journal ran.starts under.running.answers;
-      indexes = run_stays_indexed observable (now old).reads c.args.opening p.st under.running.limits journal ran.starts under.running.answers;
+      replays = run_replays meaning.observable (now old).reads c.args.opening p.st under.running.limits journal ran.starts under.running.answers;
+      no_cycle = run_never_cycles meaning.observable (now old).reads c.args.opening p.st under.running.limits journal ran.starts under.running.answers;
+      indexes = run_stays_indexed meaning.observable (now old).reads c.args.opening p.st under.running.limits journal ran.starts under.running.answers;
       bounded = bounded_far p.first (reach_in ran.starts.held ran.starts.meaning) p.st journal under.running.limits ran.reach under.running.bounded;
       synced_at_once = synced;
       in_order = under.running.ordered;

@@ -31,27 +31,25 @@ pub run-running-requires-clause-start : goal.run-running-requires-clause-start
 run-running-requires-clause-start g c =
     let environment = c.in-Ok.opened.environment in
     let most = c.args.config.file_max in
-    let history = g.D.Disk.history in
-    let files = (now (history c.args.disk)).reads in
+    let meaning = g.D.Disk.meaning in
+    let files = (now (meaning.history c.args.disk)).reads in
     let opening = c.in-Ok.opened.opening in
-    let one = opened_as_one most g.D.Disk.observable files opening (history (disk_of environment)) environment c.in-Ok.ensures.opened c.in-Ok.ensures.crash in
-    (beginning g.D.Disk.observable history g.D.Disk.faults most environment one.st, begins g.D.Disk.observable history g.D.Disk.faults most files opening environment one c.in-Ok.ensures.bounds)
+    let one = opened_as_one most g.D.Disk.meaning.observable files opening (meaning.history (disk_of environment)) environment c.in-Ok.ensures.opened c.in-Ok.ensures.crash in
+    (beginning g.D.Disk.meaning most environment one.st, begins g.D.Disk.meaning most files opening environment one c.in-Ok.ensures.bounds)
 
 pub returns-in-Ok-clause-run : goal.returns-in-Ok-clause-run
 returns-in-Ok-clause-run g c = λ is_opened.
-    let observable = g.D.Disk.observable in
-    let history = g.D.Disk.history in
-    let faults = g.D.Disk.faults in
+    let meaning = g.D.Disk.meaning in
     let environment = c.in-Ok.opened.environment in
     let opening = c.in-Ok.opened.opening in
     let most = c.args.config.file_max in
     let ran = c.run-running in
-    let old = history c.args.disk in
-    let one = opened_as_one most observable (now old).reads opening (history (disk_of environment)) environment c.in-Ok.ensures.opened c.in-Ok.ensures.crash in
-    let p = beginning observable history faults most environment one.st in
-    let starts = begins observable history faults most (now old).reads opening environment one c.in-Ok.ensures.bounds in (
+    let old = meaning.history c.args.disk in
+    let one = opened_as_one most meaning.observable (now old).reads opening (meaning.history (disk_of environment)) environment c.in-Ok.ensures.opened c.in-Ok.ensures.crash in
+    let p = beginning meaning most environment one.st in
+    let starts = begins meaning most (now old).reads opening environment one c.in-Ok.ensures.bounds in (
       one.st,
-      c.finish.ensures.run old (faults c.args.disk) p (record {
+      c.finish.ensures.run old (meaning.faults c.args.disk) p (record {
         starts = one.starts;
         reach = one.reach;
         stable = λ observed. (one.safe observed).stable;
@@ -106,33 +104,31 @@ pub returns-in-Ok-clause-caused : goal.returns-in-Ok-clause-caused
 returns-in-Ok-clause-caused g c =
     let f = c.finish in
     let j = c.run-running.result.recorded.journal.items in
-    let observable = g.D.Disk.observable in
-    let history = g.D.Disk.history in
-    let faults = g.D.Disk.faults in
+    let meaning = g.D.Disk.meaning in
     let environment = c.in-Ok.opened.environment in
     let most = c.args.config.file_max in
-    let files = (now (history c.args.disk)).reads in
-    let one = opened_as_one most observable files c.in-Ok.opened.opening (history (disk_of environment)) environment c.in-Ok.ensures.opened c.in-Ok.ensures.crash in
-    let under = c.run-running.ensures.goes_on (beginning observable history faults most environment one.st)
-    (begins observable history faults most files c.in-Ok.opened.opening environment one c.in-Ok.ensures.bounds) in
-    subst (λ (l : List Event). ClosesRun (faults c.args.disk) (faults f.result.disk) l f.result.cause) (sym f.ensures.journal)
-    (f.ensures.caused (faults c.args.disk)
-    (caused_earlier (faults c.args.disk) (faults (disk_of environment)) (faults (disk_of c.run-running.result.recorded.environment)) j c.in-Ok.ensures.faults under.running.caused))
+    let files = (now (meaning.history c.args.disk)).reads in
+    let one = opened_as_one most meaning.observable files c.in-Ok.opened.opening (meaning.history (disk_of environment)) environment c.in-Ok.ensures.opened c.in-Ok.ensures.crash in
+    let under = c.run-running.ensures.goes_on (beginning meaning most environment one.st)
+    (begins meaning most files c.in-Ok.opened.opening environment one c.in-Ok.ensures.bounds) in
+    subst (λ (l : List Event). ClosesRun (meaning.faults c.args.disk) (meaning.faults f.result.disk) l f.result.cause) (sym f.ensures.journal)
+    (f.ensures.caused (meaning.faults c.args.disk)
+    (caused_earlier (meaning.faults c.args.disk) (meaning.faults (disk_of environment)) (meaning.faults (disk_of c.run-running.result.recorded.environment)) j c.in-Ok.ensures.faults under.running.caused))
 
 pub returns-in-Err-clause-crash_unopened : goal.returns-in-Err-clause-crash_unopened
-returns-in-Err-clause-crash_unopened g c = λ observed opened. subst (λ d. KeepsEntry (g.D.Disk.history c.args.disk) (g.D.Disk.history d)) (sym c.unopened.ensures.disk) (c.in-Err.ensures.stopped_entry observed)
+returns-in-Err-clause-crash_unopened g c = λ observed opened. subst (λ d. KeepsEntry (g.D.Disk.meaning.history c.args.disk) (g.D.Disk.meaning.history d)) (sym c.unopened.ensures.disk) (c.in-Err.ensures.stopped_entry observed)
 
 pub returns-in-Ok-clause-left_alone : goal.returns-in-Ok-clause-left_alone
 returns-in-Ok-clause-left_alone g c = λ observed.
     let f = c.finish in
-    ran_alone f.result.cause (g.D.Disk.history c.args.disk) (g.D.Disk.history f.result.disk) (ran_cause c.run-running.result.recorded.journal.items c.run-running.result.memory_ended f.result.cause f.ensures.memory f.ensures.ends)
+    ran_alone f.result.cause (g.D.Disk.meaning.history c.args.disk) (g.D.Disk.meaning.history f.result.disk) (ran_cause c.run-running.result.recorded.journal.items c.run-running.result.memory_ended f.result.cause f.ensures.memory f.ensures.ends)
 
 pub returns-in-Err-clause-left_alone : goal.returns-in-Err-clause-left_alone
 returns-in-Err-clause-left_alone g c = λ observed.
-    let history = g.D.Disk.history in
-    subst (λ (why : Cause). LeavesUnreadable why (history c.args.disk) (history c.unopened.result.disk)) (sym (c.unopened.ensures.cause ∙ c.opening_cause-cause.ensures))
-    (subst (λ d. LeavesUnreadable (cause_of_opening c.in-Err.field-0.error) (history c.args.disk) (history d)) (sym c.unopened.ensures.disk)
-    (stopped_alone c.in-Err.field-0.error (history c.args.disk) (history c.in-Err.field-0.disk) (c.in-Err.ensures.left_alone observed)))
+    let meaning = g.D.Disk.meaning in
+    subst (λ (why : Cause). LeavesUnreadable why (meaning.history c.args.disk) (meaning.history c.unopened.result.disk)) (sym (c.unopened.ensures.cause ∙ c.opening_cause-cause.ensures))
+    (subst (λ d. LeavesUnreadable (cause_of_opening c.in-Err.field-0.error) (meaning.history c.args.disk) (meaning.history d)) (sym c.unopened.ensures.disk)
+    (stopped_alone c.in-Err.field-0.error (meaning.history c.args.disk) (meaning.history c.in-Err.field-0.disk) (c.in-Err.ensures.left_alone observed)))
 
 pub returns-in-Err-clause-runs : goal.returns-in-Err-clause-runs
 returns-in-Err-clause-runs g c =
@@ -144,27 +140,27 @@ returns-in-Err-clause-causes g c = ap ends_soak (c.unopened.ensures.cause ∙ c.
 
 pub returns-in-Err-clause-unreadable : goal.returns-in-Err-clause-unreadable
 returns-in-Err-clause-unreadable g c = λ corruption is observed.
-    stopped_unreadable g.D.Disk.observable (now (g.D.Disk.history c.args.disk)).reads (g.D.Disk.faults c.args.disk) (g.D.Disk.faults c.in-Err.field-0.disk) c.in-Err.field-0.error corruption
+    stopped_unreadable g.D.Disk.meaning.observable (now (g.D.Disk.meaning.history c.args.disk)).reads (g.D.Disk.meaning.faults c.args.disk) (g.D.Disk.meaning.faults c.in-Err.field-0.disk) c.in-Err.field-0.error corruption
     c.in-Err.ensures.stopped (sym (c.unopened.ensures.cause ∙ c.opening_cause-cause.ensures) ∙ is) observed
 
 pub returns-in-Err-clause-wrong_index : goal.returns-in-Err-clause-wrong_index
 returns-in-Err-clause-wrong_index g c = λ name is observed.
-    stopped_wrong g.D.Disk.observable (now (g.D.Disk.history c.args.disk)).reads (g.D.Disk.faults c.args.disk) (g.D.Disk.faults c.in-Err.field-0.disk) c.in-Err.field-0.error name
+    stopped_wrong g.D.Disk.meaning.observable (now (g.D.Disk.meaning.history c.args.disk)).reads (g.D.Disk.meaning.faults c.args.disk) (g.D.Disk.meaning.faults c.in-Err.field-0.disk) c.in-Err.field-0.error name
     c.in-Err.ensures.stopped (sym (c.unopened.ensures.cause ∙ c.opening_cause-cause.ensures) ∙ is) observed
 
 pub returns-in-Err-clause-caused : goal.returns-in-Err-clause-caused
 returns-in-Err-clause-caused g c =
-    let faults = g.D.Disk.faults in
-    let before = faults c.args.disk in
-    stopped_caused before (faults c.in-Err.field-0.disk) (faults c.unopened.result.disk) c.unopened.result.journal.items c.unopened.result.cause (ap (λ d. faults d) c.unopened.ensures.disk) c.unopened.ensures.journal
+    let meaning = g.D.Disk.meaning in
+    let before = meaning.faults c.args.disk in
+    stopped_caused before (meaning.faults c.in-Err.field-0.disk) (meaning.faults c.unopened.result.disk) c.unopened.result.journal.items c.unopened.result.cause (ap (λ d. meaning.faults d) c.unopened.ensures.disk) c.unopened.ensures.journal
     c.in-Err.ensures.stopped_faults
-    (λ is. stopped_failed g.D.Disk.observable (now (g.D.Disk.history c.args.disk)).reads before (faults c.in-Err.field-0.disk) c.in-Err.field-0.error c.in-Err.ensures.stopped (sym (c.unopened.ensures.cause ∙ c.opening_cause-cause.ensures) ∙ is))
+    (λ is. stopped_failed g.D.Disk.meaning.observable (now (g.D.Disk.meaning.history c.args.disk)).reads before (meaning.faults c.in-Err.field-0.disk) c.in-Err.field-0.error c.in-Err.ensures.stopped (sym (c.unopened.ensures.cause ∙ c.opening_cause-cause.ensures) ∙ is))
 
 pub returns-in-Err-clause-unopened : goal.returns-in-Err-clause-unopened
 returns-in-Err-clause-unopened g c = λ opened. (c.unopened.ensures.opening, c.unopened.ensures.journal)
 
 pub returns-in-Err-clause-ids_ended : goal.returns-in-Err-clause-ids_ended
 returns-in-Err-clause-ids_ended g c = λ is none observed.
-    let faults = g.D.Disk.faults in
-    stopped_numbers g.D.Disk.observable (now (g.D.Disk.history c.args.disk)).reads (faults c.args.disk) (faults c.in-Err.field-0.disk) c.in-Err.field-0.error c.in-Err.ensures.stopped
+    let meaning = g.D.Disk.meaning in
+    stopped_numbers g.D.Disk.meaning.observable (now (g.D.Disk.meaning.history c.args.disk)).reads (meaning.faults c.args.disk) (meaning.faults c.in-Err.field-0.disk) c.in-Err.field-0.error c.in-Err.ensures.stopped
     (sym (c.unopened.ensures.cause ∙ c.opening_cause-cause.ensures) ∙ is) observed

@@ -28,7 +28,7 @@ returns-in-Ok-Life-clause-comes g c =
       runs = life_runs command r.cause r.opened opens_it p.runs;
       run = λ opened. (let ran = p.run opened in (c.in-Ok-Life.config.file_max, ran.0, life.file_max, ran.1));
       unopened = p.unopened;
-      unreadable = λ corruption is observed. life_found command (now (g.D.Disk.history c.args.disk)).reads corruption opens_it (p.unreadable corruption is observed);
+      unreadable = λ corruption is observed. life_found command (now (g.D.Disk.meaning.history c.args.disk)).reads corruption opens_it (p.unreadable corruption is observed);
       sound = λ is. life_is_no_reading command opens_it is;
       wrong_index = p.wrong_index;
       ids_ended = p.ids_ended;
@@ -41,7 +41,7 @@ returns-in-Ok-Life-clause-comes g c =
       left_alone = p.left_alone;
       reads_only = λ closed. absurd (true≢false (sym opens_it ∙ closed));
       crash_unopened = p.crash_unopened;
-      text_is = life.text_is (work_of g.D.Disk.observable (now (g.D.Disk.history c.args.disk)).reads r);
+      text_is = life.text_is (work_of g.D.Disk.meaning.observable (now (g.D.Disk.meaning.history c.args.disk)).reads r);
       source = c.in-Ok-Life.ensures.never_falls;
     }
 
@@ -53,10 +53,9 @@ returns-in-Ok-PrintLog-clause-comes g c =
     let text = c.print_log.result.text in
     let left = g.S.Source.left c.args.input.now in
     let faults = g.S.Source.faults in
-    let observable = g.D.Disk.observable in
-    subst (λ (k : Option Command). ComesTo k observable g.D.Disk.history g.D.Disk.faults left (g.S.Source.left c.read_request.new.input) (faults c.args.input.now) (faults c.read_request.new.input) c.args.disk r text) (sym is.0)
-    (subst (λ (o : Option (List ℕ)). ComesTo (Some PrintLog) observable g.D.Disk.history g.D.Disk.faults left o (faults c.args.input.now) (faults c.read_request.new.input) c.args.disk r text) (sym is.1)
-    (print_comes observable g.D.Disk.history g.D.Disk.faults left (faults c.args.input.now) (faults c.read_request.new.input) c.args.disk r text c.in-Ok-PrintLog.ensures.never_falls p.cause p.printed p.opened p.journal p.opening p.untouched p.never_falls))
+    subst (λ (k : Option Command). ComesTo k g.D.Disk.meaning left (g.S.Source.left c.read_request.new.input) (faults c.args.input.now) (faults c.read_request.new.input) c.args.disk r text) (sym is.0)
+    (subst (λ (o : Option (List ℕ)). ComesTo (Some PrintLog) g.D.Disk.meaning left o (faults c.args.input.now) (faults c.read_request.new.input) c.args.disk r text) (sym is.1)
+    (print_comes g.D.Disk.meaning left (faults c.args.input.now) (faults c.read_request.new.input) c.args.disk r text c.in-Ok-PrintLog.ensures.never_falls p.cause p.printed p.opened p.journal p.opening p.untouched p.never_falls))
 
 pub returns-in-Ok-Dump-clause-comes : goal.returns-in-Ok-Dump-clause-comes
 returns-in-Ok-Dump-clause-comes g c =
@@ -65,9 +64,8 @@ returns-in-Ok-Dump-clause-comes g c =
     let text = c.dump.result.text in
     let left = g.S.Source.left c.args.input.now in
     let faults = g.S.Source.faults in
-    let observable = g.D.Disk.observable in
-    subst (λ (k : Option Command). ComesTo k observable g.D.Disk.history g.D.Disk.faults left (g.S.Source.left c.read_request.new.input) (faults c.args.input.now) (faults c.read_request.new.input) c.args.disk r text) (sym is.0)
-    (subst (λ (o : Option (List ℕ)). ComesTo (Some (Dump c.in-Ok-Dump.db c.in-Ok-Dump.printed)) observable g.D.Disk.history g.D.Disk.faults left o (faults c.args.input.now) (faults c.read_request.new.input) c.args.disk r text) (sym is.1)
+    subst (λ (k : Option Command). ComesTo k g.D.Disk.meaning left (g.S.Source.left c.read_request.new.input) (faults c.args.input.now) (faults c.read_request.new.input) c.args.disk r text) (sym is.0)
+    (subst (λ (o : Option (List ℕ)). ComesTo (Some (Dump c.in-Ok-Dump.db c.in-Ok-Dump.printed)) g.D.Disk.meaning left o (faults c.args.input.now) (faults c.read_request.new.input) c.args.disk r text) (sym is.1)
     (c.dump.ensures left (faults c.args.input.now) (faults c.read_request.new.input) c.in-Ok-Dump.ensures.never_falls))
 
 pub returns-in-Err-clause-comes : goal.returns-in-Err-clause-comes
@@ -77,5 +75,5 @@ returns-in-Err-clause-comes g c =
     let u = c.unopened.ensures in
     let left = g.S.Source.left c.args.input.now in
     let faults = g.S.Source.faults in
-    none_comes g.D.Disk.observable g.D.Disk.history g.D.Disk.faults command left (g.S.Source.left c.read_request.new.input) (faults c.args.input.now) (faults c.read_request.new.input) c.args.disk c.unopened.result
+    none_comes g.D.Disk.meaning command left (g.S.Source.left c.read_request.new.input) (faults c.args.input.now) (faults c.read_request.new.input) c.args.disk c.unopened.result
     (subst (IsNoRequest command left (faults c.args.input.now) (faults c.read_request.new.input)) (sym u.cause) e.none) e.never_falls u.opened u.disk u.journal u.opening

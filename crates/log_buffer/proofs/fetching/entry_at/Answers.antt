@@ -7,4 +7,4 @@ returns-in-None-clause-found g c =
 
 pub returns-in-Some-clause-only_read : goal.returns-in-Some-clause-only_read
 returns-in-Some-clause-only_read g c =
-    read_then g.D.Disk.observable g.D.Disk.history g.D.Disk.sync_out g.D.Disk.read_out g.D.Disk.read_of c.args.disk.now _ _ c.size_at.ensures.only_read c.entry_of.ensures.only_read
+    read_then g.D.Disk.meaning c.args.disk.now _ _ c.size_at.ensures.only_read c.entry_of.ensures.only_read

@@ -26,10 +26,10 @@ filled n old there new is all =
 
 pub returns-clause-whole : goal.returns-clause-whole
 returns-clause-whole g c =
-    let there = drop c.args.at (content (now (g.D.Disk.history c.args.disk.now)).reads c.args.f.0) in
+    let there = drop c.args.at (content (now (g.D.Disk.meaning.history c.args.disk.now)).reads c.args.f.0) in
     λ observed. all_read c.in_ok-count.count (length c.args.into.now) (length there) (rw c.from.ensures at (c.in_ok-count.ensures.count observed))
 
 pub returns-clause-bytes : goal.returns-clause-bytes
 returns-clause-bytes g c =
-    let there = drop c.args.at (content (now (g.D.Disk.history c.args.disk.now)).reads c.args.f.0) in
+    let there = drop c.args.at (content (now (g.D.Disk.meaning.history c.args.disk.now)).reads c.args.f.0) in
     λ observed whole. filled c.in_ok-count.count c.args.into.now there c.read.new.into (rw c.from.ensures at (c.in_ok-count.ensures.bytes observed)) whole

@@ -7,11 +7,11 @@ use Rattle.log_buffer.proofs.writing.make_file.Goals as goal
 
 pub returns-clause-moments : goal.returns-clause-moments
 returns-clause-moments g c =
-    λ observed. made_next c.args.f.0 (g.D.Disk.history c.args.disk.now) (g.D.Disk.history c.sync_now.new.self) (g.D.Disk.history c.create.new.self)
+    λ observed. made_next c.args.f.0 (g.D.Disk.meaning.history c.args.disk.now) (g.D.Disk.meaning.history c.sync_now.new.self) (g.D.Disk.meaning.history c.create.new.self)
     (c.sync_now.ensures.moments observed) (c.in_ok-sync_now.ensures.done observed) (c.create.ensures.moments observed)
 
 pub returns-in_err-sync_now-clause-moments : goal.returns-in_err-sync_now-clause-moments
-returns-in_err-sync_now-clause-moments g c = λ observed. made_synced c.args.f.0 (g.D.Disk.history c.args.disk.now) (g.D.Disk.history c.sync_now.new.self) (c.sync_now.ensures.moments observed)
+returns-in_err-sync_now-clause-moments g c = λ observed. made_synced c.args.f.0 (g.D.Disk.meaning.history c.args.disk.now) (g.D.Disk.meaning.history c.sync_now.new.self) (c.sync_now.ensures.moments observed)
 
 pub returns-clause-state : goal.returns-clause-state
 returns-clause-state g c = λ observed. on_ok c.create.result _ _ (c.create.ensures.done observed) (λ done. done ∙ ap (created c.args.f.0) (c.in_ok-sync_now.ensures.done observed))
@@ -27,13 +27,13 @@ returns-clause-read_of g c = c.create.ensures.read_of ∙ c.sync_now.ensures.rea
 
 pub returns-clause-cause : goal.returns-clause-cause
 returns-clause-cause g c =
-    let faults = g.D.Disk.faults in
-    fault_then (faults c.args.disk.now) (faults c.sync_now.new.self) (faults c.create.new.self) c.create.result c.in_ok-sync_now.ensures.cause.never_falls c.create.ensures.cause
+    let meaning = g.D.Disk.meaning in
+    fault_then (meaning.faults c.args.disk.now) (meaning.faults c.sync_now.new.self) (meaning.faults c.create.new.self) c.create.result c.in_ok-sync_now.ensures.cause.never_falls c.create.ensures.cause
 
 pub returns-in_err-sync_now-clause-cause : goal.returns-in_err-sync_now-clause-cause
 returns-in_err-sync_now-clause-cause g c =
-    let faults = g.D.Disk.faults in
-    fault_again (faults c.args.disk.now) (faults c.sync_now.new.self) c.from_residual.result c.in_err-sync_now.field-0.0 c.from_residual.ensures.1 c.in_err-sync_now.ensures.cause
+    let meaning = g.D.Disk.meaning in
+    fault_again (meaning.faults c.args.disk.now) (meaning.faults c.sync_now.new.self) c.from_residual.result c.in_err-sync_now.field-0.0 c.from_residual.ensures.1 c.in_err-sync_now.ensures.cause
 
 pub returns-in_err-sync_now-clause-sync_out : goal.returns-in_err-sync_now-clause-sync_out
 returns-in_err-sync_now-clause-sync_out g c = c.sync_now.ensures.sync_out

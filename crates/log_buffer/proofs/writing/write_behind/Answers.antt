@@ -7,12 +7,12 @@ use Rattle.log_buffer.proofs.writing.write_behind.Goals as goal
 pub returns-clause-state : goal.returns-clause-state
 returns-clause-state g c =
     let some = some_bytes c.args.bytes.now c.is_empty.result c.is_empty.ensures c.if-is_empty.false in
-    λ observed. on_ok c.append.result _ _ (c.append.ensures.done observed) (λ done. done ∙ sym (put_some c.args.f.0 c.args.bytes.now (now (g.D.Disk.history c.args.disk.now)) some))
+    λ observed. on_ok c.append.result _ _ (c.append.ensures.done observed) (λ done. done ∙ sym (put_some c.args.f.0 c.args.bytes.now (now (g.D.Disk.meaning.history c.args.disk.now)) some))
 
 pub returns-clause-moments : goal.returns-clause-moments
 returns-clause-moments g c =
     let some = some_bytes c.args.bytes.now c.is_empty.result c.is_empty.ensures c.if-is_empty.false in
-    λ observed. put_passes c.args.f.0 c.args.bytes.now (g.D.Disk.history c.args.disk.now) (g.D.Disk.history c.append.new.self) some (c.append.ensures.moments observed)
+    λ observed. put_passes c.args.f.0 c.args.bytes.now (g.D.Disk.meaning.history c.args.disk.now) (g.D.Disk.meaning.history c.append.new.self) some (c.append.ensures.moments observed)
 
 pub returns-clause-cause : goal.returns-clause-cause
 returns-clause-cause g c = c.append.ensures.cause

@@ -9,10 +9,10 @@ returns-clause-same g c = λ observed. c.in_ok-count.ensures.same observed ∙ c
 
 pub returns-clause-moments : goal.returns-clause-moments
 returns-clause-moments g c = λ observed.
-    let history = g.D.Disk.history in
-    let old = history c.args.disk.now in
-    passes_then old (history c.len.new.self) (history c.read.new.self) (λ (s : State). s ≡ now old) (c.in_ok-len.ensures.moments observed)
-    (passes_weaken (history c.len.new.self) (history c.read.new.self) (λ (s : State). s ≡ now (history c.len.new.self)) (λ (s : State). s ≡ now old) (λ s is. is ∙ c.in_ok-len.ensures.same observed) (c.in_ok-count.ensures.moments observed))
+    let meaning = g.D.Disk.meaning in
+    let old = meaning.history c.args.disk.now in
+    passes_then old (meaning.history c.len.new.self) (meaning.history c.read.new.self) (λ (s : State). s ≡ now old) (c.in_ok-len.ensures.moments observed)
+    (passes_weaken (meaning.history c.len.new.self) (meaning.history c.read.new.self) (λ (s : State). s ≡ now (meaning.history c.len.new.self)) (λ (s : State). s ≡ now old) (λ s is. is ∙ c.in_ok-len.ensures.same observed) (c.in_ok-count.ensures.moments observed))
 
 pub returns-clause-jobs : goal.returns-clause-jobs
 returns-clause-jobs g c = (

@@ -13,9 +13,9 @@ use Rattle.log_printer.proofs.reading.read_files.Goals as goal
 
 pub loop-f-init : goal.loop-f-init
 loop-f-init g c =
-    let start = g.D.Disk.history c.args.disk.now in
+    let start = g.D.Disk.meaning.history c.args.disk.now in
     record {
-      reading = subst (λ (lines : List FileLines). IsReadingLines g.D.Disk.observable (now start).reads c.args.files.now c.args.files.now lines) (sym c.new-read.ensures.items) (reading_begins g.D.Disk.observable (now start).reads c.args.files.now);
+      reading = subst (λ (lines : List FileLines). IsReadingLines g.D.Disk.meaning.observable (now start).reads c.args.files.now c.args.files.now lines) (sym c.new-read.ensures.items) (reading_begins g.D.Disk.meaning.observable (now start).reads c.args.files.now);
       left = refl;
       same = λ t. refl;
       moments = λ t. passes_none start (λ s. s ≡ now start);
@@ -24,21 +24,21 @@ loop-f-init g c =
 
 pub loop-f-preserved : goal.loop-f-preserved
 loop-f-preserved g c =
-    let history = g.D.Disk.history in
+    let meaning = g.D.Disk.meaning in
     let before = c.loop-f.invariant in
-    let start = history c.args.disk.now in
+    let start = meaning.history c.args.disk.now in
     let f = get_or c.args.files.now c.loop-f.f-index (record { 0 = 0 }) in
     let at = item_at c.args.files.now c.loop-f.f-index c.loop-f-test.true in
     let left : length (drop (c.loop-f.f-index + 1) c.args.files.now) ≡ c.loop-f.left - 1 = omega (arith, ap length at, before.left) in
     let read = c.in_ok-lines.ensures in
     record {
       reading =
-          subst (λ (lines : List FileLines). IsReadingLines g.D.Disk.observable (now start).reads c.args.files.now (drop (c.loop-f.f-index + 1) c.args.files.now) lines) (sym c.in_ok-push_lines.ensures)
-          (reading_goes_on g.D.Disk.observable (now start).reads (now (history c.loop-f.disk)).reads c.args.files.now (drop c.loop-f.f-index c.args.files.now) (drop (c.loop-f.f-index + 1) c.args.files.now) f
+          subst (λ (lines : List FileLines). IsReadingLines g.D.Disk.meaning.observable (now start).reads c.args.files.now (drop (c.loop-f.f-index + 1) c.args.files.now) lines) (sym c.in_ok-push_lines.ensures)
+          (reading_goes_on g.D.Disk.meaning.observable (now start).reads (now (meaning.history c.loop-f.disk)).reads c.args.files.now (drop c.loop-f.f-index c.args.files.now) (drop (c.loop-f.f-index + 1) c.args.files.now) f
           c.loop-f.read.items c.in_ok-lines.lines (c.loop-f.left - 1 == 0) (λ t. ap (λ (s : State). s.reads) (before.same t)) before.reading at (ap (λ (n : ℕ). n == 0) left) read.read);
       left = sym left;
       same = λ t. read.same t ∙ before.same t;
-      moments = λ t. passes_again start (history c.loop-f.disk) (history c.read_file.new.disk) (before.same t) (before.moments t) (read.moments t);
+      moments = λ t. passes_again start (meaning.history c.loop-f.disk) (meaning.history c.read_file.new.disk) (before.same t) (before.moments t) (read.moments t);
       never_falls = omega (arith, before.never_falls, read.never_falls);
     }
 
@@ -47,14 +47,13 @@ overflow_sub-left g c = one_left c.args.files.now c.loop-f.f-index c.loop-f.left
 
 pub returns-in_err-lines-clause-stops : goal.returns-in_err-lines-clause-stops
 returns-in_err-lines-clause-stops g c =
-    let history = g.D.Disk.history in
-    let faults = g.D.Disk.faults in
+    let meaning = g.D.Disk.meaning in
     let before = c.loop-f.invariant in
     let f = get_or c.args.files.now c.loop-f.f-index (record { 0 = 0 }) in
     let at = item_at c.args.files.now c.loop-f.f-index c.loop-f-test.true in
     let left : length (drop (c.loop-f.f-index + 1) c.args.files.now) ≡ c.loop-f.left - 1 = omega (arith, ap length at, before.left) in
-    file_stops g.D.Disk.observable (now (history c.args.disk.now)).reads (now (history c.loop-f.disk)).reads c.args.files.now (drop c.loop-f.f-index c.args.files.now) (drop (c.loop-f.f-index + 1) c.args.files.now) f
-    c.loop-f.read.items (c.loop-f.left - 1 == 0) (faults c.args.disk.now) (faults c.loop-f.disk) (faults c.read_file.new.disk) c.from_residual.result c.in_err-lines.field-0.0 (λ t. ap (λ (s : State). s.reads) (before.same t))
+    file_stops g.D.Disk.meaning.observable (now (meaning.history c.args.disk.now)).reads (now (meaning.history c.loop-f.disk)).reads c.args.files.now (drop c.loop-f.f-index c.args.files.now) (drop (c.loop-f.f-index + 1) c.args.files.now) f
+    c.loop-f.read.items (c.loop-f.left - 1 == 0) (meaning.faults c.args.disk.now) (meaning.faults c.loop-f.disk) (meaning.faults c.read_file.new.disk) c.from_residual.result c.in_err-lines.field-0.0 (λ t. ap (λ (s : State). s.reads) (before.same t))
     before.never_falls c.in_err-lines.ensures.never_falls before.reading at (ap (λ (n : ℕ). n == 0) left) c.from_residual.ensures.1 c.in_err-lines.ensures.stops
 
 pub returns-in_err-lines-clause-same : goal.returns-in_err-lines-clause-same
@@ -62,7 +61,7 @@ returns-in_err-lines-clause-same g c t = c.in_err-lines.ensures.same t ∙ c.loo
 
 pub returns-in_err-lines-clause-moments : goal.returns-in_err-lines-clause-moments
 returns-in_err-lines-clause-moments g c t =
-    passes_again (g.D.Disk.history c.args.disk.now) (g.D.Disk.history c.loop-f.disk) (g.D.Disk.history c.read_file.new.disk) (c.loop-f.invariant.same t) (c.loop-f.invariant.moments t) (c.in_err-lines.ensures.moments t)
+    passes_again (g.D.Disk.meaning.history c.args.disk.now) (g.D.Disk.meaning.history c.loop-f.disk) (g.D.Disk.meaning.history c.read_file.new.disk) (c.loop-f.invariant.same t) (c.loop-f.invariant.moments t) (c.in_err-lines.ensures.moments t)
 
 pub returns-in_err-lines-clause-never_falls : goal.returns-in_err-lines-clause-never_falls
 returns-in_err-lines-clause-never_falls g c = omega (arith, c.loop-f.invariant.never_falls, c.in_err-lines.ensures.never_falls)
@@ -75,14 +74,14 @@ returns-in_err-push_lines-clause-same g c t = c.in_ok-lines.ensures.same t ∙ c
 
 pub returns-in_err-push_lines-clause-moments : goal.returns-in_err-push_lines-clause-moments
 returns-in_err-push_lines-clause-moments g c t =
-    passes_again (g.D.Disk.history c.args.disk.now) (g.D.Disk.history c.loop-f.disk) (g.D.Disk.history c.read_file.new.disk) (c.loop-f.invariant.same t) (c.loop-f.invariant.moments t) (c.in_ok-lines.ensures.moments t)
+    passes_again (g.D.Disk.meaning.history c.args.disk.now) (g.D.Disk.meaning.history c.loop-f.disk) (g.D.Disk.meaning.history c.read_file.new.disk) (c.loop-f.invariant.same t) (c.loop-f.invariant.moments t) (c.in_ok-lines.ensures.moments t)
 
 pub returns-in_err-push_lines-clause-never_falls : goal.returns-in_err-push_lines-clause-never_falls
 returns-in_err-push_lines-clause-never_falls g c = omega (arith, c.loop-f.invariant.never_falls, c.in_ok-lines.ensures.never_falls)
 
 pub returns-clause-read : goal.returns-clause-read
 returns-clause-read g c =
-    subst (λ (left : List FileNo). IsReadingLines g.D.Disk.observable (now (g.D.Disk.history c.args.disk.now)).reads c.args.files.now left c.loop-f.read.items) (drop_of_length-le c.args.files.now c.loop-f-test.false) c.loop-f.invariant.reading
+    subst (λ (left : List FileNo). IsReadingLines g.D.Disk.meaning.observable (now (g.D.Disk.meaning.history c.args.disk.now)).reads c.args.files.now left c.loop-f.read.items) (drop_of_length-le c.args.files.now c.loop-f-test.false) c.loop-f.invariant.reading
 
 pub returns-clause-same : goal.returns-clause-same
 returns-clause-same g c = c.loop-f.invariant.same

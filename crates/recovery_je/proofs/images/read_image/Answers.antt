@@ -1,6 +1,7 @@
+use Rattle.std.proofs.Common.{◌∙◌, sym}
 use Rattle.log_entry.specs.Body.{IsEntry}
 use Rattle.recovery_je.proofs.LookupLaws.{named_entry}
 use Rattle.recovery_je.proofs.images.read_image.Goals as goal
 
-pub image_in-requires-clause-entry : goal.image_in-requires-clause-entry
-image_in-requires-clause-entry c = named_entry IsEntry c.args.entries.now c.args.at c.in-Some.entry.now c.requires.entries c.in-Some.ensures
+pub image_in-node-requires-clause-entry : goal.image_in-node-requires-clause-entry
+image_in-node-requires-clause-entry c = named_entry IsEntry c.args.entries.now c.args.at c.in-Some.entry c.requires.entries (sym c.in-Some.is ∙ c.in_ok-entry.ensures)

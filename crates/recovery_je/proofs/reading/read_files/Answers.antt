@@ -1,21 +1,29 @@
-use Rattle.std.proofs.Common.{List, ◌≡◌, ◌∙◌, ap, sym, subst, refl, ℕ, Some, None, arith, get_or, drop, length, ◌+◌, ◌-◌, ◌==◌}
+use Rattle.std.proofs.Common.{List, [], ◌∷◌, ◌++◌, ◌≡◌, ◌∙◌, ap, sym, subst, refl, ℕ, Some, None, arith, get_or, drop, length, ◌+◌, ◌-◌, ◌==◌}
 use Rattle.je_disk.specs.Moments.{now}
 use Rattle.je_disk.specs.States.{State}
 use Rattle.je_disk.proofs.MomentLaws.{passes_none}
 use Rattle.std.proofs.Math.ListN.{drop_of_length-le}
 use Rattle.je_lsn.specs.declared.file_no.FileNo.{FileNo}
 use Rattle.log_trees.specs.Placed.{Placed}
-use Rattle.recovery_je.specs.Files.{IsFileRead, IsReading}
+use Rattle.recovery_je.specs.LogRead.{entries_of_files, AreFilesOf}
+use Rattle.recovery_je.specs.Noting.{AreNotesOf}
+use Rattle.recovery_je.specs.Scanned.{IsFileRead, FileIsNoted}
+use Rattle.recovery_je.specs.Files.{IsReading}
 use Rattle.log_replay.proofs.UnchangedMoments.{cause_later, cause_memory, cause_none, stays, passes_again}
 use Rattle.log_replay.proofs.GapLaws.{item_at, one_left}
-use Rattle.recovery_je.proofs.FilesRead.{reading_begins, reading_goes_on, reading_stops, read_along, entries_may_stand}
+use Rattle.recovery_je.proofs.FilesRead.{reading_begins, reading_goes_on, reading_stops, read_along, in_files-push, held_more, gone_inside, take_more}
 use Rattle.recovery_je.proofs.reading.read_files.Goals as goal
 
 pub loop-f-init : goal.loop-f-init
 loop-f-init g c =
-    let start = g.D.Disk.history c.args.disk.now in
+    let start = g.D.Disk.meaning.history c.args.disk.now in
+    let none = c.new-read.ensures.items in
+    let no_numbers = c.new-numbers.ensures.items in
     record {
-      reading = subst (λ (es : List Placed). IsReading g.D.Disk.observable (now start).reads c.args.files.now c.args.files.now es None) (sym c.new-placed.ensures.items) (reading_begins g.D.Disk.observable (now start).reads c.args.files.now);
+      reading = subst (λ (l : List (ℕ × List Placed)). IsReading g.D.Disk.meaning.observable (now start).reads c.args.files.now c.args.files.now (entries_of_files l) None) (sym none) (reading_begins g.D.Disk.meaning.observable (now start).reads c.args.files.now);
+      numbers = no_numbers;
+      held = subst (λ (l : List ℕ). AreFilesOf l c.new-read.result.items) (sym no_numbers) (subst (AreFilesOf []) (sym none) (record { numbers_are = refl; inside = tt }));
+      noted = subst (λ (l : List (ℕ × List Placed)). AreNotesOf (entries_of_files l) c.new-notes.result) (sym none) c.new-notes.ensures;
       left = refl;
       same = λ t. refl;
       moments = λ t. passes_none start (λ s. s ≡ now start);
@@ -25,23 +33,23 @@ loop-f-init g c =
 
 pub returns-in-Stops-clause-read : goal.returns-in-Stops-clause-read
 returns-in-Stops-clause-read g c =
-    let history = g.D.Disk.history in
-    let observable = g.D.Disk.observable in
+    let history = g.D.Disk.meaning.history in
+    let observable = g.D.Disk.meaning.observable in
     let before = c.loop-f.invariant in
     let reads = (now (history c.args.disk.now)).reads in
     let f = get_or c.args.files.now c.loop-f.f-index (record { 0 = 0 }) in
     let last = c.loop-f.left - 1 == 0 in
     let at = item_at c.args.files.now c.loop-f.f-index c.loop-f-test.true in
     let left : length (drop (c.loop-f.f-index + 1) c.args.files.now) ≡ c.loop-f.left - 1 = omega (arith, ap length at, before.left) in
-    reading_stops observable reads c.args.files.now (drop c.loop-f.f-index c.args.files.now) (drop (c.loop-f.f-index + 1) c.args.files.now) f c.loop-f.placed.items
+    reading_stops observable reads c.args.files.now (drop c.loop-f.f-index c.args.files.now) (drop (c.loop-f.f-index + 1) c.args.files.now) f (entries_of_files c.loop-f.read.items)
     c.loop-f.last c.in-Stops.corruption last before.reading at (ap (λ (n : ℕ). n == 0) left)
     (read_along observable reads (now (history c.loop-f.disk)).reads last f.0 _ (λ t. ap (λ (s : State). s.reads) (before.same t))
     (subst (IsFileRead observable (now (history c.loop-f.disk)).reads last f.0) c.in-Stops.is c.in_ok-corruption.ensures.read))
 
 pub loop-f-preserved : goal.loop-f-preserved
 loop-f-preserved g c =
-    let history = g.D.Disk.history in
-    let observable = g.D.Disk.observable in
+    let history = g.D.Disk.meaning.history in
+    let observable = g.D.Disk.meaning.observable in
     let before = c.loop-f.invariant in
     let start = history c.args.disk.now in
     let reads = (now start).reads in
@@ -50,13 +58,19 @@ loop-f-preserved g c =
     let at = item_at c.args.files.now c.loop-f.f-index c.loop-f-test.true in
     let left : length (drop (c.loop-f.f-index + 1) c.args.files.now) ≡ c.loop-f.left - 1 = omega (arith, ap length at, before.left) in
     let read = c.in_ok-corruption.ensures in
+    let kept = c.in_ok-keep-in-GoesOn.ensures in
+    let pushed = in_files-push c.loop-f.read.items c.keep.new.read.items c.in-GoesOn.file kept.files in
+    let gone = subst (IsFileRead observable (now (history c.loop-f.disk)).reads last f.0) c.in-GoesOn.is read.read in
+    let inside = gone_inside observable (now (history c.loop-f.disk)).reads last f.0 c.in-GoesOn.file c.in-GoesOn.tail gone in
     record {
       reading =
-          subst (λ (es : List Placed). IsReading observable reads c.args.files.now (drop (c.loop-f.f-index + 1) c.args.files.now) es (Some c.in-GoesOn.tail)) (sym c.in_ok-hold-in-GoesOn.ensures)
-          (reading_goes_on observable reads c.args.files.now (drop c.loop-f.f-index c.args.files.now) (drop (c.loop-f.f-index + 1) c.args.files.now) f c.loop-f.placed.items
-          c.loop-f.last c.in-GoesOn.entries c.in-GoesOn.tail last before.reading at (ap (λ (n : ℕ). n == 0) left)
-          (read_along observable reads (now (history c.loop-f.disk)).reads last f.0 _ (λ t. ap (λ (s : State). s.reads) (before.same t))
-          (subst (IsFileRead observable (now (history c.loop-f.disk)).reads last f.0) c.in-GoesOn.is read.read)) read.number);
+          subst (λ (es : List Placed). IsReading observable reads c.args.files.now (drop (c.loop-f.f-index + 1) c.args.files.now) es (Some c.in-GoesOn.tail)) (sym pushed)
+          (reading_goes_on observable reads c.args.files.now (drop c.loop-f.f-index c.args.files.now) (drop (c.loop-f.f-index + 1) c.args.files.now) f (entries_of_files c.loop-f.read.items)
+          c.loop-f.last c.in-GoesOn.file c.in-GoesOn.tail last before.reading at (ap (λ (n : ℕ). n == 0) left)
+          (read_along observable reads (now (history c.loop-f.disk)).reads last f.0 _ (λ t. ap (λ (s : State). s.reads) (before.same t)) gone) read.number);
+      numbers = kept.numbers ∙ ap (λ (l : List ℕ). l ++ f.0 ∷ []) before.numbers ∙ sym (take_more (λ (n : FileNo). n.0) c.args.files.now c.loop-f.f-index (record { 0 = 0 }) c.loop-f-test.true);
+      held = held_more c.loop-f.numbers.items c.keep.new.numbers.items c.loop-f.read.items c.keep.new.read.items c.in-GoesOn.file f.0 before.held kept.numbers kept.files inside.0 inside.1;
+      noted = subst (λ (es : List Placed). AreNotesOf es c.read_file.new.notes) (sym pushed) (subst (FileIsNoted c.loop-f.notes c.read_file.new.notes) c.in-GoesOn.is read.noted (entries_of_files c.loop-f.read.items) before.noted);
       left = sym left;
       same = λ t. read.same t ∙ before.same t;
       moments = λ t.
@@ -70,7 +84,7 @@ returns-in_err-corruption-clause-same g c t = c.in_err-corruption.ensures.same t
 
 pub returns-in_err-corruption-clause-moments : goal.returns-in_err-corruption-clause-moments
 returns-in_err-corruption-clause-moments g c t =
-    passes_again (g.D.Disk.history c.args.disk.now) (g.D.Disk.history c.loop-f.disk) (g.D.Disk.history c.read_file.new.disk)
+    passes_again (g.D.Disk.meaning.history c.args.disk.now) (g.D.Disk.meaning.history c.loop-f.disk) (g.D.Disk.meaning.history c.read_file.new.disk)
     (c.loop-f.invariant.same t) (c.loop-f.invariant.moments t) (c.in_err-corruption.ensures.moments t)
 
 pub returns-in_err-corruption-clause-jobs : goal.returns-in_err-corruption-clause-jobs
@@ -84,7 +98,7 @@ returns-in-Stops-clause-same g c t = c.in_ok-corruption.ensures.same t ∙ c.loo
 
 pub returns-in-Stops-clause-moments : goal.returns-in-Stops-clause-moments
 returns-in-Stops-clause-moments g c t =
-    passes_again (g.D.Disk.history c.args.disk.now) (g.D.Disk.history c.loop-f.disk) (g.D.Disk.history c.read_file.new.disk)
+    passes_again (g.D.Disk.meaning.history c.args.disk.now) (g.D.Disk.meaning.history c.loop-f.disk) (g.D.Disk.meaning.history c.read_file.new.disk)
     (c.loop-f.invariant.same t) (c.loop-f.invariant.moments t) (c.in_ok-corruption.ensures.moments t)
 
 pub returns-in-Stops-clause-jobs : goal.returns-in-Stops-clause-jobs
@@ -104,17 +118,17 @@ returns-clause-jobs g c = c.loop-f.invariant.jobs
 
 pub returns-in_err-corruption-clause-cause : goal.returns-in_err-corruption-clause-cause
 returns-in_err-corruption-clause-cause g c =
-    let faults = g.D.Disk.faults in
+    let faults = g.D.Disk.meaning.faults in
     cause_later (faults c.args.disk.now) (faults c.loop-f.disk) (faults c.read_file.new.disk) c.from_residual.result c.in_err-corruption.field-0.0 c.loop-f.invariant.never_falls c.from_residual.ensures.1 c.in_err-corruption.ensures.cause
 
 pub returns-in-Stops-clause-cause : goal.returns-in-Stops-clause-cause
 returns-in-Stops-clause-cause g c =
-    let faults = g.D.Disk.faults in
+    let faults = g.D.Disk.meaning.faults in
     cause_none (faults c.args.disk.now) (faults c.loop-f.disk) (faults c.read_file.new.disk) c.loop-f.invariant.never_falls c.in_ok-corruption.ensures.cause.never_falls
 
 pub returns-clause-cause : goal.returns-clause-cause
 returns-clause-cause g c =
-    let faults = g.D.Disk.faults in
+    let faults = g.D.Disk.meaning.faults in
     cause_none (faults c.args.disk.now) (faults c.loop-f.disk) (faults c.loop-f.disk) c.loop-f.invariant.never_falls (stays (faults c.loop-f.disk))
 
 pub overflow_sub-left : goal.overflow_sub-left
@@ -122,31 +136,24 @@ overflow_sub-left g c = one_left c.args.files.now c.loop-f.f-index c.loop-f.left
 
 pub returns-clause-read : goal.returns-clause-read
 returns-clause-read g c =
-    subst (λ (left : List FileNo). IsReading g.D.Disk.observable (now (g.D.Disk.history c.args.disk.now)).reads c.args.files.now left c.loop-f.placed.items c.loop-f.last)
+    subst (λ (left : List FileNo). IsReading g.D.Disk.meaning.observable (now (g.D.Disk.meaning.history c.args.disk.now)).reads c.args.files.now left (entries_of_files c.loop-f.read.items) c.loop-f.last)
     (drop_of_length-le c.args.files.now c.loop-f-test.false) c.loop-f.invariant.reading
 
-pub returns-in_err-hold-in-GoesOn-clause-same : goal.returns-in_err-hold-in-GoesOn-clause-same
-returns-in_err-hold-in-GoesOn-clause-same g c t = c.in_ok-corruption.ensures.same t ∙ c.loop-f.invariant.same t
+pub returns-in_err-keep-in-GoesOn-clause-same : goal.returns-in_err-keep-in-GoesOn-clause-same
+returns-in_err-keep-in-GoesOn-clause-same g c t = c.in_ok-corruption.ensures.same t ∙ c.loop-f.invariant.same t
 
-pub returns-in_err-hold-in-GoesOn-clause-moments : goal.returns-in_err-hold-in-GoesOn-clause-moments
-returns-in_err-hold-in-GoesOn-clause-moments g c t =
-    passes_again (g.D.Disk.history c.args.disk.now) (g.D.Disk.history c.loop-f.disk) (g.D.Disk.history c.read_file.new.disk)
+pub returns-in_err-keep-in-GoesOn-clause-moments : goal.returns-in_err-keep-in-GoesOn-clause-moments
+returns-in_err-keep-in-GoesOn-clause-moments g c t =
+    passes_again (g.D.Disk.meaning.history c.args.disk.now) (g.D.Disk.meaning.history c.loop-f.disk) (g.D.Disk.meaning.history c.read_file.new.disk)
     (c.loop-f.invariant.same t) (c.loop-f.invariant.moments t) (c.in_ok-corruption.ensures.moments t)
 
-pub returns-in_err-hold-in-GoesOn-clause-jobs : goal.returns-in_err-hold-in-GoesOn-clause-jobs
-returns-in_err-hold-in-GoesOn-clause-jobs g c =
+pub returns-in_err-keep-in-GoesOn-clause-jobs : goal.returns-in_err-keep-in-GoesOn-clause-jobs
+returns-in_err-keep-in-GoesOn-clause-jobs g c =
     let first = c.loop-f.invariant.jobs in
     let then_ = c.in_ok-corruption.ensures.jobs in
     (then_.0 ∙ first.0, then_.1 ∙ first.1, then_.2 ∙ first.2, then_.3 ∙ first.3)
 
-pub returns-in_err-hold-in-GoesOn-clause-cause : goal.returns-in_err-hold-in-GoesOn-clause-cause
-returns-in_err-hold-in-GoesOn-clause-cause g c =
-    let faults = g.D.Disk.faults in
-    cause_memory (faults c.args.disk.now) (faults c.loop-f.disk) (faults c.read_file.new.disk) c.from_residual-in_err-hold-in-GoesOn.result c.loop-f.invariant.never_falls c.in_ok-corruption.ensures.cause.never_falls c.from_residual-in_err-hold-in-GoesOn.ensures.1
-
-pub hold-requires : goal.hold-requires
-hold-requires g c =
-    let last = c.loop-f.left - 1 == 0 in
-    let f = get_or c.args.files.now c.loop-f.f-index (record { 0 = 0 }) in
-    let reads = (now (g.D.Disk.history c.loop-f.disk)).reads in
-    entries_may_stand g.D.Disk.observable reads last f.0 c.in-GoesOn.entries c.in-GoesOn.tail (subst (IsFileRead g.D.Disk.observable reads last f.0) c.in-GoesOn.is c.in_ok-corruption.ensures.read)
+pub returns-in_err-keep-in-GoesOn-clause-cause : goal.returns-in_err-keep-in-GoesOn-clause-cause
+returns-in_err-keep-in-GoesOn-clause-cause g c =
+    let faults = g.D.Disk.meaning.faults in
+    cause_memory (faults c.args.disk.now) (faults c.loop-f.disk) (faults c.read_file.new.disk) c.from_residual-in_err-keep-in-GoesOn.result c.loop-f.invariant.never_falls c.in_ok-corruption.ensures.cause.never_falls c.from_residual-in_err-keep-in-GoesOn.ensures.1

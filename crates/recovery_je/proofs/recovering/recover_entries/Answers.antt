@@ -1,13 +1,12 @@
-use Rattle.std.proofs.Common.{◌≡◌, ◌≤◌, ◌∙◌, ap, sym, subst, map, max, List, ℕ, unwrap_or, Option, Err, arith}
-use Rattle.log_trees.specs.Placed.{Placed}
+use Rattle.std.proofs.Common.{◌≡◌, ◌≤◌, ◌∙◌, [], refl, ap, sym, subst, map, max, ℕ, unwrap_or, Option, Err, arith}
 use Rattle.log_entry.specs.declared.root.Root.{Root}
-use Rattle.log_replay.specs.Replay.{txn_in}
-use Rattle.log_meaning.specs.Redo.{from, redone}
+use Rattle.log_meaning.specs.Redo.{redone}
 use Rattle.log_meaning.specs.Checkpoint.{Checkpoint, no_checkpoint, last_checkpoint, last_end, behind}
-use Rattle.log_meaning.specs.Meaning.{most, node_number, db_number}
+use Rattle.log_meaning.specs.Meaning.{most}
 use Rattle.log_meaning.specs.Reading.{meaning_in, redo_corruption}
 use Rattle.recovery_je.specs.Recovering.{IsWalked, IsWrong}
 use Rattle.recovery_je.specs.Putting.{as_loaded, AreRootsPut, count_from}
+use Rattle.recovery_je.proofs.NumberLaws.{from_none_txn, from_none_node, from_none_db}
 use Rattle.recovery_je.proofs.ReadAgain.{are_read}
 use Rattle.recovery_je.proofs.MeaningLaws.{meant, found_wrong, handed_on, same_stored}
 use Rattle.recovery_je.proofs.recovering.recover_entries.Goals as goal
@@ -15,15 +14,14 @@ use Rattle.recovery_je.proofs.recovering.recover_entries.Goals as goal
 pub returns-in_err-settled-clause-found : goal.returns-in_err-settled-clause-found
 returns-in_err-settled-clause-found g c =
     let files = map (λ f. f.0) c.args.files.now in
-    let es = c.args.entries.items in
+    let es = c.args.entries in
     let e : Checkpoint = record { at = c.end.inside.at; number = c.end.inside.number; redo = c.end.inside.redo; last_txn = c.end.inside.last_txn; last_node = c.end.inside.last_node; last_db = c.end.inside.last_db; roots = c.end.inside.roots } in
-    let found_end : c.in_ok-end.end ≡ last_end es = c.in_ok-end.ensures ∙ ap last_end c.deref.ensures.value in
+    let found_end : c.args.notes.end ≡ last_end es = c.requires.noted.end in
     let at : e ≡ last_checkpoint es = c.end.view_is ∙ c.or_none-end.ensures ∙ ap (λ (o : Option Checkpoint). unwrap_or o no_checkpoint) found_end in
     let right = c.redo_corruption-corruption.ensures ∙ ap (redo_corruption files) found_end in
     let walk = c.in_ok-walked.ensures.read.0 in
     let before = g.T.Loads.stored c.in_ok-walked.walked.trees in
-    let walked = subst (λ (k : Checkpoint). IsWalked files es k c.in_ok-walked.walked.numbers before walk) (sym c.end.view_is)
-    (subst (λ (l : List Placed). IsWalked files l c.or_none-end.result c.in_ok-walked.walked.numbers before walk) (c.in_ok-indexed.ensures ∙ c.deref-2.ensures.value) c.in_ok-walked.ensures.read.1) in
+    let walked = subst (λ (k : Checkpoint). IsWalked files es k c.in_ok-walked.walked.numbers before walk) (sym c.end.view_is) c.in_ok-walked.ensures.read.1 in
     let redo = behind walk.rows (redone e.redo es) in
     handed_on (IsWrong redo) (λ f. meaning_in files es ≡ Err f) c.from_residual-in_err-settled.result c.in_err-settled.field-0.0 c.from_residual-in_err-settled.ensures.1
     (c.in_err-settled.ensures.found redo (c.in_ok-trees.ensures.redone walk.rows (same_stored walk.rows before (g.T.Loads.stored c.begin_redo.new.self) c.begin_redo.ensures.stored walked.records)))
@@ -32,41 +30,40 @@ returns-in_err-settled-clause-found g c =
 pub returns-clause-meant : goal.returns-clause-meant
 returns-clause-meant g c =
     let files = map (λ f. f.0) c.args.files.now in
-    let es = c.args.entries.items in
+    let es = c.args.entries in
     let e : Checkpoint = record { at = c.end.inside.at; number = c.end.inside.number; redo = c.end.inside.redo; last_txn = c.end.inside.last_txn; last_node = c.end.inside.last_node; last_db = c.end.inside.last_db; roots = c.end.inside.roots } in
-    let found_end : c.in_ok-end.end ≡ last_end es = c.in_ok-end.ensures ∙ ap last_end c.deref.ensures.value in
+    let found_end : c.args.notes.end ≡ last_end es = c.requires.noted.end in
     let at : e ≡ last_checkpoint es = c.end.view_is ∙ c.or_none-end.ensures ∙ ap (λ (o : Option Checkpoint). unwrap_or o no_checkpoint) found_end in
     let right = c.redo_corruption-corruption.ensures ∙ ap (redo_corruption files) found_end in
     let walk = c.in_ok-walked.ensures.read.0 in
     let before = g.T.Loads.stored c.in_ok-walked.walked.trees in
-    let walked = subst (λ (k : Checkpoint). IsWalked files es k c.in_ok-walked.walked.numbers before walk) (sym c.end.view_is)
-    (subst (λ (l : List Placed). IsWalked files l c.or_none-end.result c.in_ok-walked.walked.numbers before walk) (c.in_ok-indexed.ensures ∙ c.deref-2.ensures.value) c.in_ok-walked.ensures.read.1) in
+    let walked = subst (λ (k : Checkpoint). IsWalked files es k c.in_ok-walked.walked.numbers before walk) (sym c.end.view_is) c.in_ok-walked.ensures.read.1 in
     let redo = behind walk.rows (redone e.redo es) in
     meant files es e c.redo_corruption-corruption.result c.in_ok-walked.walked.numbers before (g.T.Loads.stored c.in_ok-settled.settled.trees) (g.T.Loads.has_tree c.in_ok-settled.settled.trees) c.in_ok-settled.settled.opening
     c.in_ok-settled.settled.databases c.in_ok-settled.settled.records c.max-2.result c.max-last_node.result c.max-5.result walk at right c.in_ok-walked.ensures.right walked
     (c.in_ok-settled.ensures.settled redo (c.in_ok-trees.ensures.redone walk.rows (same_stored walk.rows before (g.T.Loads.stored c.begin_redo.new.self) c.begin_redo.ensures.stored walked.records)))
-    (c.max-2.ensures ∙ ap (λ (n : ℕ). max e.last_txn n) (c.of-numbers.ensures.txn ∙ ap (λ (l : List Placed). most (λ (p : Placed). txn_in p.1) (from e.redo l)) c.deref-3.ensures.value))
+    (c.max-2.ensures ∙ ap (λ (n : ℕ). max e.last_txn n) (from_none_txn e.redo es [] c.in_ok-numbers.numbers refl c.in_ok-numbers.ensures))
     (c.max-last_node.ensures ∙ ap (λ (n : ℕ). max e.last_node n) (c.max.ensures ∙ ap (λ (n : ℕ). max c.in_ok-walked.walked.numbers.node n)
-    (c.of-numbers.ensures.node ∙ ap (λ (l : List Placed). most (λ (p : Placed). node_number p.1) (from e.redo l)) c.deref-3.ensures.value)))
+    (from_none_node e.redo es [] c.in_ok-numbers.numbers refl c.in_ok-numbers.ensures)))
     (c.max-5.ensures ∙ ap (λ (n : ℕ). max e.last_db n) (c.max-4.ensures
     ∙ ap (λ (n : ℕ). max n c.max-3.result) (c.greatest_db-roots_db.ensures ∙ ap (most (λ (r : Root). r.db)) c.as_slice.ensures)
     ∙ ap (λ (n : ℕ). max (most (λ (r : Root). r.db) e.roots) n) (c.max-3.ensures ∙ ap (λ (n : ℕ). max c.in_ok-walked.walked.numbers.db n)
-    (c.of-numbers.ensures.db ∙ ap (λ (l : List Placed). most (λ (p : Placed). db_number p.1) (from e.redo l)) c.deref-3.ensures.value))))
+    (from_none_db e.redo es [] c.in_ok-numbers.numbers refl c.in_ok-numbers.ensures))))
 
 pub returns-clause-redone : goal.returns-clause-redone
 returns-clause-redone g c =
-    let es = c.args.entries.items in
+    let es = c.args.entries in
     let e : Checkpoint = record { at = c.end.inside.at; number = c.end.inside.number; redo = c.end.inside.redo; last_txn = c.end.inside.last_txn; last_node = c.end.inside.last_node; last_db = c.end.inside.last_db; roots = c.end.inside.roots } in
-    let found_end : c.in_ok-end.end ≡ last_end es = c.in_ok-end.ensures ∙ ap last_end c.deref.ensures.value in
+    let found_end : c.args.notes.end ≡ last_end es = c.requires.noted.end in
     let at : e ≡ last_checkpoint es = c.end.view_is ∙ c.or_none-end.ensures ∙ ap (λ (o : Option Checkpoint). unwrap_or o no_checkpoint) found_end in
-    c.count_from-redone.ensures ∙ ap (λ (l : List Placed). count_from e.redo l) (c.in_ok-indexed.ensures ∙ c.deref-2.ensures.value) ∙ ap (λ (k : Checkpoint). count_from k.redo es) at
+    c.in_ok-redone.ensures ∙ ap (λ (k : Checkpoint). count_from k.redo es) at
 
 pub returns-clause-fits : goal.returns-clause-fits
 returns-clause-fits g c =
     let files = map (λ f. f.0) c.args.files.now in
-    let es = c.args.entries.items in
+    let es = c.args.entries in
     let e : Checkpoint = record { at = c.end.inside.at; number = c.end.inside.number; redo = c.end.inside.redo; last_txn = c.end.inside.last_txn; last_node = c.end.inside.last_node; last_db = c.end.inside.last_db; roots = c.end.inside.roots } in
-    let found_end : c.in_ok-end.end ≡ last_end es = c.in_ok-end.ensures ∙ ap last_end c.deref.ensures.value in
+    let found_end : c.args.notes.end ≡ last_end es = c.requires.noted.end in
     let at : e ≡ last_checkpoint es = c.end.view_is ∙ c.or_none-end.ensures ∙ ap (λ (o : Option Checkpoint). unwrap_or o no_checkpoint) found_end in
     let walk = c.in_ok-walked.ensures.read.0 in
     let numbers = c.in_ok-walked.walked.numbers in
@@ -75,10 +72,8 @@ returns-clause-fits g c =
     let after = state c.in_ok-walked.walked.trees in
     let begun = state c.args.trees in
     let read = c.begin_redo.new.self in
-    let walked = subst (λ (k : Checkpoint). IsWalked files es k numbers before walk) (sym c.end.view_is)
-    (subst (λ (l : List Placed). IsWalked files l c.or_none-end.result numbers before walk) (c.in_ok-indexed.ensures ∙ c.deref-2.ensures.value) c.in_ok-walked.ensures.read.1) in
-    let put = subst (λ (k : Checkpoint). AreRootsPut es k.roots numbers.node begun after) (sym c.end.view_is)
-    (subst (λ (l : List Placed). AreRootsPut l c.or_none-end.result.roots numbers.node begun after) (c.in_ok-indexed.ensures ∙ c.deref-2.ensures.value) c.in_ok-walked.ensures.nodes) in
+    let walked = subst (λ (k : Checkpoint). IsWalked files es k numbers before walk) (sym c.end.view_is) c.in_ok-walked.ensures.read.1 in
+    let put = subst (λ (k : Checkpoint). AreRootsPut es k.roots numbers.node begun after) (sym c.end.view_is) c.in_ok-walked.ensures.nodes in
     let first = c.max.ensures in
     let next = c.max-last_node.ensures in
     let le : numbers.node ≤ c.max-last_node.result = omega (arith, first, next) in

@@ -9,10 +9,10 @@ returns-clause-same g c t = c.list.ensures.same t ∙ c.mount.ensures.same t
 
 pub returns-clause-moments : goal.returns-clause-moments
 returns-clause-moments g c t =
-    passes_again (g.D.Disk.history c.args.disk.now) (g.D.Disk.history c.mount.new.self) (g.D.Disk.history c.list.new.self) (c.mount.ensures.same t) (c.mount.ensures.moments t) (c.list.ensures.moments t)
+    passes_again (g.D.Disk.meaning.history c.args.disk.now) (g.D.Disk.meaning.history c.mount.new.self) (g.D.Disk.meaning.history c.list.new.self) (c.mount.ensures.same t) (c.mount.ensures.moments t) (c.list.ensures.moments t)
 
 pub returns-clause-cause : goal.returns-clause-cause
-returns-clause-cause g c = cause_of_list (g.D.Disk.faults c.args.disk.now) (g.D.Disk.faults c.mount.new.self) (g.D.Disk.faults c.list.new.self) c.list.result c.mount.ensures.cause.never_falls c.list.ensures.cause
+returns-clause-cause g c = cause_of_list (g.D.Disk.meaning.faults c.args.disk.now) (g.D.Disk.meaning.faults c.mount.new.self) (g.D.Disk.meaning.faults c.list.new.self) c.list.result c.mount.ensures.cause.never_falls c.list.ensures.cause
 
 pub returns-clause-none_out : goal.returns-clause-none_out
 returns-clause-none_out g c = on_ok_to c.list.result (λ none. c.list.ensures.sync_out ∙ none) c.mount.ensures.sync_out

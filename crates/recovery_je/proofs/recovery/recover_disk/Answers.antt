@@ -12,44 +12,44 @@ returns-clause-same g c t = c.recover.ensures.same t ∙ c.in_ok-files.ensures.s
 
 pub returns-clause-moments : goal.returns-clause-moments
 returns-clause-moments g c t =
-    passes_again (g.D.Disk.history c.args.disk.now) (g.D.Disk.history c.list_files.new.disk) (g.D.Disk.history c.recover.new.disk) (c.in_ok-files.ensures.same t) (c.in_ok-files.ensures.moments t) (c.recover.ensures.moments t)
+    passes_again (g.D.Disk.meaning.history c.args.disk.now) (g.D.Disk.meaning.history c.list_files.new.disk) (g.D.Disk.meaning.history c.recover.new.disk) (c.in_ok-files.ensures.same t) (c.in_ok-files.ensures.moments t) (c.recover.ensures.moments t)
 
 pub returns-clause-cause : goal.returns-clause-cause
 returns-clause-cause g c =
-    cause_then (g.D.Disk.faults c.args.disk.now) (g.D.Disk.faults c.list_files.new.disk) (g.D.Disk.faults c.recover.new.disk) c.recover.result c.in_ok-files.ensures.cause.never_falls c.recover.ensures.cause
+    cause_then (g.D.Disk.meaning.faults c.args.disk.now) (g.D.Disk.meaning.faults c.list_files.new.disk) (g.D.Disk.meaning.faults c.recover.new.disk) c.recover.result c.in_ok-files.ensures.cause.never_falls c.recover.ensures.cause
 
 pub returns-clause-none_out : goal.returns-clause-none_out
 returns-clause-none_out g c = on_ok_to c.recover.result (λ none. c.recover.ensures.jobs.0 ∙ none) c.in_ok-files.ensures.none_out
 
 pub returns-clause-recovered : goal.returns-clause-recovered
 returns-clause-recovered g c =
-    let observable = g.D.Disk.observable in
-    let before = (now (g.D.Disk.history c.args.disk.now)).reads in
-    let mid = (now (g.D.Disk.history c.list_files.new.disk)).reads in
+    let meaning = g.D.Disk.meaning in
+    let before = (now (g.D.Disk.meaning.history c.args.disk.now)).reads in
+    let mid = (now (g.D.Disk.meaning.history c.list_files.new.disk)).reads in
     let files = c.deref.result.now in
     ok_weaker _ _ c.recover.result
-    (λ r is. has_files observable before mid files _ (λ t. ap (λ (s : State). s.reads) (c.in_ok-files.ensures.same t))
+    (λ r is. has_files meaning.observable before mid files _ (λ t. ap (λ (s : State). s.reads) (c.in_ok-files.ensures.same t))
     (λ t. subst (IsListing before) (sym c.deref.ensures.value) (c.in_ok-files.ensures.listed t)) is)
     c.recover.ensures.recovered
 
 pub returns-clause-corrupt : goal.returns-clause-corrupt
 returns-clause-corrupt g c =
-    let observable = g.D.Disk.observable in
-    let before = (now (g.D.Disk.history c.args.disk.now)).reads in
-    let mid = (now (g.D.Disk.history c.list_files.new.disk)).reads in
+    let meaning = g.D.Disk.meaning in
+    let before = (now (g.D.Disk.meaning.history c.args.disk.now)).reads in
+    let mid = (now (g.D.Disk.meaning.history c.list_files.new.disk)).reads in
     let files = c.deref.result.now in
-    corrupt_weaker (λ corruption. IsReadingOf observable mid files (λ held. reading_of held ≡ Err corruption)) (λ corruption. HasFiles observable before (λ held. reading_of held ≡ Err corruption)) c.recover.result
-    (λ f is. has_files observable before mid files (λ held. reading_of held ≡ Err f) (λ t. ap (λ (s : State). s.reads) (c.in_ok-files.ensures.same t))
+    corrupt_weaker (λ corruption. IsReadingOf meaning.observable mid files (λ held. reading_of held ≡ Err corruption)) (λ corruption. HasFiles meaning.observable before (λ held. reading_of held ≡ Err corruption)) c.recover.result
+    (λ f is. has_files meaning.observable before mid files (λ held. reading_of held ≡ Err f) (λ t. ap (λ (s : State). s.reads) (c.in_ok-files.ensures.same t))
     (λ t. subst (IsListing before) (sym c.deref.ensures.value) (c.in_ok-files.ensures.listed t)) is)
     c.recover.ensures.corrupt
 
 pub returns-clause-index : goal.returns-clause-index
 returns-clause-index g c =
-    let observable = g.D.Disk.observable in
-    let before = (now (g.D.Disk.history c.args.disk.now)).reads in
-    let mid = (now (g.D.Disk.history c.list_files.new.disk)).reads in
+    let meaning = g.D.Disk.meaning in
+    let before = (now (g.D.Disk.meaning.history c.args.disk.now)).reads in
+    let mid = (now (g.D.Disk.meaning.history c.list_files.new.disk)).reads in
     let files = c.deref.result.now in
-    index_weaker (λ name. IsReadingOf observable mid files (HasWrongIndex name)) (λ name. HasFiles observable before (HasWrongIndex name)) c.recover.result
-    (λ name is. has_files observable before mid files (HasWrongIndex name) (λ t. ap (λ (s : State). s.reads) (c.in_ok-files.ensures.same t))
+    index_weaker (λ name. IsReadingOf meaning.observable mid files (HasWrongIndex name)) (λ name. HasFiles meaning.observable before (HasWrongIndex name)) c.recover.result
+    (λ name is. has_files meaning.observable before mid files (HasWrongIndex name) (λ t. ap (λ (s : State). s.reads) (c.in_ok-files.ensures.same t))
     (λ t. subst (IsListing before) (sym c.deref.ensures.value) (c.in_ok-files.ensures.listed t)) is)
     c.recover.ensures.index

@@ -1,4 +1,4 @@
-use Rattle.std.proofs.Common.{◌∙◌, map, sym, true, false, option_copied}
+use Rattle.std.proofs.Common.{◌∙◌, map, sym, true, false}
 use Rattle.recovery_je.proofs.WalkLaws.{stands}
 use Rattle.recovery_je.proofs.walking.read_here.Goals as goal
 

@@ -15,8 +15,8 @@ execute_all-requires-clause-here g c =
     let x : Recorded g.row.D.Denot = record { environment = c.args.environment; journal = c.journal_for.result } in
     let none = sym c.journal_for.ensures in (
       s.0,
-      started g.D.Disk.observable g.D.Disk.history g.D.Disk.faults s.0 x none s.1,
-      λ halted. starts_calm g.D.Disk.observable g.D.Disk.history g.D.Disk.faults s.0 x none s.1,
+      started g.D.Disk.meaning s.0 x none s.1,
+      λ halted. starts_calm g.D.Disk.meaning s.0 x none s.1,
     )
 
 pub execute_all-requires-clause-given : goal.execute_all-requires-clause-given
@@ -41,24 +41,24 @@ end_sessions-requires-clause-here g c =
     let s = c.requires.start in
     let x : Recorded g.row.D.Denot = record { environment = c.args.environment; journal = c.journal_for.result } in
     let none = sym c.journal_for.ensures in
-    let under = started g.D.Disk.observable g.D.Disk.history g.D.Disk.faults s.0 x none s.1 in
-    let calm = starts_calm g.D.Disk.observable g.D.Disk.history g.D.Disk.faults s.0 x none s.1 in
+    let under = started g.D.Disk.meaning s.0 x none s.1 in
+    let calm = starts_calm g.D.Disk.meaning s.0 x none s.1 in
     (s.0, c.execute_all.ensures.goes_on s.0 under (λ halted. calm), c.execute_all.ensures.calm s.0 under (λ halted. calm))
 
 pub returns-clause-goes_on : goal.returns-clause-goes_on
 returns-clause-goes_on g c = λ p begins.
     let x : Recorded g.row.D.Denot = record { environment = c.args.environment; journal = c.journal_for.result } in
     let none = sym c.journal_for.ensures in
-    let under = started g.D.Disk.observable g.D.Disk.history g.D.Disk.faults p x none begins in
-    let calm = starts_calm g.D.Disk.observable g.D.Disk.history g.D.Disk.faults p x none begins in
+    let under = started g.D.Disk.meaning p x none begins in
+    let calm = starts_calm g.D.Disk.meaning p x none begins in
     c.end_sessions.ensures.goes_on p (c.execute_all.ensures.goes_on p under (λ halted. calm)) (c.execute_all.ensures.calm p under (λ halted. calm))
 
 pub returns-clause-calm : goal.returns-clause-calm
 returns-clause-calm g c = λ p begins memory.
     let x : Recorded g.row.D.Denot = record { environment = c.args.environment; journal = c.journal_for.result } in
     let none = sym c.journal_for.ensures in
-    let under = started g.D.Disk.observable g.D.Disk.history g.D.Disk.faults p x none begins in
-    let calm = starts_calm g.D.Disk.observable g.D.Disk.history g.D.Disk.faults p x none begins in
+    let under = started g.D.Disk.meaning p x none begins in
+    let calm = starts_calm g.D.Disk.meaning p x none begins in
     c.end_sessions.ensures.calm p (c.execute_all.ensures.goes_on p under (λ halted. calm)) (c.execute_all.ensures.calm p under (λ halted. calm))
     (not_ended c.end_sessions.new.self c.end_sessions.ensures.flags memory)
 
@@ -66,8 +66,8 @@ pub returns-clause-ended : goal.returns-clause-ended
 returns-clause-ended g c = λ p begins memory.
     let x : Recorded g.row.D.Denot = record { environment = c.args.environment; journal = c.journal_for.result } in
     let none = sym c.journal_for.ensures in
-    let under = started g.D.Disk.observable g.D.Disk.history g.D.Disk.faults p x none begins in
-    let calm = starts_calm g.D.Disk.observable g.D.Disk.history g.D.Disk.faults p x none begins in
+    let under = started g.D.Disk.meaning p x none begins in
+    let calm = starts_calm g.D.Disk.meaning p x none begins in
     c.end_sessions.ensures.ended p (c.execute_all.ensures.goes_on p under (λ halted. calm)) (c.execute_all.ensures.calm p under (λ halted. calm))
     (not_ended c.end_sessions.new.self c.end_sessions.ensures.flags memory)
 
@@ -75,7 +75,7 @@ pub returns-clause-ends : goal.returns-clause-ends
 returns-clause-ends g c = λ p begins.
     let x : Recorded g.row.D.Denot = record { environment = c.args.environment; journal = c.journal_for.result } in
     let none = sym c.journal_for.ensures in
-    let under = started g.D.Disk.observable g.D.Disk.history g.D.Disk.faults p x none begins in
-    let calm = starts_calm g.D.Disk.observable g.D.Disk.history g.D.Disk.faults p x none begins in
+    let under = started g.D.Disk.meaning p x none begins in
+    let calm = starts_calm g.D.Disk.meaning p x none begins in
     c.end_sessions.ensures.ends p (c.execute_all.ensures.goes_on p under (λ halted. calm)) (c.execute_all.ensures.calm p under (λ halted. calm))
     (c.execute_all.ensures.ends (subst (λ (l : List Event). AreEndsStopped c.all_sessions.result l) none tt))

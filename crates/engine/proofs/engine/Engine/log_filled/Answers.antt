@@ -47,14 +47,14 @@ returns-in-Ok-clause-logs g c =
       },
       within_last planned.last_db left.0,
       no_limit _ kept.last_node count (subst (λ (cs : List TreeChange). limit_filling_in old cs c.args.owed ≡ None) same c.in-Ok.ensures.room) left.1,
-      appended_all D.observable D.history D.sync_out D.read_out D.read_of D.faults old new (txn_of (kept.last_txn + 1)) planned slice same c.in-Ok.ensures.grew,
-      carried_all D.observable D.history D.sync_out D.read_out D.read_of D.faults old new (txn_of (kept.last_txn + 1)) planned slice same c.in-Ok.ensures.grew,
+      appended_all D.meaning old new (txn_of (kept.last_txn + 1)) planned slice same c.in-Ok.ensures.grew,
+      carried_all D.meaning old new (txn_of (kept.last_txn + 1)) planned slice same c.in-Ok.ensures.grew,
     )
 
 pub returns-in-Ok-clause-near : goal.returns-in-Ok-clause-near
 returns-in-Ok-clause-near g c =
     let D = g.D.Disk in
-    near_logged D.observable D.history D.sync_out D.read_out D.read_of D.faults c.args.self.now.trees c.commit_filled.new.trees (txn_of (c.args.self.now.kept.last_txn + 1)) c.args.planned c.as_slice.result.now c.as_slice.ensures.value
+    near_logged D.meaning c.args.self.now.trees c.commit_filled.new.trees (txn_of (c.args.self.now.kept.last_txn + 1)) c.args.planned c.as_slice.result.now c.as_slice.ensures.value
     c.in-Ok.ensures.grew
 
 pub commit_filled-requires-clause-entries : goal.commit_filled-requires-clause-entries
@@ -84,5 +84,5 @@ returns-then-lacks_numbers-clause-logs g c =
     let D = g.D.Disk in
     let old = c.args.self.now in
     let mid = c.refuse_filled.new.self in
-    refused_logs D.observable D.history D.sync_out D.read_out D.read_of old.trees mid.trees old.kept mid.kept c.args.planned (limit_filling_in old.trees c.args.planned.changes.items c.args.owed) c.in_ok-answer.answer c.in_ok-answer.ensures.answer
+    refused_logs D.meaning old.trees mid.trees old.kept mid.kept c.args.planned (limit_filling_in old.trees c.args.planned.changes.items c.args.owed) c.in_ok-answer.answer c.in_ok-answer.ensures.answer
     (sym c.lacks_numbers.ensures ∙ c.if-lacks_numbers.true) c.refuse_filled.ensures.same c.refuse_filled.ensures.kept

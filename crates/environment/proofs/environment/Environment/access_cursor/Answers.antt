@@ -26,7 +26,7 @@ returns-in-Refused g c =
             c.refuse.ensures.comes most st here sound is.0 is.1;
         near = tt;
         bounds = c.refuse.ensures.bounds;
-        cause = calm_cause _ _ c.refuse.result c.in-Refused.answer c.refuse.ensures.answer late.1 (ap (λ (d : g.row.D.Denot). g.D.Disk.faults d) c.refuse.ensures.disk);
+        cause = calm_cause _ _ c.refuse.result c.in-Refused.answer c.refuse.ensures.answer late.1 (ap (λ (d : g.row.D.Denot). g.D.Disk.meaning.faults d) c.refuse.ensures.disk);
       };
     }
 

@@ -13,7 +13,7 @@ returns-in-Ok-clause-again g c = λ most st at may. c.in-Ok.ensures.comes most (
 
 pub returns-in-Err-clause-again : goal.returns-in-Err-clause-again
 returns-in-Err-clause-again g c = λ most st at may.
-    gone_again g.D.Disk.observable g.D.Disk.history g.D.Disk.sync_out g.D.Disk.read_out g.D.Disk.read_of most c.args.self.now c.call_again-result.new.self c.leave.new.self st c.args.session c.args.wait may
+    gone_again g.D.Disk.meaning most c.args.self.now c.call_again-result.new.self c.leave.new.self st c.args.session c.args.wait may
     (c.in-Err.ensures.comes most (resumed st c.args.wait) at (sound_again st c.args.session c.args.wait may) (may_again st c.args.session c.args.wait may))
     c.leave.ensures.stands c.leave.ensures.log c.leave.ensures.near
 
@@ -22,6 +22,6 @@ returns-in-Err-clause-near g c =
     let most = c.requires.here.0 in
     let st = c.requires.here.1 in
     let may = c.requires.here.3 in
-    (gone_again g.D.Disk.observable g.D.Disk.history g.D.Disk.sync_out g.D.Disk.read_out g.D.Disk.read_of most c.args.self.now c.call_again-result.new.self c.leave.new.self st c.args.session c.args.wait may
+    (gone_again g.D.Disk.meaning most c.args.self.now c.call_again-result.new.self c.leave.new.self st c.args.session c.args.wait may
     (c.in-Err.ensures.comes most (resumed st c.args.wait) c.requires.here.2 (sound_again st c.args.session c.args.wait may) (may_again st c.args.session c.args.wait may))
     c.leave.ensures.stands c.leave.ensures.log c.leave.ensures.near).near

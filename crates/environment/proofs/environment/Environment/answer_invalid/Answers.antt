@@ -3,4 +3,4 @@ use Rattle.environment.proofs.environment.Environment.answer_invalid.Goals as go
 
 pub returns-clause-answers : goal.returns-clause-answers
 returns-clause-answers g c =
-    answers_invalid g.D.Disk.observable g.D.Disk.history g.D.Disk.sync_out g.D.Disk.read_out g.D.Disk.read_of c.args.self.now c.args.session c.args.line c.args.call.now c.args.first c.requires.fault c.told.result c.told.ensures.answer c.told.ensures.victims
+    answers_invalid g.D.Disk.meaning c.args.self.now c.args.session c.args.line c.args.call.now c.args.first c.requires.fault c.told.result c.told.ensures.answer c.told.ensures.victims

@@ -6,9 +6,9 @@ use Rattle.environment.proofs.environment.Environment.call_among.Goals as goal
 pub returns-in-Some-clause-comes : goal.returns-in-Some-clause-comes
 returns-in-Some-clause-comes g c = λ most st here.
     let none = sym here.at.fault ∙ c.requires.valid in
-    told_so (λ answer victims. HasCalled g.D.Disk.observable g.D.Disk.history g.D.Disk.sync_out g.D.Disk.read_out g.D.Disk.read_of most c.args.self.now c.args.self.now st c.args.session c.args.line c.args.call.now answer victims)
+    told_so (λ answer victims. HasCalled g.D.Disk.meaning most c.args.self.now c.args.self.now st c.args.session c.args.line c.args.call.now answer victims)
     c.told.result c.in-Some.refusal c.told.ensures.answer c.told.ensures.victims
-    (refused_early g.D.Disk.observable g.D.Disk.history g.D.Disk.sync_out g.D.Disk.read_out g.D.Disk.read_of most c.args.self.now st c.args.session c.args.line c.args.call.now c.in-Some.refusal here.at none
+    (refused_early g.D.Disk.meaning most c.args.self.now st c.args.session c.args.line c.args.call.now c.in-Some.refusal here.at none
     (sym (c.in_ok-refusal.ensures st here.at.sessions_at (sym none)) ∙ c.in-Some.is))
 
 pub perform-requires-clause-here : goal.perform-requires-clause-here
@@ -24,5 +24,5 @@ pub returns-clause-comes : goal.returns-clause-comes
 returns-clause-comes g c = λ most st here.
     let none = sym here.at.fault ∙ c.requires.valid in
     let early = sym (c.in_ok-refusal.ensures st here.at.sessions_at (sym none)) ∙ c.in_default.is in
-    not_refused g.D.Disk.observable g.D.Disk.history g.D.Disk.sync_out g.D.Disk.read_out g.D.Disk.read_of most c.args.self.now c.perform.new.self st c.args.session c.args.line c.args.call.now c.perform.result early
+    not_refused g.D.Disk.meaning most c.args.self.now c.perform.new.self st c.args.session c.args.line c.args.call.now c.perform.result early
     (c.perform.ensures.comes most st here.at (here.right none).sound early (may_call st c.args.session c.args.call.now (here.right none) (here.bare none) early))

@@ -8,7 +8,7 @@ pub returns-in-Some : goal.returns-in-Some
 returns-in-Some g c =
     let e = c.args.self.now in
     record {
-      performs = used_performs g.D.Disk.observable g.D.Disk.history g.D.Disk.sync_out g.D.Disk.read_out g.D.Disk.read_of g.D.Disk.faults e c.args.session c.args.call.now c.in-Some.txn c.args.fills c.args.changes c.requires.call c.requires.below
+      performs = used_performs g.D.Disk.meaning e c.args.session c.args.call.now c.in-Some.txn c.args.fills c.args.changes c.requires.call c.requires.below
           c.requires.valid c.requires.bounds c.requires.plan (λ most st at sound. subst (λ (o : Option TxnId). IsUserOf st c.args.call.now o) c.in-Some.is (c.requires.user most st at sound));
     }
 

@@ -9,7 +9,7 @@ use Rattle.environment.proofs.environment.Environment.change_catalog.Goals as go
 
 pub returns-then-self-ge-LAST_TXN : goal.returns-then-self-ge-LAST_TXN
 returns-then-self-ge-LAST_TXN g c = record {
-  performs = ended_performs g.D.Disk.observable g.D.Disk.history g.D.Disk.sync_out g.D.Disk.read_out g.D.Disk.read_of g.D.Disk.faults c.args.self.now c.args.session c.args.call.now c.requires.call
+  performs = ended_performs g.D.Disk.meaning c.args.self.now c.args.session c.args.call.now c.requires.call
       c.if-self-ge-LAST_TXN.true c.requires.valid c.requires.bounds;
 }
 
@@ -17,15 +17,15 @@ pub plan-requires-clause-can : goal.plan-requires-clause-can
 plan-requires-clause-can g c =
     let e = c.args.self.now in
     let at = c.requires.here.2 in
-    can_plan c.requires.here.0 g.D.Disk.observable (now (g.D.Disk.history (disk_of e.engine.trees.log))) e.engine.trees.log (contents_of e.engine) (alone_of c.requires.here.1)
-    (alone_at c.requires.here.0 g.D.Disk.observable g.D.Disk.history e c.requires.here.1 at) (sym at.fault ∙ c.requires.valid)
+    can_plan c.requires.here.0 g.D.Disk.meaning.observable (now (g.D.Disk.meaning.history (disk_of e.engine.trees.log))) e.engine.trees.log (contents_of e.engine) (alone_of c.requires.here.1)
+    (alone_at c.requires.here.0 g.D.Disk.meaning e c.requires.here.1 at) (sym at.fault ∙ c.requires.valid)
 
 pub plan-requires-clause-call : goal.plan-requires-clause-call
 plan-requires-clause-call g c = catalog_call c.args.call.now c.requires.call
 
 pub returns-in-Err : goal.returns-in-Err
 returns-in-Err g c = record {
-  performs = none_performs g.D.Disk.observable g.D.Disk.history g.D.Disk.sync_out g.D.Disk.read_out g.D.Disk.read_of g.D.Disk.faults c.args.self.now c.args.session c.args.call.now c.in-Err.error c.requires.bounds;
+  performs = none_performs g.D.Disk.meaning c.args.self.now c.args.session c.args.call.now c.in-Err.error c.requires.bounds;
 }
 
 pub returns-in-Ok : goal.returns-in-Ok

@@ -3,7 +3,7 @@ use Rattle.environment.proofs.environment.Environment.change_unless_used.Goals a
 
 pub returns-in-Err : goal.returns-in-Err
 returns-in-Err g c = record {
-  performs = none_performs g.D.Disk.observable g.D.Disk.history g.D.Disk.sync_out g.D.Disk.read_out g.D.Disk.read_of g.D.Disk.faults c.args.self.now c.args.session c.args.call.now c.in-Err.error c.requires.bounds;
+  performs = none_performs g.D.Disk.meaning c.args.self.now c.args.session c.args.call.now c.in-Err.error c.requires.bounds;
 }
 
 pub returns-in-Ok : goal.returns-in-Ok

@@ -29,4 +29,4 @@ returns-clause-goes_on g c = λ most st here. record {
 pub returns-clause-crash : goal.returns-clause-crash
 returns-clause-crash g c = λ observed most st start journal here is.
     let log : Log = is.0 in
-    (log, ended_safely g.D.Disk.history st log start c.args.self.now.engine.trees.log c.leave.new.self.engine.trees.log journal c.args.session c.leave.ensures.log is.1)
+    (log, ended_safely g.D.Disk.meaning.history st log start c.args.self.now.engine.trees.log c.leave.new.self.engine.trees.log journal c.args.session c.leave.ensures.log is.1)

@@ -12,7 +12,7 @@ use Rattle.environment.proofs.environment.Environment.finish_again.Goals as goal
 
 pub returns-then-is_empty-clause-comes : goal.returns-then-is_empty-clause-comes
 returns-then-is_empty-clause-comes g c = λ before most line st a asked on up moves txn level auto none.
-    finishes_again g.D.Disk.observable g.D.Disk.history g.D.Disk.sync_out g.D.Disk.read_out g.D.Disk.read_of before c.args.self.now c.abandon.new.self c.move_by.new.sessions most c.args.session line st a asked on c.args.answer
+    finishes_again g.D.Disk.meaning before c.args.self.now c.abandon.new.self c.move_by.new.sessions most c.args.session line st a asked on c.args.answer
     c.args.changes.items c.told.result up (nil_from_length c.args.changes.items (sym c.args.changes.ok.0 ∙ eqb-true _ 0 (sym c.is_empty.ensures ∙ c.if-is_empty.true))) auto
     (c.move_by.ensures (with_locks a (all_got a.txn (needs_in st a asked on) st.locks.at) st) a asked (outcome_of st a asked on).place (its_moves c.args.session a st.actives asked (outcome_of st a asked on).place c.args.moves up.its moves)
     (c.answered.ensures.stands a (needs_in st a asked on) st txn level up.taken))
@@ -23,8 +23,8 @@ pub returns-then-is_empty-clause-cause : goal.returns-then-is_empty-clause-cause
 returns-then-is_empty-clause-cause g c =
     let taken = c.requires.taken in
     calm_cause _ _ c.told.result c.args.answer c.told.ensures.answer
-    (calm_taken g.D.Disk.observable g.D.Disk.history g.D.Disk.sync_out g.D.Disk.read_out g.D.Disk.read_of taken.0 c.args.self.now taken.1 c.args.session taken.2 taken.3 taken.4 taken.5 c.args.answer c.args.changes.items taken.6)
-    (ap g.D.Disk.faults c.abandon.ensures.log.disk)
+    (calm_taken g.D.Disk.meaning taken.0 c.args.self.now taken.1 c.args.session taken.2 taken.3 taken.4 taken.5 c.args.answer c.args.changes.items taken.6)
+    (ap g.D.Disk.meaning.faults c.abandon.ensures.log.disk)
 
 pub returns-clause-comes : goal.returns-clause-comes
 returns-clause-comes g c = λ before most line st a asked on up moves txn level auto none. c.commit_again.ensures.comes before most line st a asked on c.args.answer up moves txn level auto none

@@ -32,9 +32,9 @@ returns-in-Answered-clause-comes g c = λ most s st line call on may plan taken 
     let planned = subst (λ (p : Planned). IsPlannedAuto c.args.self.now.engine st c.args.session call on p) c.in-Answered.is plan in
     let calm : IsCalm c.in-Answered.answer = subst (λ (o : Outcome). IsCalm o.answer) planned (outcome_calm (alone_in st) c.args.session call (auto_call call may.db may.records)) in
     let its : c.args.txn ≡ (auto_active st c.args.session).txn = ap (λ (n : ℕ). let t : TxnId = record { 0 = n } in t) txn in
-    told_so (λ (a : Answer) (vs : List Victim). HasCome g.D.Disk.observable g.D.Disk.history g.D.Disk.sync_out g.D.Disk.read_out g.D.Disk.read_of most e (with_begun e last c.close_auto.new.sessions) st c.args.session line call a vs)
+    told_so (λ (a : Answer) (vs : List Victim). HasCome g.D.Disk.meaning most e (with_begun e last c.close_auto.new.sessions) st c.args.session line call a vs)
     c.told.result c.in-Answered.answer c.told.ensures.answer c.told.ensures.victims
-    (answered_comes g.D.Disk.observable g.D.Disk.history g.D.Disk.sync_out g.D.Disk.read_out g.D.Disk.read_of most e st c.args.session call on may c.close_auto.new.sessions last line c.in-Answered.answer
+    (answered_comes g.D.Disk.meaning most e st c.args.session call on may c.close_auto.new.sessions last line c.in-Answered.answer
     (ap (λ (n : ℕ). n + 1) may.at.last_txn ∙ sym (next_is st.last_txn may.left)) taken.free calm planned
     (c.close_auto.ensures st (needs_in (begun st c.args.session) (auto_active st c.args.session) call on) its taken))
 

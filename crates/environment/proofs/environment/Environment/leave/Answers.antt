@@ -17,8 +17,8 @@ returns-in-None-clause-stands g c = λ most st at numbers.
     let mid : Environment g.row.D.Denot = record { engine = e.engine; sessions = c.withdraw.new.self; written = e.written } in
     let now_ = c.withdraw.ensures.stands st at.sessions_at in
     let none = sym (c.of_session.ensures (without_call c.args.session st) now_) ∙ ap option_copied c.in-None.is in
-    subst (λ (o : Option Active). StandsAt most g.D.Disk.observable g.D.Disk.history mid (ended_if_any o (without_call c.args.session st))) (sym none)
-    (withdrawn most g.D.Disk.observable g.D.Disk.history e c.withdraw.new.self st c.args.session at now_)
+    subst (λ (o : Option Active). StandsAt most g.D.Disk.meaning mid (ended_if_any o (without_call c.args.session st))) (sym none)
+    (withdrawn most g.D.Disk.meaning e c.withdraw.new.self st c.args.session at now_)
 
 pub returns-in-None-clause-near : goal.returns-in-None-clause-near
 returns-in-None-clause-near g c = λ st at.
@@ -34,11 +34,11 @@ returns-clause-stands g c = λ most st at numbers.
     let now_ = c.withdraw.ensures.stands st at.sessions_at in
     let some : active_of c.args.session st.actives ≡ Some a = sym (c.of_session.ensures left now_) ∙ ap option_copied c.in-Some.is in
     let own : a.session ≡ c.args.session = found_session c.args.session a st.actives some in
-    subst (λ (o : Option Active). StandsAt most g.D.Disk.observable g.D.Disk.history c.abandon.new.self (ended_if_any o left)) (sym some)
-    (abandoned most g.D.Disk.observable g.D.Disk.history mid c.abandon.new.self left a
+    subst (λ (o : Option Active). StandsAt most g.D.Disk.meaning c.abandon.new.self (ended_if_any o left)) (sym some)
+    (abandoned most g.D.Disk.meaning mid c.abandon.new.self left a
     (subst (λ (s : ℕ). HasAbandoned mid c.abandon.new.self s a.txn) (sym own) c.abandon.ensures)
     (ap (λ (s : ℕ). active_of s st.actives) own ∙ some)
-    numbers (withdrawn most g.D.Disk.observable g.D.Disk.history e c.withdraw.new.self st c.args.session at now_))
+    numbers (withdrawn most g.D.Disk.meaning e c.withdraw.new.self st c.args.session at now_))
 
 pub returns-clause-near : goal.returns-clause-near
 returns-clause-near g c = λ st at.
@@ -50,4 +50,4 @@ returns-clause-near g c = λ st at.
     let some : active_of c.args.session st.actives ≡ Some a = sym (c.of_session.ensures left now_) ∙ ap option_copied c.in-Some.is in
     let own : a.session ≡ c.args.session = found_session c.args.session a st.actives some in
     within_then e mid c.abandon.new.self (near_owed e c.withdraw.new.self (owed_is c.withdraw.new.self left now_ ∙ sym (owed_is e.sessions st at)))
-    (abandoned_near 0 g.D.Disk.observable g.D.Disk.history mid c.abandon.new.self left a (subst (λ (s : ℕ). HasAbandoned mid c.abandon.new.self s a.txn) (sym own) c.abandon.ensures) now_)
+    (abandoned_near 0 g.D.Disk.meaning mid c.abandon.new.self left a (subst (λ (s : ℕ). HasAbandoned mid c.abandon.new.self s a.txn) (sym own) c.abandon.ensures) now_)

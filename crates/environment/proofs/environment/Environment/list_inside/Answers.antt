@@ -5,11 +5,11 @@ use Rattle.environment.proofs.environment.Environment.list_inside.Goals as goal
 
 pub returns-in-Ok : goal.returns-in-Ok
 returns-in-Ok g c = record {
-  performs = inside_performs g.D.Disk.observable g.D.Disk.history g.D.Disk.sync_out g.D.Disk.read_out g.D.Disk.read_of g.D.Disk.faults c.args.self.now c.args.session c.in-Ok.answer c.requires.inside c.requires.valid c.requires.bounds
+  performs = inside_performs g.D.Disk.meaning c.args.self.now c.args.session c.in-Ok.answer c.requires.inside c.requires.valid c.requires.bounds
       c.in-Ok.ensures (λ is. never_names (names_of c.requires.here.1.store) (sym (c.in-Ok.ensures c.requires.here.0 c.requires.here.1 c.requires.here.2) ∙ is));
 }
 
 pub returns-in-Err : goal.returns-in-Err
 returns-in-Err g c = record {
-  performs = not_listed_performs g.D.Disk.observable g.D.Disk.history g.D.Disk.sync_out g.D.Disk.read_out g.D.Disk.read_of g.D.Disk.faults c.args.self.now c.args.session c.in-Err.error c.requires.bounds;
+  performs = not_listed_performs g.D.Disk.meaning c.args.self.now c.args.session c.in-Err.error c.requires.bounds;
 }

@@ -17,20 +17,20 @@ use Rattle.environment.proofs.environment.Environment.log_alone.Goals as goal
 pub log_among-requires-clause-free : goal.log_among-requires-clause-free
 log_among-requires-clause-free g c =
     let h = c.requires.here in
-    names_free g.D.Disk.observable g.D.Disk.history g.D.Disk.sync_out g.D.Disk.read_out g.D.Disk.read_of h.0 c.args.self.now h.2 h.1 0 h.3 h.4 c.args.planned h.5 h.6 (nobody_blocks h.2 h.1 h.3 h.4 h.5.sound h.7)
+    names_free g.D.Disk.meaning h.0 c.args.self.now h.2 h.1 0 h.3 h.4 c.args.planned h.5 h.6 (nobody_blocks h.2 h.1 h.3 h.4 h.5.sound h.7)
 
 pub log_among-requires-clause-few : goal.log_among-requires-clause-few
 log_among-requires-clause-few g c =
     let h = c.requires.here in
     few_new (cells_of c.args.self.now.engine.trees) c.args.planned.changes.items c.are_ordered.ensures (h.6.log.few
-    (no_index g.D.Disk.observable g.D.Disk.history g.D.Disk.sync_out g.D.Disk.read_out g.D.Disk.read_of h.0 c.args.self.now h.2 h.1 0 h.3 h.4 c.args.planned h.5 h.6 (nobody_blocks h.2 h.1 h.3 h.4 h.5.sound h.7)))
+    (no_index g.D.Disk.meaning h.0 c.args.self.now h.2 h.1 0 h.3 h.4 c.args.planned h.5 h.6 (nobody_blocks h.2 h.1 h.3 h.4 h.5.sound h.7)))
 
 pub log_among-requires-clause-there : goal.log_among-requires-clause-there
 log_among-requires-clause-there g c =
     let h = c.requires.here in
     let old = c.args.self.now in
     made_there old.engine.trees old.engine.kept (alone_in h.2) h.1 h.3 c.args.planned (h.5.at.valid h.5.valid).made h.6.log
-    (no_index g.D.Disk.observable g.D.Disk.history g.D.Disk.sync_out g.D.Disk.read_out g.D.Disk.read_of h.0 c.args.self.now h.2 h.1 0 h.3 h.4 c.args.planned h.5 h.6 (nobody_blocks h.2 h.1 h.3 h.4 h.5.sound h.7))
+    (no_index g.D.Disk.meaning h.0 c.args.self.now h.2 h.1 0 h.3 h.4 c.args.planned h.5 h.6 (nobody_blocks h.2 h.1 h.3 h.4 h.5.sound h.7))
 
 pub log_among-requires-clause-new : goal.log_among-requires-clause-new
 log_among-requires-clause-new g c = λ low.
@@ -43,7 +43,7 @@ pub log_among-requires-clause-entries : goal.log_among-requires-clause-entries
 log_among-requires-clause-entries g c =
     let h = c.requires.here in
     let old = c.args.self.now in
-    let few = below g.D.Disk.observable g.D.Disk.history g.D.Disk.sync_out g.D.Disk.read_out g.D.Disk.read_of h.0 old h.2 h.1 0 h.3 h.4 c.args.planned h.5 h.6 (nobody_blocks h.2 h.1 h.3 h.4 h.5.sound h.7) in
+    let few = below g.D.Disk.meaning h.0 old h.2 h.1 0 h.3 h.4 c.args.planned h.5 h.6 (nobody_blocks h.2 h.1 h.3 h.4 h.5.sound h.7) in
     h.6.log.entries (txn_of (old.engine.kept.last_txn + 1)) (omega (arith, few))
 
 pub returns-in-Ok : goal.returns-in-Ok
@@ -52,10 +52,10 @@ returns-in-Ok g c = record {
       let old = c.args.self.now in
       let n = c.log_among.new.self in
       let one = sym (none_owes st may.sound none) in
-      told_come g.D.Disk.observable g.D.Disk.history g.D.Disk.sync_out g.D.Disk.read_out g.D.Disk.read_of most old (with_both old n old.sessions) st session line call c.in-Ok.answer c.told.result.answer c.told.result.victims c.told.ensures.answer
+      told_come g.D.Disk.meaning most old (with_both old n old.sessions) st session line call c.in-Ok.answer c.told.result.answer c.told.result.victims c.told.ensures.answer
       c.told.ensures.victims
-      (comes_closed g.D.Disk.observable g.D.Disk.history g.D.Disk.sync_out g.D.Disk.read_out g.D.Disk.read_of most old st session line call t c.args.planned may log (nobody_blocks st session call t may.sound none) n old.sessions c.in-Ok.answer
-      (subst (λ (x : ℕ). LogsChanges g.D.Disk.observable g.D.Disk.history g.D.Disk.sync_out g.D.Disk.read_out g.D.Disk.read_of old.engine.trees.log n.trees.log (contents_of old.engine) (contents_of n) c.args.planned (limit_in old.engine.trees c.args.planned.changes.items x) (Ok c.in-Ok.answer)) one
+      (comes_closed g.D.Disk.meaning most old st session line call t c.args.planned may log (nobody_blocks st session call t may.sound none) n old.sessions c.in-Ok.answer
+      (subst (λ (x : ℕ). LogsChanges g.D.Disk.meaning old.engine.trees.log n.trees.log (contents_of old.engine) (contents_of n) c.args.planned (limit_in old.engine.trees c.args.planned.changes.items x) (Ok c.in-Ok.answer)) one
       c.in-Ok.ensures.logs)
       c.in-Ok.ensures.near
       (subst (λ (x : ℕ). LeavesCells old.engine.trees n.trees c.args.planned x (Ok c.in-Ok.answer)) one c.in-Ok.ensures.trees)
@@ -70,7 +70,7 @@ pub returns-in-Err-clause-comes : goal.returns-in-Err-clause-comes
 returns-in-Err-clause-comes g c most session line st call t may log none =
     let old = c.args.self.now in
     let n = c.log_among.new.self in
-    comes_not g.D.Disk.observable g.D.Disk.history g.D.Disk.sync_out g.D.Disk.read_out g.D.Disk.read_of most old st session line call t c.args.planned may log (nobody_blocks st session call t may.sound none) n old.sessions c.in-Err.error
-    (subst (λ (x : ℕ). LogsChanges g.D.Disk.observable g.D.Disk.history g.D.Disk.sync_out g.D.Disk.read_out g.D.Disk.read_of old.engine.trees.log n.trees.log (contents_of old.engine) (contents_of n) c.args.planned (limit_in old.engine.trees c.args.planned.changes.items x) (Err c.in-Err.error)) (sym (none_owes st may.sound none))
+    comes_not g.D.Disk.meaning most old st session line call t c.args.planned may log (nobody_blocks st session call t may.sound none) n old.sessions c.in-Err.error
+    (subst (λ (x : ℕ). LogsChanges g.D.Disk.meaning old.engine.trees.log n.trees.log (contents_of old.engine) (contents_of n) c.args.planned (limit_in old.engine.trees c.args.planned.changes.items x) (Err c.in-Err.error)) (sym (none_owes st may.sound none))
     c.in-Err.ensures.logs)
     c.in-Err.ensures.near c.in-Err.ensures.trees (c.log_among.ensures.indexes, c.log_among.ensures.names) may.at.sessions_at

@@ -24,14 +24,14 @@ write_all-requires-clause-trees g c =
     let can = c.requires.can in
     let old = c.args.self.now in
     subst (λ (l : List TreeChange). AllByRecursion (λ x. has_tree_of old.engine.trees x.db ≡ true) l) (sym (c.as_slice.ensures.value ∙ can.4))
-    (trees_there g.D.Disk.observable g.D.Disk.history g.D.Disk.sync_out g.D.Disk.read_out g.D.Disk.read_of g.D.Disk.faults old can.0 c.args.txn can.1 can.2 can.3)
+    (trees_there g.D.Disk.meaning old can.0 c.args.txn can.1 can.2 can.3)
 
 pub write_all-requires-clause-free : goal.write_all-requires-clause-free
 write_all-requires-clause-free g c =
     let can = c.requires.can in
     let old = c.args.self.now in
     subst (λ (l : List TreeChange). AllByRecursion (λ x. IsFreeFor c.args.txn (write_in (value_at x.name (cells_of old.engine.trees x.db)))) l) (sym (c.as_slice.ensures.value ∙ can.4))
-    (free_there g.D.Disk.observable g.D.Disk.history g.D.Disk.sync_out g.D.Disk.read_out g.D.Disk.read_of g.D.Disk.faults old can.0 c.args.txn can.1 can.2 can.3)
+    (free_there g.D.Disk.meaning old can.0 c.args.txn can.1 can.2 can.3)
 
 pub write_all-requires-clause-new : goal.write_all-requires-clause-new
 write_all-requires-clause-new g c =
@@ -49,16 +49,16 @@ returns-in-Ok-clause-writes g c st cs a needs valid may active last_db planned n
     let old = c.args.self.now in
     let new = c.write_all.new.self in
     let own = with_own c.args.txn.0 (with_numbers cs) st in
-    let owed = c.in-Ok.ensures (record own { fault = None; locks = state_of old.sessions.locks.locks }) (stands_taken g.D.Disk.observable g.D.Disk.history g.D.Disk.sync_out g.D.Disk.read_out g.D.Disk.read_of old.sessions a needs own taken) in
-    subst (λ (n : ℕ). WritesOwn g.D.Disk.observable g.D.Disk.history g.D.Disk.sync_out g.D.Disk.read_out g.D.Disk.read_of old new st c.args.txn.0 cs n c.write_all.result) owed
-    (writes_own g.D.Disk.observable g.D.Disk.history g.D.Disk.sync_out g.D.Disk.read_out g.D.Disk.read_of g.D.Disk.faults old new c.args.txn st cs c.in-Ok.owed valid may active last_db c.write_all.result owed
-    (subst (λ (l : List TreeChange). WritesAll g.D.Disk.observable g.D.Disk.history g.D.Disk.sync_out g.D.Disk.read_out g.D.Disk.read_of g.D.Disk.faults old new c.args.txn l (own_names (with_numbers cs)) c.in-Ok.owed c.write_all.result) (c.as_slice.ensures.value ∙ planned)
-    (subst (λ (l : List TreeName). WritesAll g.D.Disk.observable g.D.Disk.history g.D.Disk.sync_out g.D.Disk.read_out g.D.Disk.read_of g.D.Disk.faults old new c.args.txn c.as_slice.result.now l c.in-Ok.owed c.write_all.result) names
+    let owed = c.in-Ok.ensures (record own { fault = None; locks = state_of old.sessions.locks.locks }) (stands_taken g.D.Disk.meaning old.sessions a needs own taken) in
+    subst (λ (n : ℕ). WritesOwn g.D.Disk.meaning old new st c.args.txn.0 cs n c.write_all.result) owed
+    (writes_own g.D.Disk.meaning old new c.args.txn st cs c.in-Ok.owed valid may active last_db c.write_all.result owed
+    (subst (λ (l : List TreeChange). WritesAll g.D.Disk.meaning old new c.args.txn l (own_names (with_numbers cs)) c.in-Ok.owed c.write_all.result) (c.as_slice.ensures.value ∙ planned)
+    (subst (λ (l : List TreeName). WritesAll g.D.Disk.meaning old new c.args.txn c.as_slice.result.now l c.in-Ok.owed c.write_all.result) names
     c.write_all.ensures.writes)))
 
 pub returns-in-Ok-clause-rose : goal.returns-in-Ok-clause-rose
 returns-in-Ok-clause-rose g c =
-    rose_by g.D.Disk.observable g.D.Disk.history g.D.Disk.sync_out g.D.Disk.read_out g.D.Disk.read_of g.D.Disk.faults c.args.self.now c.write_all.new.self c.args.txn c.as_slice.result.now c.args.copied.names.items c.in-Ok.owed c.write_all.result
+    rose_by g.D.Disk.meaning c.args.self.now c.write_all.new.self c.args.txn c.as_slice.result.now c.args.copied.names.items c.in-Ok.owed c.write_all.result
     c.requires.can.2.works c.write_all.ensures.writes
 
 pub returns-clause-writes : goal.returns-clause-writes

@@ -17,8 +17,8 @@ pub plan-requires-clause-can : goal.plan-requires-clause-can
 plan-requires-clause-can g c =
     let e = c.args.self.now in
     let at = c.requires.here.2 in
-    can_plan c.requires.here.0 g.D.Disk.observable (now (g.D.Disk.history (disk_of e.engine.trees.log))) e.engine.trees.log (contents_of e.engine) (alone_of c.requires.here.1)
-    (alone_at c.requires.here.0 g.D.Disk.observable g.D.Disk.history e c.requires.here.1 at) (sym at.fault ∙ c.requires.valid)
+    can_plan c.requires.here.0 g.D.Disk.meaning.observable (now (g.D.Disk.meaning.history (disk_of e.engine.trees.log))) e.engine.trees.log (contents_of e.engine) (alone_of c.requires.here.1)
+    (alone_at c.requires.here.0 g.D.Disk.meaning e c.requires.here.1 at) (sym at.fault ∙ c.requires.valid)
 
 pub unreachable-requires-in-Fills : goal.unreachable-requires-in-Fills
 unreachable-requires-in-Fills g c =

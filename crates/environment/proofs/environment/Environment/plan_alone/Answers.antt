@@ -15,12 +15,12 @@ plan_outcome-requires g c =
         begun st h.1,
         auto_active st h.1,
         h.3,
-        valid_there h.0 g.D.Disk.observable g.D.Disk.history e st h.1 c.args.call.now c.args.db.now c.args.found h.3 may on,
-        knows_there h.0 g.D.Disk.observable g.D.Disk.history e st h.1 c.args.call.now c.args.db.now c.args.found h.3 may on,
-        sound_there h.0 g.D.Disk.observable g.D.Disk.history e st h.1 c.args.call.now c.args.db.now c.args.found h.3 may on,
-        on_there h.0 g.D.Disk.observable g.D.Disk.history e st h.1 c.args.call.now c.args.db.now c.args.found h.3 may on,
+        valid_there h.0 g.D.Disk.meaning e st h.1 c.args.call.now c.args.db.now c.args.found h.3 may on,
+        knows_there h.0 g.D.Disk.meaning e st h.1 c.args.call.now c.args.db.now c.args.found h.3 may on,
+        sound_there h.0 g.D.Disk.meaning e st h.1 c.args.call.now c.args.db.now c.args.found h.3 may on,
+        on_there h.0 g.D.Disk.meaning e st h.1 c.args.call.now c.args.db.now c.args.found h.3 may on,
         may.stands,
-        same_txn h.0 g.D.Disk.observable g.D.Disk.history e st h.1 c.args.call.now c.args.db.now c.args.found h.3 may on,
+        same_txn h.0 g.D.Disk.meaning e st h.1 c.args.call.now c.args.db.now c.args.found h.3 may on,
         refl,
       );
     }
@@ -32,10 +32,10 @@ returns g c = record {
       so_planned _ _ c.plan_outcome.result
       (λ p is.
       is (begun st session) (auto_active st session) t
-      (valid_there most g.D.Disk.observable g.D.Disk.history e st session c.args.call.now c.args.db.now c.args.found t may on)
-      (knows_there most g.D.Disk.observable g.D.Disk.history e st session c.args.call.now c.args.db.now c.args.found t may on)
-      (sound_there most g.D.Disk.observable g.D.Disk.history e st session c.args.call.now c.args.db.now c.args.found t may on)
-      (on_there most g.D.Disk.observable g.D.Disk.history e st session c.args.call.now c.args.db.now c.args.found t may on) may.stands
-      (same_txn most g.D.Disk.observable g.D.Disk.history e st session c.args.call.now c.args.db.now c.args.found t may on) refl) c.plan_outcome.ensures;
-  may = λ most session st t may on. may_be_made most g.D.Disk.observable g.D.Disk.history c.args.self.now st session c.args.call.now c.args.db.now c.args.found t may on c.are_ordered.ensures;
+      (valid_there most g.D.Disk.meaning e st session c.args.call.now c.args.db.now c.args.found t may on)
+      (knows_there most g.D.Disk.meaning e st session c.args.call.now c.args.db.now c.args.found t may on)
+      (sound_there most g.D.Disk.meaning e st session c.args.call.now c.args.db.now c.args.found t may on)
+      (on_there most g.D.Disk.meaning e st session c.args.call.now c.args.db.now c.args.found t may on) may.stands
+      (same_txn most g.D.Disk.meaning e st session c.args.call.now c.args.db.now c.args.found t may on) refl) c.plan_outcome.ensures;
+  may = λ most session st t may on. may_be_made most g.D.Disk.meaning c.args.self.now st session c.args.call.now c.args.db.now c.args.found t may on c.are_ordered.ensures;
 }

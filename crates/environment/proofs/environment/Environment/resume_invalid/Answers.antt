@@ -3,4 +3,4 @@ use Rattle.environment.proofs.environment.Environment.resume_invalid.Goals as go
 
 pub returns-clause-resumes : goal.returns-clause-resumes
 returns-clause-resumes g c =
-    resumes_invalid g.D.Disk.observable g.D.Disk.history g.D.Disk.sync_out g.D.Disk.read_out g.D.Disk.read_of c.args.self.now c.forget-wait.new.self c.args.session c.args.first c.requires.fault c.forget-wait.ensures.stands c.told.result c.told.ensures.answer c.told.ensures.victims
+    resumes_invalid g.D.Disk.meaning c.args.self.now c.forget-wait.new.self c.args.session c.args.first c.requires.fault c.forget-wait.ensures.stands c.told.result c.told.ensures.answer c.told.ensures.victims

@@ -10,17 +10,17 @@ again-requires-clause-here g c =
     let st = c.requires.here.1 in
     let here = c.requires.here.3 in
     let m = c.requires.here.4 in
-    resumes_of g.D.Disk.observable g.D.Disk.history g.D.Disk.sync_out g.D.Disk.read_out g.D.Disk.read_of c.args.self.now c.args.self.now c.forget.new.self c.args.session c.requires.valid c.forget.ensures.stands c.requires.here.0 st c.requires.here.2 here m c.in-Some.wait
+    resumes_of g.D.Disk.meaning c.args.self.now c.args.self.now c.forget.new.self c.args.session c.requires.valid c.forget.ensures.stands c.requires.here.0 st c.requires.here.2 here m c.in-Some.wait
     (sym c.in-Some.is ∙ c.forget.ensures.wait st here.at.sessions_at)
 
 pub returns-clause-resumes : goal.returns-clause-resumes
 returns-clause-resumes g c =
-    resumes_call g.D.Disk.observable g.D.Disk.history g.D.Disk.sync_out g.D.Disk.read_out g.D.Disk.read_of c.args.self.now c.again.new.self c.forget.new.self c.args.session c.requires.valid c.forget.ensures.stands c.again.result
+    resumes_call g.D.Disk.meaning c.args.self.now c.again.new.self c.forget.new.self c.args.session c.requires.valid c.forget.ensures.stands c.again.result
     (λ most st w at mid may.
     for_wait
-    (λ x. StandsAt most g.D.Disk.observable g.D.Disk.history (mid_ c.args.self.now c.forget.new.self) (resumed st x) → MayGoOn st c.args.session x →
-    GoesAgain g.D.Disk.observable g.D.Disk.history g.D.Disk.sync_out g.D.Disk.read_out g.D.Disk.read_of most (mid_ c.args.self.now c.forget.new.self) c.again.new.self st x c.args.session c.again.result)
+    (λ x. StandsAt most g.D.Disk.meaning (mid_ c.args.self.now c.forget.new.self) (resumed st x) → MayGoOn st c.args.session x →
+    GoesAgain g.D.Disk.meaning most (mid_ c.args.self.now c.forget.new.self) c.again.new.self st x c.args.session c.again.result)
     c.in-Some.wait w (sym c.in-Some.is ∙ c.forget.ensures.wait st at ∙ may.its) (λ stands going. c.again.ensures.again most st stands going) mid may)
-    (near_of g.D.Disk.observable g.D.Disk.history g.D.Disk.sync_out g.D.Disk.read_out g.D.Disk.read_of c.args.self.now c.again.new.self c.forget.new.self c.args.session c.requires.valid c.forget.ensures.stands c.requires.here.0
+    (near_of g.D.Disk.meaning c.args.self.now c.again.new.self c.forget.new.self c.args.session c.requires.valid c.forget.ensures.stands c.requires.here.0
     c.requires.here.1 c.requires.here.2 c.requires.here.3 c.requires.here.4)
     c.again.ensures.near

@@ -31,9 +31,9 @@ returns-in-Answered-clause-comes g c = λ most session line st call on may plan 
     let last : ℕ = c.args.self.now.engine.kept.last_txn + 1 in
     let planned = subst (λ (p : Planned). IsPlannedAuto c.args.self.now.engine st session call on p) c.in-Answered.is plan in
     let calm : IsCalm c.in-Answered.answer = subst (λ (o : Outcome). IsCalm o.answer) planned (outcome_calm (alone_in st) session call (auto_call call may.db may.records)) in
-    told_so (λ (a : Answer) (vs : List Victim). HasCome g.D.Disk.observable g.D.Disk.history g.D.Disk.sync_out g.D.Disk.read_out g.D.Disk.read_of most e (with_begun e last e.sessions) st session line call a vs)
+    told_so (λ (a : Answer) (vs : List Victim). HasCome g.D.Disk.meaning most e (with_begun e last e.sessions) st session line call a vs)
     c.told.result c.in-Answered.answer c.told.ensures.answer c.told.ensures.victims
-    (answered_comes g.D.Disk.observable g.D.Disk.history g.D.Disk.sync_out g.D.Disk.read_out g.D.Disk.read_of most e st session call on may e.sessions last line c.in-Answered.answer
+    (answered_comes g.D.Disk.meaning most e st session call on may e.sessions last line c.in-Answered.answer
     (ap (λ (n : ℕ). n + 1) may.at.last_txn ∙ sym (next_is st.last_txn may.left)) (nobody_blocks st session call on may.sound none) calm planned
     (closed_so e.sessions st session (needs_in (begun st session) (auto_active st session) call on) may.sound none may.at.sessions_at))
 

@@ -15,12 +15,12 @@ pub less-records-requires : goal.less-records-requires
 less-records-requires g c =
     let r = c.requires.written in
     subst (λ (n : ℕ). n ≤ c.args.all) (sym c.had_of.ensures)
-    (had_settles g.D.Disk.observable g.D.Disk.history g.D.Disk.sync_out g.D.Disk.read_out g.D.Disk.read_of g.D.Disk.faults r.1 r.0 c.args.self.now r.2 c.args.session c.args.txn c.args.level r.3 r.4 r.5 c.args.all r.6)
+    (had_settles g.D.Disk.meaning r.1 r.0 c.args.self.now r.2 c.args.session c.args.txn c.args.level r.3 r.4 r.5 c.args.all r.6)
 
 pub commit_own-requires-clause-room : goal.commit_own-requires-clause-room
 commit_own-requires-clause-room g c =
     let r = c.requires.written in
-    room_settles g.D.Disk.observable g.D.Disk.history g.D.Disk.sync_out g.D.Disk.read_out g.D.Disk.read_of g.D.Disk.faults r.1 r.0 c.args.self.now r.2 c.args.session c.args.txn c.args.level r.3 r.4 r.5 c.args.all r.6
+    room_settles g.D.Disk.meaning r.1 r.0 c.args.self.now r.2 c.args.session c.args.txn c.args.level r.3 r.4 r.5 c.args.all r.6
 
 pub commit_own-requires-clause-own : goal.commit_own-requires-clause-own
 commit_own-requires-clause-own g c =
@@ -31,9 +31,9 @@ commit_own-requires-clause-own g c =
 
 pub returns-in-Ok-clause-comes : goal.returns-in-Ok-clause-comes
 returns-in-Ok-clause-comes g c before most line st a asked t w moves =
-    let taken = taken_again g.D.Disk.observable g.D.Disk.history g.D.Disk.sync_out g.D.Disk.read_out g.D.Disk.read_of g.D.Disk.faults most before c.args.self.now st c.args.session c.args.txn c.args.level a asked t c.args.all Done w
+    let taken = taken_again g.D.Disk.meaning most before c.args.self.now st c.args.session c.args.txn c.args.level a asked t c.args.all Done w
     c.commit_own.new.self.sessions c.commit_own.ensures.sessions in
-    settled_again g.D.Disk.observable g.D.Disk.history g.D.Disk.sync_out g.D.Disk.read_out g.D.Disk.read_of g.D.Disk.faults most before c.args.self.now st c.args.session c.args.txn c.args.level a asked t c.args.all c.commit_own.new.self
+    settled_again g.D.Disk.meaning most before c.args.self.now st c.args.session c.args.txn c.args.level a asked t c.args.all c.commit_own.new.self
     c.move_by.new.sessions c.end.new.self c.less-records.result line c.told.result w c.in-Ok.ensures.done
     (c.move_by.ensures (with_locks a (all_got a.txn (needs_in st a asked t) st.locks.at) (with_own a.txn.0 w.pushed.more st)) a asked (outcome_of st a asked t).place (its_moves c.args.session a st.actives asked (outcome_of st a asked t).place c.args.moves w.up.its moves)
     (c.answered.ensures.stands a (needs_in st a asked t) (with_own a.txn.0 w.pushed.more st) w.its_txn w.its_level taken))
@@ -42,7 +42,7 @@ returns-in-Ok-clause-comes g c before most line st a asked t w moves =
 
 pub returns-in-Err-clause-comes : goal.returns-in-Err-clause-comes
 returns-in-Err-clause-comes g c before most line st a asked t w moves =
-    let pushed = pushed_again g.D.Disk.observable g.D.Disk.history g.D.Disk.sync_out g.D.Disk.read_out g.D.Disk.read_of g.D.Disk.faults most before c.args.self.now st c.args.session c.args.txn c.args.level a asked t c.args.all Done w
+    let pushed = pushed_again g.D.Disk.meaning most before c.args.self.now st c.args.session c.args.txn c.args.level a asked t c.args.all Done w
     c.commit_own.new.self.sessions c.commit_own.ensures.sessions in
-    unsettled_again g.D.Disk.observable g.D.Disk.history g.D.Disk.sync_out g.D.Disk.read_out g.D.Disk.read_of g.D.Disk.faults most before c.args.self.now st c.args.session c.args.txn c.args.level a asked t c.args.all c.commit_own.new.self
+    unsettled_again g.D.Disk.meaning most before c.args.self.now st c.args.session c.args.txn c.args.level a asked t c.args.all c.commit_own.new.self
     c.undo_own.new.sessions line c.told-in-Err.result w c.in-Err.ensures.failed (c.undo_own.ensures a (needs_in st a asked t) w.pushed.more st w.its_txn pushed) c.told-in-Err.ensures.answer c.told-in-Err.ensures.victims

@@ -13,7 +13,7 @@ write_changes-requires-clause-few g c = c.in-Some.ensures.few
 pub returns-in-Done-clause-writes : goal.returns-in-Done-clause-writes
 returns-in-Done-clause-writes g c =
     let old = c.args.self.now in
-    let w = subst (λ (x : TreesWrote). WritesTrees g.D.Disk.observable g.D.Disk.history g.D.Disk.sync_out g.D.Disk.read_out g.D.Disk.read_of g.D.Disk.faults old.engine.trees c.write_changes.new.trees c.args.txn c.args.changes.now c.args.owed (Ok x)) c.in-Done.is c.in_ok-wrote.ensures.writes in
+    let w = subst (λ (x : TreesWrote). WritesTrees g.D.Disk.meaning old.engine.trees c.write_changes.new.trees c.args.txn c.args.changes.now c.args.owed (Ok x)) c.in-Done.is c.in_ok-wrote.ensures.writes in
     record {
       writes = w.0;
       was_rising = c.are_ordered.ensures;
@@ -35,5 +35,5 @@ returns-in-Done-clause-writes g c =
 pub returns-in-Full-clause-writes : goal.returns-in-Full-clause-writes
 returns-in-Full-clause-writes g c =
     let old = c.args.self.now in
-    let w = subst (λ (x : TreesWrote). WritesTrees g.D.Disk.observable g.D.Disk.history g.D.Disk.sync_out g.D.Disk.read_out g.D.Disk.read_of g.D.Disk.faults old.engine.trees c.write_changes.new.trees c.args.txn c.args.changes.now c.args.owed (Ok x)) c.in-Full.is c.in_ok-wrote.ensures.writes in
+    let w = subst (λ (x : TreesWrote). WritesTrees g.D.Disk.meaning old.engine.trees c.write_changes.new.trees c.args.txn c.args.changes.now c.args.owed (Ok x)) c.in-Full.is c.in_ok-wrote.ensures.writes in
     (record { trees = w.0; kept = refl; written = record { names = c.make_room_at.ensures.names; had = c.make_room_at.ensures.had; firsts = c.make_room_at.ensures.firsts } }, w.1)

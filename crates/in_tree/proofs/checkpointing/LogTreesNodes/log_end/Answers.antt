@@ -7,7 +7,7 @@ pub returns-in-Ok-log_plain-clause-grew : goal.returns-in-Ok-log_plain-clause-gr
 returns-in-Ok-log_plain-clause-grew g c = (
   c.in-Ok.made.1,
   end_names c.args.self.now c.args.end.now c.args.bound c.in-Ok.made.0 c.requires.0 c.in-Ok.made.1 c.requires.1 c.in-Ok.ensures,
-  plain_grows g.D.Disk.observable g.D.Disk.history g.D.Disk.sync_out g.D.Disk.read_out g.D.Disk.read_of g.D.Disk.faults c.args.self.now.log c.log_plain.new.self.log c.in-Ok.made.1 _ c.args.self.now.trees c.log_plain.new.self.trees
+  plain_grows g.D.Disk.meaning c.args.self.now.log c.log_plain.new.self.log c.in-Ok.made.1 _ c.args.self.now.trees c.log_plain.new.self.trees
       c.in-Ok-log_plain.ensures.got (ap is_start c.in-Ok.ensures.entry_is) c.log_plain.ensures.trees,
 )
 

@@ -15,12 +15,12 @@ returns-then-has_failed-clause-tried g c = λ is. (
   [],
   tt,
   (Bin 0 0 [] ∷ [], refl),
-  tried_none g.D.Disk.observable g.D.Disk.history g.D.Disk.sync_out g.D.Disk.read_out g.D.Disk.read_of g.D.Disk.faults c.args.self.now.log (sym c.has_failed.ensures ∙ c.if-has_failed.true),
+  tried_none g.D.Disk.meaning c.args.self.now.log (sym c.has_failed.ensures ∙ c.if-has_failed.true),
 )
 
 pub returns-in-Ok-take_place-clause-grew : goal.returns-in-Ok-take_place-clause-grew
 returns-in-Ok-take_place-clause-grew g c = ok_then c.log_alone.result (λ logs.
-    alone_grows g.D.Disk.observable g.D.Disk.history g.D.Disk.sync_out g.D.Disk.read_out g.D.Disk.read_of g.D.Disk.faults c.args.self.now.log c.take_place.new.self.log c.log_alone.new.log c.args.place.now _ c.args.self.now.trees c.take_place.new.self.trees c.log_alone.new.trees
+    alone_grows g.D.Disk.meaning c.args.self.now.log c.take_place.new.self.log c.log_alone.new.log c.args.place.now _ c.args.self.now.trees c.take_place.new.self.trees c.log_alone.new.trees
     c.take_place.ensures.log c.in-Ok.ensures.image c.take_place.ensures.trees logs) c.log_alone.ensures.grew
 
 pub returns-in-Ok-take_place-clause-noted : goal.returns-in-Ok-take_place-clause-noted
@@ -28,4 +28,4 @@ returns-in-Ok-take_place-clause-noted g c = on_ok c.log_alone.result _ (λ p. c.
 
 pub returns-in-Ok-take_place-clause-tried : goal.returns-in-Ok-take_place-clause-tried
 returns-in-Ok-take_place-clause-tried g c = ends_by c.log_alone.result Fault
-    (alone_tried g.D.Disk.observable g.D.Disk.history g.D.Disk.sync_out g.D.Disk.read_out g.D.Disk.read_of g.D.Disk.faults c.args.self.now.log c.take_place.new.self.log c.log_alone.new.log c.take_place.ensures.log) c.log_alone.ensures.tried
+    (alone_tried g.D.Disk.meaning c.args.self.now.log c.take_place.new.self.log c.log_alone.new.log c.take_place.ensures.log) c.log_alone.ensures.tried

@@ -34,11 +34,11 @@ returns-in-Ok-log_plain-clause-noted g c = λ p.
 
 pub returns-in-Ok-log_plain-clause-grew : goal.returns-in-Ok-log_plain-clause-grew
 returns-in-Ok-log_plain-clause-grew g c =
-    noted_behind g.D.Disk.observable g.D.Disk.history g.D.Disk.sync_out g.D.Disk.read_out g.D.Disk.read_of g.D.Disk.faults c.args.self.now c.log_plain.new.self c.note_all.new.self (CkptStart c.args.number) c.in-Ok-log_plain.at
+    noted_behind g.D.Disk.meaning c.args.self.now c.log_plain.new.self c.note_all.new.self (CkptStart c.args.number) c.in-Ok-log_plain.at
     c.in-Ok-log_plain.ensures.got c.log_plain.ensures.trees c.note_all.ensures.noted c.note_all.ensures.last_node c.note_all.ensures.log
 
 pub returns-in-Ok-log_plain-clause-left : goal.returns-in-Ok-log_plain-clause-left
 returns-in-Ok-log_plain-clause-left g c = subst (λ l. HasRoomFor l (commit_sizes c.args.owed)) (sym c.note_all.ensures.log) c.in-Ok-log_plain.ensures.left
 
 pub returns-in_default-clause-same : goal.returns-in_default-clause-same
-returns-in_default-clause-same g c = λ undone. grew_none g.D.Disk.observable g.D.Disk.history g.D.Disk.sync_out g.D.Disk.read_out g.D.Disk.read_of g.D.Disk.faults c.args.self.now
+returns-in_default-clause-same g c = λ undone. grew_none g.D.Disk.meaning c.args.self.now

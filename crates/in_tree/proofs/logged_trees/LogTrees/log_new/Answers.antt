@@ -9,7 +9,7 @@ use Rattle.in_tree.proofs.Forests.{forest_rises}
 use Rattle.in_tree.proofs.logged_trees.LogTrees.log_new.Goals as goal
 
 pub returns-in-Err-clause-tried : goal.returns-in-Err-clause-tried
-returns-in-Err-clause-tried g c = first_tried g.D.Disk.observable g.D.Disk.history g.D.Disk.sync_out g.D.Disk.read_out g.D.Disk.read_of g.D.Disk.faults c.args.txn c.args.change.now c.args.rows.now c.args.self.now.log c.write_one.new.log c.in-Err.ensures.tried
+returns-in-Err-clause-tried g c = first_tried g.D.Disk.meaning c.args.txn c.args.change.now c.args.rows.now c.args.self.now.log c.write_one.new.log c.in-Err.ensures.tried
 
 pub log_rows-requires-clause-room : goal.log_rows-requires-clause-room
 log_rows-requires-clause-room g c =
@@ -22,7 +22,7 @@ log_rows-requires-clause-room g c =
 
 pub returns-in-Err-log_rows-clause-tried : goal.returns-in-Err-log_rows-clause-tried
 returns-in-Err-log_rows-clause-tried g c =
-    rest_tried g.D.Disk.observable g.D.Disk.history g.D.Disk.sync_out g.D.Disk.read_out g.D.Disk.read_of g.D.Disk.faults c.args.txn c.args.change.now c.args.rows.now c.args.room.images.items c.as_slice.result.now c.args.self.now.log c.write_one.new.log c.log_rows.new.log c.args.self.now.trees.forest
+    rest_tried g.D.Disk.meaning c.args.txn c.args.change.now c.args.rows.now c.args.room.images.items c.as_slice.result.now c.args.self.now.log c.write_one.new.log c.log_rows.new.log c.args.self.now.trees.forest
     c.write_one.new.trees (ap (λ (l : List (Vec Entry Global)). length l) c.as_slice.ensures.value ∙ c.requires.paired) (subst AreAllLoggable (sym c.as_slice.ensures.value) c.requires.all_loggable) c.in-Ok.ensures.grew.0 c.in-Err-log_rows.ensures.tried
 
 pub invariant_of-self-2 : goal.invariant_of-self-2
@@ -41,7 +41,7 @@ returns-clause-logged g c = record {
   others = c.in-Ok.ensures.others;
   trees = c.in-Ok.ensures.trees;
   waits = c.in-Ok.ensures.waits;
-  rest = subst (λ (images : List (Vec Entry Global)). GrewFitting g.D.Disk.observable g.D.Disk.history g.D.Disk.sync_out g.D.Disk.read_out g.D.Disk.read_of g.D.Disk.faults c.write_one.new.log c.log_rows.new.log (entries_with c.args.txn c.args.rows.now images)) c.as_slice.ensures.value c.in-Ok-log_rows.ensures.grew;
+  rest = subst (λ (images : List (Vec Entry Global)). GrewFitting g.D.Disk.meaning c.write_one.new.log c.log_rows.new.log (entries_with c.args.txn c.args.rows.now images)) c.as_slice.ensures.value c.in-Ok-log_rows.ensures.grew;
   has = c.replace.ensures;
   last = refl;
 }

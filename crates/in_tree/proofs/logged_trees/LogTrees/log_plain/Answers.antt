@@ -7,7 +7,7 @@ pub returns-then-has_failed-clause-tried : goal.returns-then-has_failed-clause-t
 returns-then-has_failed-clause-tried g c = λ is. (
   [],
   (c.args.entry.now ∷ [], refl),
-  tried_none g.D.Disk.observable g.D.Disk.history g.D.Disk.sync_out g.D.Disk.read_out g.D.Disk.read_of g.D.Disk.faults c.args.self.now.log (sym c.has_failed.ensures ∙ c.if-has_failed.true),
+  tried_none g.D.Disk.meaning c.args.self.now.log (sym c.has_failed.ensures ∙ c.if-has_failed.true),
 )
 
 pub returns-in-Ok-append_plain-clause-got : goal.returns-in-Ok-append_plain-clause-got
@@ -18,6 +18,6 @@ pub returns-in-Err-append_plain-clause-tried : goal.returns-in-Err-append_plain-
 returns-in-Err-append_plain-clause-tried g c = λ is. (
   c.args.entry.now ∷ [],
   ([], refl),
-  fitting_tried g.D.Disk.observable g.D.Disk.history g.D.Disk.sync_out g.D.Disk.read_out g.D.Disk.read_of g.D.Disk.faults c.args.self.now.log c.take_place.new.self.log c.append_plain.new.log [] (c.args.entry.now ∷ [])
-      (fitting_unchanged g.D.Disk.observable g.D.Disk.history g.D.Disk.sync_out g.D.Disk.read_out g.D.Disk.read_of g.D.Disk.faults c.args.self.now.log c.take_place.new.self.log c.take_place.ensures.log) c.in-Err-append_plain.ensures.tried,
+  fitting_tried g.D.Disk.meaning c.args.self.now.log c.take_place.new.self.log c.append_plain.new.log [] (c.args.entry.now ∷ [])
+      (fitting_unchanged g.D.Disk.meaning c.args.self.now.log c.take_place.new.self.log c.take_place.ensures.log) c.in-Err-append_plain.ensures.tried,
 )

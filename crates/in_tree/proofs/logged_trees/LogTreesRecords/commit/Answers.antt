@@ -10,4 +10,4 @@ returns-in_err-at-clause-tried g c =
     (Commit c.args.txn ∷ [], ([], refl), c.in_err-at.ensures.tried)
 
 pub returns-clause-grew : goal.returns-clause-grew
-returns-clause-grew g c = commit_grows g.D.Disk.observable g.D.Disk.history g.D.Disk.sync_out g.D.Disk.read_out g.D.Disk.read_of g.D.Disk.faults c.args.txn c.in_ok-at.at c.args.names.now c.args.self.now.log c.log_commit.new.log c.args.self.now.trees.last_node c.args.self.now.trees.forest c.commit_each.new.trees c.in_ok-at.ensures.grew c.in_ok-at.ensures.at c.requires.own c.commit_each.ensures.steps
+returns-clause-grew g c = commit_grows g.D.Disk.meaning c.args.txn c.in_ok-at.at c.args.names.now c.args.self.now.log c.log_commit.new.log c.args.self.now.trees.last_node c.args.self.now.trees.forest c.commit_each.new.trees c.in_ok-at.ensures.grew c.in_ok-at.ensures.at c.requires.own c.commit_each.ensures.steps

@@ -9,4 +9,4 @@ invariant_of-self g c =
     ((trees.numbers, (trees.least, (trees.most, tt))), (dropped_rise (cells_seen trees.forest) (cells_seen c.drop_db.new.trees) c.args.db c.drop_db.ensures.cells c.args.self.now.ordered, tt))
 
 pub returns-clause-grew : goal.returns-clause-grew
-returns-clause-grew g c = drop_grows g.D.Disk.observable g.D.Disk.history g.D.Disk.sync_out g.D.Disk.read_out g.D.Disk.read_of g.D.Disk.faults c.args.db c.args.self.now.log c.args.self.now.trees.last_node c.args.self.now.trees.forest c.drop_db.new.trees c.drop_db.ensures.gone
+returns-clause-grew g c = drop_grows g.D.Disk.meaning c.args.db c.args.self.now.log c.args.self.now.trees.last_node c.args.self.now.trees.forest c.drop_db.new.trees c.drop_db.ensures.gone

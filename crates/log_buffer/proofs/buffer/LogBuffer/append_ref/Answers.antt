@@ -10,22 +10,22 @@ use Rattle.log_buffer.proofs.FaultCauses.{cause_done, cause_memory, cause_refuse
 use Rattle.log_buffer.proofs.buffer.LogBuffer.append_ref.Goals as goal
 
 pub returns-clause-grew : goal.returns-clause-grew
-returns-clause-grew g c = grew_then _ _ _ _ _ _ _ _ (entry_by c.args.entry.now ∷ []) [] c.in_ok-put.ensures.grew c.in_ok-write_long.ensures.grew
+returns-clause-grew g c = grew_then g.D.Disk.meaning _ _ _ (entry_by c.args.entry.now ∷ []) [] c.in_ok-put.ensures.grew c.in_ok-write_long.ensures.grew
 
 pub returns-in_err-write_long-clause-tried : goal.returns-in_err-write_long-clause-tried
-returns-in_err-write_long-clause-tried g c = λ fault. tried_then _ _ _ _ _ _ _ _ (entry_by c.args.entry.now ∷ []) [] c.in_ok-put.ensures.grew c.in_err-write_long.ensures.tried
+returns-in_err-write_long-clause-tried g c = λ fault. tried_then g.D.Disk.meaning _ _ _ (entry_by c.args.entry.now ∷ []) [] c.in_ok-put.ensures.grew c.in_err-write_long.ensures.tried
 
 pub returns-in_err-put-clause-tried : goal.returns-in_err-put-clause-tried
 returns-in_err-put-clause-tried g c = λ fault. absurd (let memory = err_is _ _ c.from_residual-in_err-put.ensures.1 in cc)
 
 pub returns-in_err-pos-clause-tried : goal.returns-in_err-pos-clause-tried
 returns-in_err-pos-clause-tried g c =
-    let faults = g.D.Disk.faults c.args.self.now.disk in
-    λ fault. tried_failed _ _ _ _ _ c.args.self.now (entry_by c.args.entry.now ∷ []) ((cause_refused _ faults c.next_pos.result _ _ c.in_err-pos.was (err_is _ _ c.from_residual.ensures.1) c.next_pos.ensures.fault).failed.1 fault)
+    let faults = g.D.Disk.meaning.faults c.args.self.now.disk in
+    λ fault. tried_failed g.D.Disk.meaning c.args.self.now (entry_by c.args.entry.now ∷ []) ((cause_refused _ faults c.next_pos.result _ _ c.in_err-pos.was (err_is _ _ c.from_residual.ensures.1) c.next_pos.ensures.fault).failed.1 fault)
 
 pub returns-clause-cause : goal.returns-clause-cause
 returns-clause-cause g c =
-    let same = ap (λ (d : g.row.D.Denot). g.D.Disk.faults d) c.put.ensures.disk in
+    let same = ap (λ (d : g.row.D.Denot). g.D.Disk.meaning.faults d) c.put.ensures.disk in
     cause_done _ _ _ _ _ _ c.write_long.result _ _ c.in_ok-write_long.was c.put.ensures.failed same (c.write_long.ensures.cause (c.put.ensures.failed ∙ c.in_ok-pos.ensures.works))
 
 pub returns-in_err-pos-clause-cause : goal.returns-in_err-pos-clause-cause
@@ -34,12 +34,12 @@ returns-in_err-pos-clause-cause g c = cause_refused _ _ c.next_pos.result _ _ c.
 pub returns-in_err-put-clause-cause : goal.returns-in_err-put-clause-cause
 returns-in_err-put-clause-cause g c =
     let works = c.in_ok-pos.ensures.works in
-    let same = ap (λ (d : g.row.D.Denot). g.D.Disk.faults d) c.put.ensures.disk in
+    let same = ap (λ (d : g.row.D.Denot). g.D.Disk.meaning.faults d) c.put.ensures.disk in
     cause_memory _ _ _ _ _ works (c.put.ensures.failed ∙ works) (le_of_eq (sym same)) (err_is _ _ c.from_residual-in_err-put.ensures.1)
 
 pub returns-in_err-write_long-clause-cause : goal.returns-in_err-write_long-clause-cause
 returns-in_err-write_long-clause-cause g c =
-    let same = ap (λ (d : g.row.D.Denot). g.D.Disk.faults d) c.put.ensures.disk in
+    let same = ap (λ (d : g.row.D.Denot). g.D.Disk.meaning.faults d) c.put.ensures.disk in
     cause_err _ _ _ _ _ _ c.write_long.result _ _ c.in_err-write_long.was (err_is _ _ c.from_residual-in_err-write_long.ensures.1) c.put.ensures.failed same (c.write_long.ensures.cause (c.put.ensures.failed ∙ c.in_ok-pos.ensures.works))
 
 pub returns-in_err-write_long-clause-full : goal.returns-in_err-write_long-clause-full

@@ -12,7 +12,7 @@ returns-in-Ok-clause-log g c =
     let bytes = c.in-Ok.unwritten.bytes.items in
     let starts = c.in-Ok.unwritten.starts.items in
     λ before is read.
-    log_created g.D.Disk.observable (now (g.D.Disk.history c.args.disk)) _ before
+    log_created g.D.Disk.meaning.observable (now (g.D.Disk.meaning.history c.args.disk)) _ before
     (let none = ap length c.in-Ok.ensures.starts in omega (arith, none)) refl refl refl
     (same_for bytes [] bytes starts file file refl c.in-Ok.ensures.starts ∙ alone_last bytes file ∙ c.in-Ok.ensures.bytes)
     (λ f apart. same_for bytes [] bytes starts file f refl c.in-Ok.ensures.starts ∙ alone_other bytes file f apart)
@@ -22,4 +22,4 @@ pub returns-in-Ok-clause-holds : goal.returns-in-Ok-clause-holds
 returns-in-Ok-clause-holds g c =
     λ observed before is read stable.
     let but = read observed in
-    headless_holds before c.args.file.0 (c.args.file.0 - length c.in-Ok.unwritten.starts.items) (now (g.D.Disk.history c.args.disk)) (omega arith) but.1 stable
+    headless_holds before c.args.file.0 (c.args.file.0 - length c.in-Ok.unwritten.starts.items) (now (g.D.Disk.meaning.history c.args.disk)) (omega arith) but.1 stable

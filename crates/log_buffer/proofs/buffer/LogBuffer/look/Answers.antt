@@ -11,18 +11,18 @@ use Rattle.log_buffer.proofs.buffer.LogBuffer.look.Goals as goal
 pub returns-then-is_on_disk-clause-found : goal.returns-then-is_on_disk-clause-found
 returns-then-is_on_disk-clause-found g c =
     let old = c.args.self.now in
-    let state = now (g.D.Disk.history old.disk) in
+    let state = now (g.D.Disk.meaning.history old.disk) in
     λ log entry observed has stands.
-    let is = standing g.D.Disk.observable state old log c.args.at c.file-file.result.0 c.offset-offset.result entry c.file-file.ensures c.offset-offset.ensures observed has stands in
-    c.fetch.ensures.found entry observed (on_disk g.D.Disk.observable state old c.file-file.result.0 c.offset-offset.result entry is (c.is_on_disk.ensures.0 c.if-is_on_disk.true))
+    let is = standing g.D.Disk.meaning.observable state old log c.args.at c.file-file.result.0 c.offset-offset.result entry c.file-file.ensures c.offset-offset.ensures observed has stands in
+    c.fetch.ensures.found entry observed (on_disk g.D.Disk.meaning.observable state old c.file-file.result.0 c.offset-offset.result entry is (c.is_on_disk.ensures.0 c.if-is_on_disk.true))
 
 pub returns-clause-found : goal.returns-clause-found
 returns-clause-found g c =
     let old = c.args.self.now in
-    let state = now (g.D.Disk.history old.disk) in
+    let state = now (g.D.Disk.meaning.history old.disk) in
     λ log entry observed has stands.
-    let is = standing g.D.Disk.observable state old log c.args.at c.file-file.result.0 c.offset-offset.result entry c.file-file.ensures c.offset-offset.ensures observed has stands in
-    let encodes = in_the_unwritten g.D.Disk.observable state old c.file-file.result.0 c.offset-offset.result entry is (λ there. let t = c.is_on_disk.ensures.1 there in let f = c.if-is_on_disk.false in absurd cc) in
+    let is = standing g.D.Disk.meaning.observable state old log c.args.at c.file-file.result.0 c.offset-offset.result entry c.file-file.ensures c.offset-offset.ensures observed has stands in
+    let encodes = in_the_unwritten g.D.Disk.meaning.observable state old c.file-file.result.0 c.offset-offset.result entry is (λ there. let t = c.is_on_disk.ensures.1 there in let f = c.if-is_on_disk.false in absurd cc) in
     c.in_ok-found.ensures entry is.within (subst (λ (n : ℕ). Encodes (drop n (unwritten_of old c.file-file.result.0)) entry) (sym c.within_unwritten-within.ensures) encodes)
 
 pub returns-then-self-clause-cause : goal.returns-then-self-clause-cause
@@ -41,19 +41,19 @@ pub returns-then-is_on_disk-clause-kept : goal.returns-then-is_on_disk-clause-ke
 returns-then-is_on_disk-clause-kept g c = c.fetch.ensures.kept
 
 pub returns-then-self-clause-only_read : goal.returns-then-self-clause-only_read
-returns-then-self-clause-only_read g c = read_none g.D.Disk.observable g.D.Disk.history g.D.Disk.sync_out g.D.Disk.read_out g.D.Disk.read_of c.args.self.now.disk
+returns-then-self-clause-only_read g c = read_none g.D.Disk.meaning c.args.self.now.disk
 
 pub returns-then-self-clause-kept : goal.returns-then-self-clause-kept
 returns-then-self-clause-kept g c = unwritten_same c.args.self.now
 
 pub returns-in_err-found-clause-only_read : goal.returns-in_err-found-clause-only_read
-returns-in_err-found-clause-only_read g c = read_none g.D.Disk.observable g.D.Disk.history g.D.Disk.sync_out g.D.Disk.read_out g.D.Disk.read_of c.args.self.now.disk
+returns-in_err-found-clause-only_read g c = read_none g.D.Disk.meaning c.args.self.now.disk
 
 pub returns-in_err-found-clause-kept : goal.returns-in_err-found-clause-kept
 returns-in_err-found-clause-kept g c = unwritten_same c.args.self.now
 
 pub returns-clause-only_read : goal.returns-clause-only_read
-returns-clause-only_read g c = read_none g.D.Disk.observable g.D.Disk.history g.D.Disk.sync_out g.D.Disk.read_out g.D.Disk.read_of c.args.self.now.disk
+returns-clause-only_read g c = read_none g.D.Disk.meaning c.args.self.now.disk
 
 pub returns-clause-kept : goal.returns-clause-kept
 returns-clause-kept g c = unwritten_same c.args.self.now

@@ -24,7 +24,7 @@ returns-then-pos-self-clause-grew g c =
     let last = c.put_last.ensures in
     let here : c.args.pos ≡ end_of old =
     c.requires.pos ∙ ((is_placed (file_max_of old) (end_of old) (size_of e)).same (sym (ap (λ (p : LogPos). p.file) c.requires.pos) ∙ c.if-pos-self.true)).0 in
-    grew_put _ _ _ _ _ c.put_last.result old c.put_last.new.self e (end_of old) (sym here ∙ c.requires.pos) last.disk last.log last.holds last.end last.file_max last.failed
+    grew_put g.D.Disk.meaning c.put_last.result old c.put_last.new.self e (end_of old) (sym here ∙ c.requires.pos) last.disk last.log last.holds last.end last.file_max last.failed
 
 pub returns-else-pos-self-clause-grew : goal.returns-else-pos-self-clause-grew
 returns-else-pos-self-clause-grew g c =
@@ -33,4 +33,4 @@ returns-else-pos-self-clause-grew g c =
     let next = c.put_next.ensures in
     let there : c.args.pos ≡ next_file (end_of old) =
     c.requires.pos ∙ (is_placed (file_max_of old) (end_of old) (size_of e)).next (λ same. c.if-pos-self.false (ap (λ (p : LogPos). p.file) c.requires.pos ∙ same)) in
-    grew_put _ _ _ _ _ c.put_next.result old c.put_next.new.self e (next_file (end_of old)) (sym there ∙ c.requires.pos) next.disk next.log next.holds next.end next.file_max next.failed
+    grew_put g.D.Disk.meaning c.put_next.result old c.put_next.new.self e (next_file (end_of old)) (sym there ∙ c.requires.pos) next.disk next.log next.holds next.end next.file_max next.failed

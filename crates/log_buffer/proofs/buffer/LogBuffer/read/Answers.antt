@@ -15,20 +15,20 @@ use Rattle.log_buffer.proofs.buffer.LogBuffer.read.Goals as goal
 pub returns-in_err-look-clause-holds : goal.returns-in_err-look-clause-holds
 returns-in_err-look-clause-holds g c =
     λ observed log removed least begun has h.
-    subst (λ (n : ℕ). Holds log removed least begun n (now (g.D.Disk.history c.look.new.self.disk))) (sym c.look.ensures.kept.first)
+    subst (λ (n : ℕ). Holds log removed least begun n (now (g.D.Disk.meaning.history c.look.new.self.disk))) (sym c.look.ensures.kept.first)
     (subst (Holds log removed least begun (first_of c.args.self.now)) (sym (c.look.ensures.only_read.same observed)) h)
 
 pub returns-clause-holds : goal.returns-clause-holds
 returns-clause-holds g c =
     λ observed log removed least begun has h.
-    subst (λ (n : ℕ). Holds log removed least begun n (now (g.D.Disk.history c.look.new.self.disk))) (sym c.look.ensures.kept.first)
+    subst (λ (n : ℕ). Holds log removed least begun n (now (g.D.Disk.meaning.history c.look.new.self.disk))) (sym c.look.ensures.kept.first)
     (subst (Holds log removed least begun (first_of c.args.self.now)) (sym (c.look.ensures.only_read.same observed)) h)
 
 pub returns-in_err-look-clause-crash : goal.returns-in_err-look-clause-crash
-returns-in_err-look-clause-crash g c = λ observed log removed least begun has h. same_through log removed least (first_of c.args.self.now) begun _ _ (c.look.ensures.only_read.moments observed) (observed_prefixes g.D.Disk.observable _ c.args.self.now log observed has) h
+returns-in_err-look-clause-crash g c = λ observed log removed least begun has h. same_through log removed least (first_of c.args.self.now) begun _ _ (c.look.ensures.only_read.moments observed) (observed_prefixes g.D.Disk.meaning.observable _ c.args.self.now log observed has) h
 
 pub returns-clause-crash : goal.returns-clause-crash
-returns-clause-crash g c = λ observed log removed least begun has h. same_through log removed least (first_of c.args.self.now) begun _ _ (c.look.ensures.only_read.moments observed) (observed_prefixes g.D.Disk.observable _ c.args.self.now log observed has) h
+returns-clause-crash g c = λ observed log removed least begun has h. same_through log removed least (first_of c.args.self.now) begun _ _ (c.look.ensures.only_read.moments observed) (observed_prefixes g.D.Disk.meaning.observable _ c.args.self.now log observed has) h
 
 pub returns-clause-found : goal.returns-clause-found
 returns-clause-found g c =
@@ -46,7 +46,7 @@ pub returns-clause-cause : goal.returns-clause-cause
 returns-clause-cause g c = cause_found _ _ _ _ c.look.result c.in_ok-look.field-0 c.ok_or.result c.in_ok-look.was c.ok_or.ensures.value c.look.ensures.cause
 
 pub returns-in_err-look-clause-log : goal.returns-in_err-look-clause-log
-returns-in_err-look-clause-log g c = λ log has. log_still g.D.Disk.observable _ _ c.args.self.now _ log (λ observed. ap (λ (s : State). s.reads) (c.look.ensures.only_read.same observed)) c.look.ensures.kept has
+returns-in_err-look-clause-log g c = λ log has. log_still g.D.Disk.meaning.observable _ _ c.args.self.now _ log (λ observed. ap (λ (s : State). s.reads) (c.look.ensures.only_read.same observed)) c.look.ensures.kept has
 
 pub returns-in_err-look-clause-same : goal.returns-in_err-look-clause-same
 returns-in_err-look-clause-same g c = c.look.ensures.only_read.same
@@ -64,7 +64,7 @@ pub returns-in_err-look-clause-read_of : goal.returns-in_err-look-clause-read_of
 returns-in_err-look-clause-read_of g c = c.look.ensures.only_read.file
 
 pub returns-clause-log : goal.returns-clause-log
-returns-clause-log g c = λ log has. log_still g.D.Disk.observable _ _ c.args.self.now _ log (λ observed. ap (λ (s : State). s.reads) (c.look.ensures.only_read.same observed)) c.look.ensures.kept has
+returns-clause-log g c = λ log has. log_still g.D.Disk.meaning.observable _ _ c.args.self.now _ log (λ observed. ap (λ (s : State). s.reads) (c.look.ensures.only_read.same observed)) c.look.ensures.kept has
 
 pub returns-clause-same : goal.returns-clause-same
 returns-clause-same g c = c.look.ensures.only_read.same

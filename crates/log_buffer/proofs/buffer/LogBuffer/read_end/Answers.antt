@@ -10,10 +10,10 @@ use Rattle.log_buffer.proofs.buffer.LogBuffer.read_end.Goals as goal
 
 pub returns-in-Ok-clause-log : goal.returns-in-Ok-clause-log
 returns-in-Ok-clause-log g c =
-    λ log has. log_still g.D.Disk.observable _ _ c.args.self.now _ log (λ observed. ap (λ (s : State). s.reads) (c.end_read.ensures.same observed)) (unwritten_over c.args.self.now) has
+    λ log has. log_still g.D.Disk.meaning.observable _ _ c.args.self.now _ log (λ observed. ap (λ (s : State). s.reads) (c.end_read.ensures.same observed)) (unwritten_over c.args.self.now) has
 
 pub returns-in-Ok-clause-crash : goal.returns-in-Ok-clause-crash
-returns-in-Ok-clause-crash g c = λ observed log removed least begun has h. same_through log removed least (first_of c.args.self.now) begun _ _ (c.end_read.ensures.moments observed) (observed_prefixes g.D.Disk.observable _ c.args.self.now log observed has) h
+returns-in-Ok-clause-crash g c = λ observed log removed least begun has h. same_through log removed least (first_of c.args.self.now) begun _ _ (c.end_read.ensures.moments observed) (observed_prefixes g.D.Disk.meaning.observable _ c.args.self.now log observed has) h
 
 pub returns-in-Ok-clause-holds : goal.returns-in-Ok-clause-holds
 returns-in-Ok-clause-holds g c = λ observed log removed least begun has h. subst (Holds log removed least begun (first_of c.args.self.now)) (sym (c.end_read.ensures.same observed)) h
@@ -23,10 +23,10 @@ returns-in-Ok-clause-kept g c = unwritten_over c.args.self.now
 
 pub returns-in-Err-clause-log : goal.returns-in-Err-clause-log
 returns-in-Err-clause-log g c =
-    λ log has. log_still g.D.Disk.observable _ _ c.args.self.now _ log (λ observed. ap (λ (s : State). s.reads) (c.end_read.ensures.same observed)) (unwritten_over c.args.self.now) has
+    λ log has. log_still g.D.Disk.meaning.observable _ _ c.args.self.now _ log (λ observed. ap (λ (s : State). s.reads) (c.end_read.ensures.same observed)) (unwritten_over c.args.self.now) has
 
 pub returns-in-Err-clause-crash : goal.returns-in-Err-clause-crash
-returns-in-Err-clause-crash g c = λ observed log removed least begun has h. same_through log removed least (first_of c.args.self.now) begun _ _ (c.end_read.ensures.moments observed) (observed_prefixes g.D.Disk.observable _ c.args.self.now log observed has) h
+returns-in-Err-clause-crash g c = λ observed log removed least begun has h. same_through log removed least (first_of c.args.self.now) begun _ _ (c.end_read.ensures.moments observed) (observed_prefixes g.D.Disk.meaning.observable _ c.args.self.now log observed has) h
 
 pub returns-in-Err-clause-holds : goal.returns-in-Err-clause-holds
 returns-in-Err-clause-holds g c = λ observed log removed least begun has h. subst (Holds log removed least begun (first_of c.args.self.now)) (sym (c.end_read.ensures.same observed)) h

@@ -16,7 +16,7 @@ returns-in-Ok-clause-log g c =
     let old = c.args.self.now in
     let starts = old.unwritten.starts.items in
     λ log has.
-    log_removed g.D.Disk.observable (now (g.D.Disk.history old.disk)) (now (g.D.Disk.history c.remove.new.self)) old _ log c.args.f.0 c.requires
+    log_removed g.D.Disk.meaning.observable (now (g.D.Disk.meaning.history old.disk)) (now (g.D.Disk.meaning.history c.remove.new.self)) old _ log c.args.f.0 c.requires
     (none_below old.unwritten.bytes.items starts old.file.0 c.args.f.0 old.files c.requires)
     (λ is. let le = first_for_le starts old.file.0 old.files in let below = c.requires in absurd (omega (arith, is)))
     (first_or_below starts (old.file.0 - length starts) c.args.f.0 c.requires)
@@ -26,20 +26,20 @@ pub returns-in-Ok-clause-crash : goal.returns-in-Ok-clause-crash
 returns-in-Ok-clause-crash g c =
     let old = c.args.self.now in
     λ observed log removed least begun has h less.
-    removed_through log removed least c.args.f.0 begun (first_of old) (g.D.Disk.history old.disk) (g.D.Disk.history c.remove.new.self) has.is_log less h (c.remove.ensures.moments observed)
+    removed_through log removed least c.args.f.0 begun (first_of old) (g.D.Disk.meaning.history old.disk) (g.D.Disk.meaning.history c.remove.new.self) has.is_log less h (c.remove.ensures.moments observed)
 
 pub returns-in-Ok-clause-holds : goal.returns-in-Ok-clause-holds
 returns-in-Ok-clause-holds g c =
     let old = c.args.self.now in
     λ observed log removed least begun has h less.
     subst (Holds (log_without c.args.f.0 log) (log_of c.args.f.0 log ++ removed) (least - length (entries_of (log_of c.args.f.0 log))) (option_map (λ (n : ℕ). n - length (entries_of (log_of c.args.f.0 log))) begun) (first_of old)) (sym (c.in-Ok.ensures.done observed))
-    (holds_removed log removed least c.args.f.0 begun (first_of old) (first_of old) (now (g.D.Disk.history old.disk)) has.is_log less refl h)
+    (holds_removed log removed least c.args.f.0 begun (first_of old) (first_of old) (now (g.D.Disk.meaning.history old.disk)) has.is_log less refl h)
 
 pub returns-in-Err-clause-crash : goal.returns-in-Err-clause-crash
 returns-in-Err-clause-crash g c =
     let old = c.args.self.now in
     λ observed log removed least begun has h less.
-    removed_through log removed least c.args.f.0 begun (first_of old) (g.D.Disk.history old.disk) (g.D.Disk.history c.remove.new.self) has.is_log less h (c.remove.ensures.moments observed)
+    removed_through log removed least c.args.f.0 begun (first_of old) (g.D.Disk.meaning.history old.disk) (g.D.Disk.meaning.history c.remove.new.self) has.is_log less h (c.remove.ensures.moments observed)
 
 pub returns-then-self-clause-cause : goal.returns-then-self-clause-cause
 returns-then-self-clause-cause g c = cause_failed _ _ _ _ c.if-self.true c.if-self.true refl

@@ -10,7 +10,7 @@ use Rattle.log_buffer.proofs.buffer.LogBuffer.resume.Goals as goal
 pub returns-clause-log : goal.returns-clause-log
 returns-clause-log g c =
     λ log is ends read.
-    log_at_end g.D.Disk.observable (now (g.D.Disk.history c.args.disk)) _ log
+    log_at_end g.D.Disk.meaning.observable (now (g.D.Disk.meaning.history c.args.disk)) _ log
     (record {
       empty = λ f. same_for [] [] c.new.result.bytes.items c.new.result.starts.items c.file-file.result.0 f c.new.ensures.bytes c.new.ensures.starts ∙ bytes_for_none c.file-file.result.0 f;
       first = let starts = ap length c.new.ensures.starts in omega (arith, starts);
@@ -24,7 +24,7 @@ returns-clause-log g c =
 pub returns-clause-holds : goal.returns-clause-holds
 returns-clause-holds g c =
     λ observed log is ends read stable.
-    synced_holds log c.file-file.result.0 c.offset-offset.result c.args.last (c.file-file.result.0 - length c.new.result.starts.items) (now (g.D.Disk.history c.args.disk)) is
+    synced_holds log c.file-file.result.0 c.offset-offset.result c.args.last (c.file-file.result.0 - length c.new.result.starts.items) (now (g.D.Disk.meaning.history c.args.disk)) is
     (subst (λ (k : ℕ). EndsAt log k c.offset-offset.result c.args.last) (sym c.file-file.ensures)
     (subst (λ (k : ℕ). EndsAt log (c.args.at / 4294967296) k c.args.last) (sym c.offset-offset.ensures) ends))
     (omega arith) (read observed) stable

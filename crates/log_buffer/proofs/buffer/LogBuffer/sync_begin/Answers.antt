@@ -17,29 +17,29 @@ returns-in-Ok-clause-holds g c =
     λ observed log removed least begun has h.
     let has_written = c.in_ok-write_out.ensures.grew.log log has in
     subst (Holds log removed least (Some (length (entries_of log))) (first_of written)) (sym (c.in-Ok.ensures.done observed))
-    (holds_begun log removed least (file_of written) (offset_of written) (last_of written) (first_of written) begun (now (g.D.Disk.history written.disk)) has_written.is_log has_written.ends (omega arith)
+    (holds_begun log removed least (file_of written) (offset_of written) (last_of written) (first_of written) begun (now (g.D.Disk.meaning.history written.disk)) has_written.is_log has_written.ends (omega arith)
     (c.in_ok-write_out.ensures.whole log has observed) (c.in_ok-write_out.ensures.grew.holds observed log removed least begun has h))
 
 pub returns-in-Ok-clause-log : goal.returns-in-Ok-clause-log
 returns-in-Ok-clause-log g c =
     let written = c.write_out.new.self in
     λ log has.
-    log_still g.D.Disk.observable (now (g.D.Disk.history written.disk)) _ written _ log (λ observed. ap (λ (s : State). s.reads) (c.in-Ok.ensures.done observed)) (unwritten_over written) (c.in_ok-write_out.ensures.grew.log log has)
+    log_still g.D.Disk.meaning.observable (now (g.D.Disk.meaning.history written.disk)) _ written _ log (λ observed. ap (λ (s : State). s.reads) (c.in-Ok.ensures.done observed)) (unwritten_over written) (c.in_ok-write_out.ensures.grew.log log has)
 
 pub returns-in-Ok-clause-crash : goal.returns-in-Ok-clause-crash
 returns-in-Ok-clause-crash g c =
     let written = c.write_out.new.self in
     λ observed log removed least begun has h.
-    begun_through log removed least (first_of written) begun (g.D.Disk.history c.args.self.now.disk) (g.D.Disk.history written.disk) (g.D.Disk.history c.begin_sync.new.self)
-    (c.in_ok-write_out.ensures.grew.crash observed log removed least begun has h) (observed_prefixes g.D.Disk.observable _ written log observed (c.in_ok-write_out.ensures.grew.log log has)) (c.in_ok-write_out.ensures.grew.holds observed log removed least begun has h)
+    begun_through log removed least (first_of written) begun (g.D.Disk.meaning.history c.args.self.now.disk) (g.D.Disk.meaning.history written.disk) (g.D.Disk.meaning.history c.begin_sync.new.self)
+    (c.in_ok-write_out.ensures.grew.crash observed log removed least begun has h) (observed_prefixes g.D.Disk.meaning.observable _ written log observed (c.in_ok-write_out.ensures.grew.log log has)) (c.in_ok-write_out.ensures.grew.holds observed log removed least begun has h)
     (c.begin_sync.ensures.moments observed)
 
 pub returns-in-Err-clause-crash : goal.returns-in-Err-clause-crash
 returns-in-Err-clause-crash g c =
     let written = c.write_out.new.self in
     λ observed log removed least begun has h.
-    begun_through log removed least (first_of written) begun (g.D.Disk.history c.args.self.now.disk) (g.D.Disk.history written.disk) (g.D.Disk.history c.begin_sync.new.self)
-    (c.in_ok-write_out.ensures.grew.crash observed log removed least begun has h) (observed_prefixes g.D.Disk.observable _ written log observed (c.in_ok-write_out.ensures.grew.log log has)) (c.in_ok-write_out.ensures.grew.holds observed log removed least begun has h)
+    begun_through log removed least (first_of written) begun (g.D.Disk.meaning.history c.args.self.now.disk) (g.D.Disk.meaning.history written.disk) (g.D.Disk.meaning.history c.begin_sync.new.self)
+    (c.in_ok-write_out.ensures.grew.crash observed log removed least begun has h) (observed_prefixes g.D.Disk.meaning.observable _ written log observed (c.in_ok-write_out.ensures.grew.log log has)) (c.in_ok-write_out.ensures.grew.holds observed log removed least begun has h)
     (c.begin_sync.ensures.moments observed)
 
 pub returns-in-Ok-clause-cause : goal.returns-in-Ok-clause-cause

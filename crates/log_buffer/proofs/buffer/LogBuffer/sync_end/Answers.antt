@@ -13,20 +13,20 @@ pub returns-in-Ok-clause-holds : goal.returns-in-Ok-clause-holds
 returns-in-Ok-clause-holds g c =
     let old = c.args.self.now in
     λ observed log removed least begun has h.
-    subst (Holds log removed begun None (first_of old)) (sym (c.in-Ok.ensures.done observed)) (holds_ended log removed least (first_of old) begun (now (g.D.Disk.history old.disk)) h)
+    subst (Holds log removed begun None (first_of old)) (sym (c.in-Ok.ensures.done observed)) (holds_ended log removed least (first_of old) begun (now (g.D.Disk.meaning.history old.disk)) h)
 
 pub returns-in-Ok-clause-log : goal.returns-in-Ok-clause-log
 returns-in-Ok-clause-log g c =
-    λ log has. log_still g.D.Disk.observable (now (g.D.Disk.history c.args.self.now.disk)) _ c.args.self.now _ log (λ observed. ap (λ (s : State). s.reads) (c.in-Ok.ensures.done observed)) (unwritten_over c.args.self.now) has
+    λ log has. log_still g.D.Disk.meaning.observable (now (g.D.Disk.meaning.history c.args.self.now.disk)) _ c.args.self.now _ log (λ observed. ap (λ (s : State). s.reads) (c.in-Ok.ensures.done observed)) (unwritten_over c.args.self.now) has
 
 pub returns-in-Ok-clause-crash : goal.returns-in-Ok-clause-crash
-returns-in-Ok-clause-crash g c = λ observed log removed least begun has h. ended_through log removed least (first_of c.args.self.now) begun (g.D.Disk.history c.args.self.now.disk) (g.D.Disk.history c.end_sync.new.self) (observed_prefixes g.D.Disk.observable _ c.args.self.now log observed has) h (c.end_sync.ensures.moments observed)
+returns-in-Ok-clause-crash g c = λ observed log removed least begun has h. ended_through log removed least (first_of c.args.self.now) begun (g.D.Disk.meaning.history c.args.self.now.disk) (g.D.Disk.meaning.history c.end_sync.new.self) (observed_prefixes g.D.Disk.meaning.observable _ c.args.self.now log observed has) h (c.end_sync.ensures.moments observed)
 
 pub returns-in-Ok-clause-kept : goal.returns-in-Ok-clause-kept
 returns-in-Ok-clause-kept g c = unwritten_over c.args.self.now
 
 pub returns-in-Err-clause-crash : goal.returns-in-Err-clause-crash
-returns-in-Err-clause-crash g c = λ observed log removed least begun has h. ended_through log removed least (first_of c.args.self.now) begun (g.D.Disk.history c.args.self.now.disk) (g.D.Disk.history c.end_sync.new.self) (observed_prefixes g.D.Disk.observable _ c.args.self.now log observed has) h (c.end_sync.ensures.moments observed)
+returns-in-Err-clause-crash g c = λ observed log removed least begun has h. ended_through log removed least (first_of c.args.self.now) begun (g.D.Disk.meaning.history c.args.self.now.disk) (g.D.Disk.meaning.history c.end_sync.new.self) (observed_prefixes g.D.Disk.meaning.observable _ c.args.self.now log observed has) h (c.end_sync.ensures.moments observed)
 
 pub returns-in-Err-clause-kept : goal.returns-in-Err-clause-kept
 returns-in-Err-clause-kept g c = unwritten_over c.args.self.now

@@ -10,7 +10,7 @@ pub returns-clause-cause : goal.returns-clause-cause
 returns-clause-cause g c = λ works. cause_ok _ _ _ _ _ works works (le_refl _)
 
 pub returns-clause-grew : goal.returns-clause-grew
-returns-clause-grew g c = grew_none _ _ _ _ _ _
+returns-clause-grew g c = grew_none g.D.Disk.meaning _
 
 pub returns-then-len-gt-WRITE_BUFFER_MAX-clause-grew : goal.returns-then-len-gt-WRITE_BUFFER_MAX-clause-grew
 returns-then-len-gt-WRITE_BUFFER_MAX-clause-grew g c = c.write_out.ensures.grew

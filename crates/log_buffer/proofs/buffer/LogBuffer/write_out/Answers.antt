@@ -11,7 +11,7 @@ use Rattle.log_buffer.proofs.FaultCauses.{cause_ok, cause_failed, cause_fault}
 use Rattle.log_buffer.proofs.buffer.LogBuffer.write_out.Goals as goal
 
 pub returns-then-self-clause-tried : goal.returns-then-self-clause-tried
-returns-then-self-clause-tried g c = tried_failed _ _ _ _ _ _ _ c.if-self.true
+returns-then-self-clause-tried g c = tried_failed g.D.Disk.meaning _ _ c.if-self.true
 
 pub returns-in-Ok-clause-grew : goal.returns-in-Ok-clause-grew
 returns-in-Ok-clause-grew g c =
@@ -19,17 +19,17 @@ returns-in-Ok-clause-grew g c =
     let unwritten = c.write_unwritten.ensures in
     record {
       log = λ log has.
-          log_written g.D.Disk.observable (now (g.D.Disk.history old.disk)) (now (g.D.Disk.history c.write_unwritten.new.disk)) old _ log
+          log_written g.D.Disk.meaning.observable (now (g.D.Disk.meaning.history old.disk)) (now (g.D.Disk.meaning.history c.write_unwritten.new.disk)) old _ log
           (record {
             empty = λ f. same_for [] [] c.clear.new.self.bytes.items c.clear.new.self.starts.items old.file.0 f c.clear.ensures.bytes c.clear.ensures.starts ∙ bytes_for_none old.file.0 f;
             first = let starts = ap length c.clear.ensures.starts in omega (arith, starts);
             flushed_len = refl;
           })
           refl refl refl c.in-Ok.ensures.done has;
-      crash = λ observed log removed least begun has h. unwritten.crash observed log removed least begun (unwritten_is g.D.Disk.observable (now (g.D.Disk.history old.disk)) old log observed has) h;
+      crash = λ observed log removed least begun has h. unwritten.crash observed log removed least begun (unwritten_is g.D.Disk.meaning.observable (now (g.D.Disk.meaning.history old.disk)) old log observed has) h;
       holds = λ observed log removed least begun has h.
-          subst (λ (n : ℕ). Holds log removed least begun n (now (g.D.Disk.history c.write_unwritten.new.disk))) (let starts = ap length c.clear.ensures.starts in omega (arith, starts))
-          (c.in-Ok.ensures.holds observed log removed least begun (unwritten_is g.D.Disk.observable (now (g.D.Disk.history old.disk)) old log observed has) h);
+          subst (λ (n : ℕ). Holds log removed least begun n (now (g.D.Disk.meaning.history c.write_unwritten.new.disk))) (let starts = ap length c.clear.ensures.starts in omega (arith, starts))
+          (c.in-Ok.ensures.holds observed log removed least begun (unwritten_is g.D.Disk.meaning.observable (now (g.D.Disk.meaning.history old.disk)) old log observed has) h);
       end = refl;
       max = refl;
       failed = sym c.if-self.false;
@@ -41,7 +41,7 @@ returns-in-Err-clause-tried g c =
     let old = c.args.self.now in
     let unwritten = c.write_unwritten.ensures in
     record {
-      crash = λ observed log removed least begun has h. unwritten.crash observed log removed least begun (unwritten_is g.D.Disk.observable (now (g.D.Disk.history old.disk)) old log observed has) h;
+      crash = λ observed log removed least begun has h. unwritten.crash observed log removed least begun (unwritten_is g.D.Disk.meaning.observable (now (g.D.Disk.meaning.history old.disk)) old log observed has) h;
       max = refl;
       failed = refl;
       jobs = record { syncs = unwritten.sync_out; reads = unwritten.read_out; file = unwritten.read_of };

@@ -13,7 +13,7 @@ returns-clause-goes_on g c = λ p under may.
     let x = c.args.self.now in
     let e = c.end_session.ensures in
     let y : Recorded g.row.D.Denot = record { environment = c.end_session.new.self; journal = c.record.new.journal } in
-    pushed g.D.Disk.observable g.D.Disk.history g.D.Disk.faults p Nothing Nothing x y (End c.args.session) c.record.ensures.items under (record {
+    pushed g.D.Disk.meaning p Nothing Nothing x y (End c.args.session) c.record.ensures.items under (record {
       done = e.goes_on p.most (standing p x) under.running.here;
       grows = within_none (reach_of x.environment) (reach_of y.environment) e.within;
       synced = λ later met. (tt, tt);
@@ -22,6 +22,6 @@ returns-clause-goes_on g c = λ p under may.
       steps = tt;
       sessions = tt;
       bounds = e.bounds under.running.bounds;
-      never_falls = (let faults = g.D.Disk.faults in subst (λ d. faults (disk_of x.environment) ≤ faults d) (sym e.same_disk) (omega arith));
+      never_falls = (let meaning = g.D.Disk.meaning in subst (λ d. meaning.faults (disk_of x.environment) ≤ meaning.faults d) (sym e.same_disk) (omega arith));
       fault = λ h. cc;
     }) (λ observed. e.crash observed p.most p.st p.start x.journal.items under.running.here (under.guarded observed))

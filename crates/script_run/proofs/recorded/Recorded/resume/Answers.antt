@@ -21,7 +21,7 @@ returns-in-Err-clause-goes_on g c = λ p under next.
     let x = c.args.self.now in
     let e = c.in-Err.ensures in
     let y : Recorded g.row.D.Denot = record { environment = c.resume.new.self; journal = c.record.new.journal } in
-    pushed g.D.Disk.observable g.D.Disk.history g.D.Disk.faults p Nothing Nothing x y (End c.args.session) c.record.ensures.items under (record {
+    pushed g.D.Disk.meaning p Nothing Nothing x y (End c.args.session) c.record.ensures.items under (record {
       done = record { limit = None; bounded = inl refl; answered = tt; here = e.goes_on p.most (standing p x) c.args.line under.running.here next.may };
       grows = within_none (reach_of x.environment) (reach_of y.environment) e.same_reach;
       synced = λ later met. (tt, tt);
@@ -56,7 +56,7 @@ returns-clause-goes_on g c = λ p under next.
     let for_ : IsAwaitedFor o.answer durability awaited = record { logged = c.awaited-awaited.ensures.logged; other = c.awaited-awaited.ensures.other } in
     let y : Recorded g.row.D.Denot = record { environment = c.resume.new.self; journal = c.record-2.new.journal } in
     let done = e.goes_on p.most st line under.running.here next.may in
-    pushed g.D.Disk.observable g.D.Disk.history g.D.Disk.faults p Nothing (awaited_of awaited) x y event c.record-2.ensures.items under (record {
+    pushed g.D.Disk.meaning p Nothing (awaited_of awaited) x y event c.record-2.ensures.items under (record {
       done = done;
       grows = c.resume.ensures.grows p.most st line under.running.here next.may;
       synced = λ later met. (

@@ -17,7 +17,7 @@ returns-in-Err-clause-goes_on g c = λ p under calm.
     let x = c.args.self.now in
     let e = c.in-Err.ensures in
     let y : Recorded g.row.D.Denot = record { environment = c.step.new.self; journal = x.journal } in
-    kept g.D.Disk.observable g.D.Disk.history g.D.Disk.faults p x y refl under (e.goes_on p.most (standing p x) under.running.here) e.same_reach c.step.ensures.bounds e.cause.never_falls
+    kept g.D.Disk.meaning p x y refl under (e.goes_on p.most (standing p x) under.running.here) e.same_reach c.step.ensures.bounds e.cause.never_falls
     (λ observed. e.crash observed p.most p.st p.start x.journal.items under.running.here (under.guarded observed))
 
 pub returns-clause-goes_on : goal.returns-clause-goes_on
@@ -36,7 +36,7 @@ returns-clause-goes_on g c = λ p under calm.
     let for_ : IsAwaitedFor o.answer durability awaited = record { logged = c.awaited-awaited.ensures.logged; other = c.awaited-awaited.ensures.other } in
     let y : Recorded g.row.D.Denot = record { environment = c.step.new.self; journal = c.record.new.journal } in
     let done = e.goes_on p.most st under.running.here in
-    pushed g.D.Disk.observable g.D.Disk.history g.D.Disk.faults p Nothing (awaited_of awaited) x y event c.record.ensures.items under (record {
+    pushed g.D.Disk.meaning p Nothing (awaited_of awaited) x y event c.record.ensures.items under (record {
       done = done;
       grows = c.step.ensures.grows p.most st under.running.here;
       synced = λ later met. (

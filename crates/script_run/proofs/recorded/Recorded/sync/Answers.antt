@@ -30,7 +30,7 @@ returns-in_default-clause-goes_on g c = λ p under.
     let e = c.in_default.ensures in
     let y : Recorded g.row.D.Denot = record { environment = c.sync_begin.new.self; journal = c.record.new.journal } in
     let valid : st.fault ≡ None = under.running.fresh in
-    pushed g.D.Disk.observable g.D.Disk.history g.D.Disk.faults p (Follow Sync) Nothing x y (SyncBegin DiskFault) c.record.ensures.items under (record {
+    pushed g.D.Disk.meaning p (Follow Sync) Nothing x y (SyncBegin DiskFault) c.record.ensures.items under (record {
       done = record {
         limit = None;
         bounded = inl refl;
@@ -50,9 +50,7 @@ returns-in_default-clause-goes_on g c = λ p under.
 
 pub returns-clause-goes_on : goal.returns-clause-goes_on
 returns-clause-goes_on g c = λ p under.
-    let observable = g.D.Disk.observable in
-    let history = g.D.Disk.history in
-    let faults = g.D.Disk.faults in
+    let meaning = g.D.Disk.meaning in
     let x = c.args.self.now in
     let st = standing p x in
     let b = c.in-Some.ensures in
@@ -62,7 +60,7 @@ returns-clause-goes_on g c = λ p under.
     let new = c.sync_end-answer.new.self in
     let valid : st.fault ≡ None = under.running.fresh in
     let begun : List Event = x.journal.items ++ SyncBegin Done ∷ [] in
-    let syncing = running_push observable history faults p (Follow Sync) Ending x.environment middle x.journal.items (SyncBegin Done) under.running (record {
+    let syncing = running_push meaning p (Follow Sync) Ending x.environment middle x.journal.items (SyncBegin Done) under.running (record {
       done = record {
         limit = None;
         bounded = inl refl;
@@ -81,12 +79,12 @@ returns-clause-goes_on g c = λ p under.
     }) in
     let st1 : Standing = after_event st (SyncBegin Done) in
     let stands : after_events p.st begun ≡ st1 = after_events-append p.st x.journal.items (SyncBegin Done ∷ []) in
-    let here1 : IsAt p.most observable (now (history (disk_of middle))) middle st1 =
-    subst (λ (s : Standing). IsAt p.most observable (now (history (disk_of middle))) middle s) stands syncing.here in
+    let here1 : IsAt p.most meaning.observable (now (meaning.history (disk_of middle))) middle st1 =
+    subst (λ (s : Standing). IsAt p.most meaning.observable (now (meaning.history (disk_of middle))) middle s) stands syncing.here in
     let out : st1.begun ≡ Some c.commits-begun.result = ap (λ (n : ℕ). Some n) (sym (c.commits-begun.ensures p.most st under.running.here)) in
     let ends = e.ends p.most st1 here1 valid out in
-    let done = running_push observable history faults p Ending Nothing middle new begun (SyncEnd ending) syncing
-    (subst (λ (s : Standing). IsNextEvent observable history faults p Ending Nothing middle new (last_after None begun) s (SyncEnd ending)) (sym stands) (record {
+    let done = running_push meaning p Ending Nothing middle new begun (SyncEnd ending) syncing
+    (subst (λ (s : Standing). IsNextEvent meaning p Ending Nothing middle new (last_after None begun) s (SyncEnd ending)) (sym stands) (record {
       done = record { limit = None; bounded = inl refl; answered = subst (λ (f : Option Fault). IsSyncEnded f st1.begun ending) (sym valid) ends.0; here = ends.1 };
       grows = within_none (reach_of middle) (reach_of new) e.within;
       synced = λ later met. (ended_is st1 ending later ends.0, tt);
@@ -100,10 +98,10 @@ returns-clause-goes_on g c = λ p under.
     })) in
     let all = ◌∙◌ {A = List Event} c.record-3.ensures.items (ap (λ (l : List Event). l ++ SyncEnd ending ∷ []) c.record-2.ensures.items) in
     record {
-      running = subst (λ (l : List Event). IsRunning observable history faults p Nothing new l) (sym {A = List Event} all) done;
+      running = subst (λ (l : List Event). IsRunning meaning p Nothing new l) (sym {A = List Event} all) done;
       guarded = λ observed.
           let guarded_begun = b.crash observed p.most p.st p.start x.journal.items valid (under.guarded observed) in
-          subst (λ (l : List Event). IsGuarded p.most p.st p.start (history (disk_of new)) new l) (sym {A = List Event} all)
+          subst (λ (l : List Event). IsGuarded p.most p.st p.start (meaning.history (disk_of new)) new l) (sym {A = List Event} all)
           (e.crash observed p.most p.st p.start begun syncing.here (subst (λ (s : Standing). s.fault ≡ None) (sym stands) valid) (ap (λ (s : Standing). s.begun) stands ∙ out) guarded_begun);
     }
 

@@ -25,19 +25,19 @@ sync-requires-clause-here g c =
     let p = h.0 in
     let x = c.args.self.now in (
       p,
-      may_sync g.D.Disk.observable g.D.Disk.history g.D.Disk.faults p x
+      may_sync g.D.Disk.meaning p x
           (valid_by p x c.fault.result (c.fault.ensures p.most (standing p x) h.1.running.here) (sym c.is_some.ensures ∙ c.if-is_some.false)) h.1,
     )
 
 pub returns-clause-goes_on : goal.returns-clause-goes_on
 returns-clause-goes_on g c = λ p under calm.
     let x = c.args.self.now in
-    c.sync.ensures.goes_on p (may_sync g.D.Disk.observable g.D.Disk.history g.D.Disk.faults p x
+    c.sync.ensures.goes_on p (may_sync g.D.Disk.meaning p x
     (valid_by p x c.fault.result (c.fault.ensures p.most (standing p x) under.running.here) (sym c.is_some.ensures ∙ c.if-is_some.false)) under)
 
 pub returns-clause-may : goal.returns-clause-may
 returns-clause-may g c = λ p under calm.
     let x = c.args.self.now in
     turns_synced p c.args.step x c.sync.new.self (c.is_sync.ensures.sync c.if-not-is_sync.false) calm
-    (c.sync.ensures.synced p (may_sync g.D.Disk.observable g.D.Disk.history g.D.Disk.faults p x
+    (c.sync.ensures.synced p (may_sync g.D.Disk.meaning p x
     (valid_by p x c.fault.result (c.fault.ensures p.most (standing p x) under.running.here) (sym c.is_some.ensures ∙ c.if-is_some.false)) under))

@@ -15,7 +15,7 @@ returns-in-Err-clause-goes_on g c = λ p under may.
     let x = c.args.self.now in
     let e = c.in-Err.ensures in
     let y : Recorded g.row.D.Denot = record { environment = c.turn.new.self; journal = x.journal } in
-    kept g.D.Disk.observable g.D.Disk.history g.D.Disk.faults p x y refl under (e.goes_on p.most (standing p x) c.args.line under.running.here) e.same_reach c.turn.ensures.bounds c.turn.ensures.never_falls
+    kept g.D.Disk.meaning p x y refl under (e.goes_on p.most (standing p x) c.args.line under.running.here) e.same_reach c.turn.ensures.bounds c.turn.ensures.never_falls
     (λ observed. e.crash observed p.most p.st p.start x.journal.items c.args.line under.running.here (under.guarded observed))
 
 pub returns-clause-goes_on : goal.returns-clause-goes_on
@@ -29,7 +29,7 @@ returns-clause-goes_on g c = λ p under may.
     let event : Event = Turn line step answer in
     let y : Recorded g.row.D.Denot = record { environment = c.turn.new.self; journal = c.record.new.journal } in
     let done = e.goes_on p.most st line under.running.here in
-    pushed g.D.Disk.observable g.D.Disk.history g.D.Disk.faults p Nothing Nothing x y event c.record.ensures.items under (record {
+    pushed g.D.Disk.meaning p Nothing Nothing x y event c.record.ensures.items under (record {
       done = done;
       grows = e.grows p.most st line under.running.here;
       synced = λ later met. (tt, tt);

@@ -21,7 +21,7 @@ returns-clause-goes_on g c = λ p under.
     let answer = c.write_out-answer.result in
     let y : Recorded g.row.D.Denot = record { environment = c.write_out-answer.new.self; journal = c.record.new.journal } in
     let done = e.goes_on p.most st under.running.here in
-    pushed g.D.Disk.observable g.D.Disk.history g.D.Disk.faults p (Follow WriteNoSync) Nothing x y (WriteOut answer) c.record.ensures.items under (record {
+    pushed g.D.Disk.meaning p (Follow WriteNoSync) Nothing x y (WriteOut answer) c.record.ensures.items under (record {
       done = done;
       grows = within_none (reach_of x.environment) (reach_of y.environment) e.within;
       synced = λ later met. (written_is st answer later under.running.fresh done.answered, tt);

@@ -10,9 +10,9 @@ abbrev pub invariant-loop-session : goal.invariant-loop-session
 invariant-loop-session g l =
     record {
       flags : AreFlags l.self;
-      goes_on : (p : Beginning) → IsUnderWay g.D.Disk.observable g.D.Disk.history g.D.Disk.faults p Nothing l.initial.self.recorded → IsCalmOrHalted p l.initial.self → IsUnderWay g.D.Disk.observable g.D.Disk.history g.D.Disk.faults p Nothing l.self.recorded;
-      calm : (p : Beginning) → IsUnderWay g.D.Disk.observable g.D.Disk.history g.D.Disk.faults p Nothing l.initial.self.recorded → IsCalmOrHalted p l.initial.self → IsCalmOrHalted p l.self;
-      ended : (p : Beginning) → IsUnderWay g.D.Disk.observable g.D.Disk.history g.D.Disk.faults p Nothing l.initial.self.recorded → IsCalmOrHalted p l.initial.self → l.self.halted ≡ false → (session : ℕ) → session < l.session → IsOutside p session l.self.recorded;
-      ends : (p : Beginning) → IsUnderWay g.D.Disk.observable g.D.Disk.history g.D.Disk.faults p Nothing l.initial.self.recorded → IsCalmOrHalted p l.initial.self → EndsStopped l.initial.self → EndsBelow p l.session l.self;
+      goes_on : (p : Beginning) → IsUnderWay g.D.Disk.meaning p Nothing l.initial.self.recorded → IsCalmOrHalted p l.initial.self → IsUnderWay g.D.Disk.meaning p Nothing l.self.recorded;
+      calm : (p : Beginning) → IsUnderWay g.D.Disk.meaning p Nothing l.initial.self.recorded → IsCalmOrHalted p l.initial.self → IsCalmOrHalted p l.self;
+      ended : (p : Beginning) → IsUnderWay g.D.Disk.meaning p Nothing l.initial.self.recorded → IsCalmOrHalted p l.initial.self → l.self.halted ≡ false → (session : ℕ) → session < l.session → IsOutside p session l.self.recorded;
+      ends : (p : Beginning) → IsUnderWay g.D.Disk.meaning p Nothing l.initial.self.recorded → IsCalmOrHalted p l.initial.self → EndsStopped l.initial.self → EndsBelow p l.session l.self;
       given : (lines : List ScriptLine) → HasLines l.initial.self lines → HasLines l.self lines;
     }

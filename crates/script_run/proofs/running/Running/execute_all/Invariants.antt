@@ -12,8 +12,8 @@ abbrev pub invariant-loop-given : goal.invariant-loop-given
 invariant-loop-given g l =
     record {
       flags : AreFlags l.self;
-      goes_on : (p : Beginning) → IsUnderWay g.D.Disk.observable g.D.Disk.history g.D.Disk.faults p Nothing l.initial.self.recorded → IsCalmOrHalted p l.initial.self → IsUnderWay g.D.Disk.observable g.D.Disk.history g.D.Disk.faults p Nothing l.self.recorded;
-      calm : (p : Beginning) → IsUnderWay g.D.Disk.observable g.D.Disk.history g.D.Disk.faults p Nothing l.initial.self.recorded → IsCalmOrHalted p l.initial.self → IsCalmOrHalted p l.self;
+      goes_on : (p : Beginning) → IsUnderWay g.D.Disk.meaning p Nothing l.initial.self.recorded → IsCalmOrHalted p l.initial.self → IsUnderWay g.D.Disk.meaning p Nothing l.self.recorded;
+      calm : (p : Beginning) → IsUnderWay g.D.Disk.meaning p Nothing l.initial.self.recorded → IsCalmOrHalted p l.initial.self → IsCalmOrHalted p l.self;
       ends : EndsStopped l.initial.self → EndsStopped l.self;
       lines : list_all is_line (into_iter_items l.given-iterator) ≡ true;
       given : HasLines l.self l.yielded;

@@ -27,7 +27,7 @@ end_session-requires-clause-here g c =
     let within : c.args.session < 256 = omega arith in
     let calm = h.2 (not_halted c.args.self.now c.args.session c.requires.flags within c.if-self-session.false) in (
       h.0,
-      subst (λ (r : Recorded g.row.D.Denot). IsUnderWay g.D.Disk.observable g.D.Disk.history g.D.Disk.faults h.0 Nothing r) (sym c.stop.ensures.recorded) (c.execute.ensures.goes_on h.0 h.1 calm),
+      subst (λ (r : Recorded g.row.D.Denot). IsUnderWay g.D.Disk.meaning h.0 Nothing r) (sym c.stop.ensures.recorded) (c.execute.ensures.goes_on h.0 h.1 calm),
     )
 
 pub returns-in-Ok-clause-goes_on : goal.returns-in-Ok-clause-goes_on
@@ -48,7 +48,7 @@ returns-in-Err-clause-goes_on g c = λ p under was_calm.
     let calm = was_calm (not_halted c.args.self.now c.args.session c.requires.flags within c.if-self-session.false) in
     let items = ap (λ (r : Recorded g.row.D.Denot). r.journal.items) c.stop.ensures.recorded ∙ c.in-Err.ensures.err in
     c.end_session.ensures.goes_on p
-    (subst (λ (r : Recorded g.row.D.Denot). IsUnderWay g.D.Disk.observable g.D.Disk.history g.D.Disk.faults p Nothing r) (sym c.stop.ensures.recorded) (c.execute.ensures.goes_on p under calm))
+    (subst (λ (r : Recorded g.row.D.Denot). IsUnderWay g.D.Disk.meaning p Nothing r) (sym c.stop.ensures.recorded) (c.execute.ensures.goes_on p under calm))
     (inl (calm_same p x s items calm))
 
 pub returns-in-Err-clause-given : goal.returns-in-Err-clause-given

@@ -23,7 +23,7 @@ pub returns-then-is_err-2-clause-goes_on : goal.returns-then-is_err-2-clause-goe
 returns-then-is_err-2-clause-goes_on g c = λ p under next.
     let x = c.args.self.now.recorded in
     let m = c.make_room.new.self in
-    subst (λ (r : Recorded g.row.D.Denot). IsUnderWay g.D.Disk.observable g.D.Disk.history g.D.Disk.faults p Nothing r) (sym c.stop-then-is_err-2.ensures.recorded)
+    subst (λ (r : Recorded g.row.D.Denot). IsUnderWay g.D.Disk.meaning p Nothing r) (sym c.stop-then-is_err-2.ensures.recorded)
     (c.go_on.ensures.goes_on p (c.make_room.ensures.goes_on p under) (next_same p c.args.session c.args.line x m c.make_room.ensures.items next))
 
 pub returns-then-is_err-2-clause-settles : goal.returns-then-is_err-2-clause-settles

@@ -11,9 +11,9 @@ abbrev pub invariant-loop-session : goal.invariant-loop-session
 invariant-loop-session g l =
     record {
       flags : AreFlags l.self;
-      goes_on : (p : Beginning) → IsUnderWay g.D.Disk.observable g.D.Disk.history g.D.Disk.faults p Nothing l.initial.self.recorded → IsUnderWay g.D.Disk.observable g.D.Disk.history g.D.Disk.faults p Nothing l.self.recorded;
-      counts : (p : Beginning) → IsUnderWay g.D.Disk.observable g.D.Disk.history g.D.Disk.faults p Nothing l.initial.self.recorded → AreCounted p l.self.recorded l.waiting l.left;
-      begins_none : (p : Beginning) → IsUnderWay g.D.Disk.observable g.D.Disk.history g.D.Disk.faults p Nothing l.initial.self.recorded → BeginsNone p l.initial.self.recorded l.self.recorded;
+      goes_on : (p : Beginning) → IsUnderWay g.D.Disk.meaning p Nothing l.initial.self.recorded → IsUnderWay g.D.Disk.meaning p Nothing l.self.recorded;
+      counts : (p : Beginning) → IsUnderWay g.D.Disk.meaning p Nothing l.initial.self.recorded → AreCounted p l.self.recorded l.waiting l.left;
+      begins_none : (p : Beginning) → IsUnderWay g.D.Disk.meaning p Nothing l.initial.self.recorded → BeginsNone p l.initial.self.recorded l.self.recorded;
       gone_on : HasGoneOn l.initial.self l.self;
       given : (lines : List ScriptLine) → HasLines l.initial.self lines → HasLines l.self lines;
     }

@@ -1,6 +1,0 @@
-use Rattle.tree_nodes.specs.Levels.{row_of}
-use Rattle.db_tree.proofs.Contents.{above_if_some}
-use Rattle.db_tree.proofs.tree.DbTree.bin_entry.Goals as goal
-
-pub between-requires : goal.between-requires
-between-requires c = above_if_some c.upper_bound-high.result c.args.low.now (row_of c.args.self.now.levels 0) c.upper_bound-high.ensures

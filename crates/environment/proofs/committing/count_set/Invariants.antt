@@ -1,6 +1,0 @@
-use Rattle.std.proofs.Common.{◌≡◌, count_by, take}
-use Rattle.environment.specs.Committing.{is_set}
-use Rattle.environment.proofs.committing.count_set.Given as goal
-
-abbrev pub invariant-loop-change : goal.invariant-loop-change
-invariant-loop-change l = l.count ≡ count_by (λ c. is_set c.1) (take l.change-index l.own)
