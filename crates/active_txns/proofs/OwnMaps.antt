@@ -13,7 +13,7 @@ use Rattle.lock_table.proofs.RecordLists.{IsChangedAt, changed_here, changed_the
 use Rattle.store_model.specs.declared.record_change.RecordChange.{RecordChange}
 use Rattle.je_answers.specs.Standing.{with_at}
 use Rattle.active_txns.specs.declared.own_counts.OwnCounts.{OwnCounts}
-use Rattle.active_txns.specs.Own.{AreCounted, OwnEntries, counted, counts_at, if_counted, is_set, joined, none_counted}
+use Rattle.active_txns.specs.Own.{AreCounted, OwnEntries, counted, counts_at, if_counted, is_set, counts_added, none_counted}
 
 abbrev Changes : Type 0
 Changes = List (ℕ × RecordChange)
@@ -39,13 +39,13 @@ are_counted_at old new txn counts own list put is others n = ⊎_elim
 set_append : (xs ys : Changes) → count_by (λ c. is_set c.1) (xs ++ ys) ≡ count_by (λ c. is_set c.1) xs + count_by (λ c. is_set c.1) ys
 set_append xs ys = sum_by-append _ xs ys
 
-joined_counts : (xs ys : Changes) → joined (counted xs) (counted ys) ≡ counted (xs ++ ys)
-joined_counts xs ys = ap₂ (λ (n m : ℕ). record { len = n; set = m }) (sym (length-append xs ys)) (sym (set_append xs ys))
+added_counts : (xs ys : Changes) → counts_added (counted xs) (counted ys) ≡ counted (xs ++ ys)
+added_counts xs ys = ap₂ (λ (n m : ℕ). record { len = n; set = m }) (sym (length-append xs ys)) (sym (set_append xs ys))
 
-pub are_pushed : (old new : OwnEntries) (txn : TxnId) (counts : OwnCounts) → ((t : TxnId) → counts_at t new ≡ cond (is_same_txn txn t) (joined (counts_at txn old) counts) (counts_at t old))
+pub are_pushed : (old new : OwnEntries) (txn : TxnId) (counts : OwnCounts) → ((t : TxnId) → counts_at t new ≡ cond (is_same_txn txn t) (counts_added (counts_at txn old) counts) (counts_at t old))
     → (own : ℕ → Changes) (more : Changes) → counts ≡ counted more → AreCounted old own → AreCounted new (with_at txn.0 (own txn.0 ++ more) own)
 are_pushed old new txn counts put own more is are =
-    are_counted_at old new txn (joined (counts_at txn old) counts) own (own txn.0 ++ more) put (ap₂ joined (are txn.0) is ∙ joined_counts (own txn.0) more) (λ n e. are n)
+    are_counted_at old new txn (counts_added (counts_at txn old) counts) own (own txn.0 ++ more) put (ap₂ counts_added (are txn.0) is ∙ added_counts (own txn.0) more) (λ n e. are n)
 
 pub are_gone : (old new : OwnEntries) (txn : TxnId) → ((t : TxnId) → counts_at t new ≡ cond (is_same_txn txn t) none_counted (counts_at t old))
     → (own : ℕ → Changes) → AreCounted old own → AreCounted new (with_at txn.0 [] own)

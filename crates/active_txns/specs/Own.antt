@@ -15,11 +15,13 @@ is_set (Unset at) = false
 abbrev pub counted : List (ℕ × RecordChange) → OwnCounts
 counted cs = record { len = length cs; set = count_by (λ c. is_set c.1) cs }
 
+-- the counts of no change
 abbrev pub none_counted : OwnCounts
 none_counted = record { len = 0; set = 0 }
 
-abbrev pub joined : OwnCounts → OwnCounts → OwnCounts
-joined a b = record { len = a.len + b.len; set = a.set + b.set }
+-- the counts of changes and of more behind them
+abbrev pub counts_added : OwnCounts → OwnCounts → OwnCounts
+counts_added a b = record { len = a.len + b.len; set = a.set + b.set }
 
 -- the counts of each transaction that changed something
 abbrev pub OwnEntries : Type 0

@@ -1,6 +1,6 @@
 // The counts of changes.
 ghost use Rattle.std.specs.Prelude.{◌≡◌, count_by, IfSome};
-ghost use Rattle.active_txns.specs.Own.{counted as counts_of, is_set, joined as with_more, none_counted};
+ghost use Rattle.active_txns.specs.Own.{counted as counts_of, is_set, counts_added as with_more, none_counted};
 
 use crate::OwnCounts;
 use store_model::RecordChange;
@@ -46,7 +46,7 @@ pub fn counted(changes: &[(u32, RecordChange)]) -> OwnCounts
 }
 
 // The counts of changes and of more of them; None where a number ends.
-pub(crate) fn joined(first: OwnCounts, more: OwnCounts) -> Option<OwnCounts>
+pub(crate) fn add_counts(first: OwnCounts, more: OwnCounts) -> Option<OwnCounts>
     ensures { IfSome result (λ all. all ≡ with_more first more) }
 {
     let Some(len) = first.len.checked_add(more.len) else {

@@ -3,10 +3,10 @@ ghost use Rattle.std.specs.Prelude.{◌≡◌, ◌==◌, not, if◌then◌else�
 ghost use Rattle.je_order.specs.declared.txn_id.TxnId.{TxnId};
 ghost use Rattle.je_order.specs.Transactions.{is_same_txn};
 ghost use Rattle.lock_table.specs.Table.{at_txn};
-ghost use Rattle.active_txns.specs.Own.{counts_at, if_counted, joined as with_more, none_counted as no_changes};
+ghost use Rattle.active_txns.specs.Own.{counts_at, if_counted, counts_added as with_more, none_counted as no_changes};
 
 use crate::OwnCounts;
-use crate::counting::{joined, none_counted};
+use crate::counting::{add_counts, none_counted};
 use je_order::TxnId;
 use std::alloc::AllocError;
 use std::collections::BTreeMap;
@@ -30,7 +30,7 @@ pub(crate) fn push_at(
     ensures counts { OnOk result ((t : TxnId) → counts_at t own.new.entries ≡ (if is_same_txn txn t then with_more (counts_at txn own.old.entries) more else counts_at t own.old.entries)) }
     ensures err { OnErr result (own.new.entries ≡ own.old.entries) }
 {
-    let Some(all) = joined(read_at(own, txn), more) else {
+    let Some(all) = add_counts(read_at(own, txn), more) else {
         return Err(AllocError);
     };
     own.insert(txn, all)?;
