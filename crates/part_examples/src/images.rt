@@ -1,6 +1,6 @@
 // The images of nodes, read.
-use crate::nodes::Held::{self, Deleted, There};
 use crate::nodes;
+use crate::nodes::Held::{self, Deleted, There};
 use crate::slots::name;
 use je_lsn::{FileNo, Lsn};
 use je_order::List;
