@@ -1,29 +1,19 @@
 -- The counts of what transactions changed, after a change of their map.
-use Rattle.std.proofs.Common.{◌≡◌, ℕ, ◌+◌, ◌==◌, true, false, cond, List, [], ◌∷◌, ◌++◌, Some, None, Option, length, refl, ap, ap₂, sym, ◌∙◌, subst, ⊎_elim, arith}
-use Rattle.std.specs.Prelude.{unwrap_or, count_by}
-use Rattle.std.proofs.lemmas.Bool.{cases_Bool, cond-true, cond-false, eqb-true}
+use Rattle.std.proofs.Common.{◌≡◌, ℕ, ◌+◌, ◌==◌, false, cond, List, [], ◌∷◌, ◌++◌, refl, ap, ap₂, sym, ◌∙◌, ⊎_elim, arith}
+use Rattle.std.specs.Prelude.{count_by}
+use Rattle.std.proofs.lemmas.Bool.{cases_Bool, cond-true, cond-false}
 use Rattle.std.proofs.lemmas.Bool.Decides.{nat_tests}
 use Rattle.std.proofs.lemmas.List.{length-append}
 use Rattle.std.proofs.lemmas.List.Sums.{sum_by-append}
 use Rattle.je_order.specs.declared.txn_id.TxnId.{TxnId}
 use Rattle.je_order.specs.Transactions.{is_same_txn}
-use Rattle.je_order.proofs.TxnIds.{same_is}
-use Rattle.lock_table.specs.Table.{at_txn}
-use Rattle.lock_table.proofs.RecordLists.{IsChangedAt, changed_here, changed_there}
 use Rattle.store_model.specs.declared.record_change.RecordChange.{RecordChange}
 use Rattle.je_answers.specs.Standing.{with_at}
 use Rattle.active_txns.specs.declared.own_counts.OwnCounts.{OwnCounts}
-use Rattle.active_txns.specs.Own.{AreCounted, OwnEntries, counted, counts_at, if_counted, is_set, counts_added, none_counted}
+use Rattle.active_txns.specs.Own.{AreCounted, OwnEntries, counted, counts_at, is_set, counts_added, none_counted}
 
 abbrev Changes : Type 0
 Changes = List (ℕ × RecordChange)
-
--- one transaction's entry is another one, or none
-pub counts_put : (old new : OwnEntries) (u : TxnId) (w : Option OwnCounts) → IsChangedAt old new u w → (t : TxnId) → counts_at t new ≡ cond (is_same_txn u t) (unwrap_or w none_counted) (counts_at t old)
-counts_put old new u w c t = ⊎_elim
-    (λ h. ap (λ o. unwrap_or o none_counted) (changed_here old new u w c t h) ∙ sym (cond-true (is_same_txn u t) (unwrap_or w none_counted) (counts_at t old) h))
-    (λ h. ap (λ o. unwrap_or o none_counted) (changed_there old new u w c t h) ∙ sym (cond-false (is_same_txn u t) (unwrap_or w none_counted) (counts_at t old) h))
-    (cases_Bool (is_same_txn u t))
 
 same_either : (m n : ℕ) → (m == n) ≡ (n == m)
 same_either m n = grind (arith, nat_tests)
@@ -55,22 +45,3 @@ are_gone old new txn put own are = are_counted_at old new txn none_counted own [
 none_before : (xs ys : Changes) → none_counted ≡ counted (xs ++ ys) → none_counted ≡ counted xs
 none_before [] ys e = refl
 none_before (x ∷ xs) ys e = absurd (omega (arith, ap (λ (c : OwnCounts). c.len) e))
-
--- the changes before the last ones are all again
-pub are_back : (old new : OwnEntries) (txn : TxnId) (counts : OwnCounts) → ((t : TxnId) → counts_at t new ≡ cond (is_same_txn txn t) (if_counted (at_txn txn old) counts) (counts_at t old))
-    → (own : ℕ → Changes) (more : Changes) → counts ≡ counted (own txn.0) → AreCounted old (with_at txn.0 (own txn.0 ++ more) own) → AreCounted new own
-are_back old new txn counts put own more is are n = ⊎_elim
-    (λ e. let k : n ≡ txn.0 = eqb-true n txn.0 e in
-    put (record { 0 = n }) ∙ (cond-true (txn.0 == n) (if_counted (at_txn txn old) counts) (counts_at (record { 0 = n }) old) (same_either txn.0 n ∙ e) ∙ (back (at_txn txn old) (here ∙ ap counted (cond-true (txn.0 == txn.0) (own txn.0 ++ more) (own txn.0) (itself txn.0))) ∙ ap (λ (m : ℕ). counted (own m)) (sym k))))
-    (λ e. put (record { 0 = n }) ∙ (cond-false (txn.0 == n) (if_counted (at_txn txn old) counts) (counts_at (record { 0 = n }) old) (same_either txn.0 n ∙ e) ∙ (are n ∙ ap counted (cond-false (n == txn.0) (own txn.0 ++ more) (own n) e))))
-    (cases_Bool (n == txn.0))
-  where
-    here : unwrap_or (at_txn txn old) none_counted ≡ counted (with_at txn.0 (own txn.0 ++ more) own txn.0)
-    here = are txn.0
-
-    itself : (m : ℕ) → (m == m) ≡ true
-    itself m = grind (arith, nat_tests)
-
-    back : (o : Option OwnCounts) → unwrap_or o none_counted ≡ counted (own txn.0 ++ more) → if_counted o counts ≡ counted (own txn.0)
-    back None e = none_before (own txn.0) more e
-    back (Some old) e = is

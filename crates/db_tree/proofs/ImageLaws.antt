@@ -2,7 +2,6 @@
 use Rattle.std.proofs.Common.{◌≡◌, ◌-◌, ◌+◌, ◌++◌, ◌∷◌, [], ℕ, zero, suc, List, Bool, true, false, Option, None, Some, option_map, map, refl, ap, ap₂, sym, ◌∙◌, arith}
 use Rattle.std.specs.List.{AllByRecursion}
 use Rattle.std.specs.Map.{keys_of}
-use Rattle.std.proofs.lemmas.List.{map-append, append_assoc}
 use Rattle.je_order.specs.Edges.Edge.{At}
 use Rattle.je_order.specs.declared.name.Name.{Name}
 use Rattle.log_entry.specs.Encoding.{size_of}
@@ -68,16 +67,6 @@ image_is db level low n rows cells entry there is = is ∙ ap (λ (o : Option No
 pub all_more : (P : NodeImage → Type 0) (xs : List NodeImage) (x : NodeImage) → AllByRecursion P xs → P x → AllByRecursion P (xs ++ x ∷ [])
 all_more P [] x all is = (is, tt)
 all_more P (y ∷ xs) x all is = (all.0, all_more P xs x all.1 is)
-
--- some images were made, and those of the nodes that are left were not
-pub nodes_more : (xs more : List NodeImage) (x : NodeImage) (n : NodeAt) (left rest all : List NodeAt) → more ≡ xs ++ x ∷ [] → node_of x ≡ n → left ≡ n ∷ rest → map node_of xs ++ left ≡ all → map node_of more ++ rest ≡ all
-nodes_more xs more x n left rest all pushed is steps so_far =
-    ap (λ (l : List NodeImage). map node_of l ++ rest) pushed
-    ∙ ap (λ (l : List NodeAt). l ++ rest) (map-append node_of xs (x ∷ []))
-    ∙ append_assoc (map node_of xs) (node_of x ∷ []) rest
-    ∙ ap (λ (m : NodeAt). map node_of xs ++ m ∷ rest) is
-    ∙ ap (λ (l : List NodeAt). map node_of xs ++ l) (sym steps)
-    ∙ so_far
 
 -- ---- sizes
 

@@ -14,8 +14,6 @@ use Rattle.tree_nodes.specs.Levels.{row_of, AreParts, HasPutAt, HasRaised}
 use Rattle.db_tree.specs.Loading.{HasMore, HasLoaded, deleted_cell, has_version, GetsDeletions}
 use Rattle.db_tree.specs.Splits.{one_if}
 use Rattle.db_tree.specs.Waiting.{is_forced, waiting_of, waits_at, count_lows}
-use Rattle.node_core.specs.declared.slot.Version.{Version}
-use Rattle.node_core.specs.declared.slot.Version.TheVariants.{Deleted}
 use Rattle.node_core.specs.declared.slot.Marked.{Marked}
 use Rattle.record_map.specs.declared.cell.Cell.{Cell}
 use Rattle.record_tree.specs.LoadedSlots.{is_deletion, is_inside, shows_deletion, shows_deletion_inside}
@@ -180,13 +178,6 @@ gets_outside low high name at a outside = gets_by (λ x. false) (λ x. is_inside
     by_name : (x : Name) → (name ≡ x) ⊎ (is_eq (name_cmp name x) ≡ false) → (is_inside low high x && is_eq (name_cmp name x)) ≡ false
     by_name x (inl same) = ap (λ (t : Bool). t && is_eq (name_cmp name x)) (subst (λ (y : Name). is_inside low high y ≡ false) same outside)
     by_name x (inr apart) = ap (λ (t : Bool). is_inside low high x && t) apart ∙ and_false (is_inside low high x)
-
--- one slot: that of a record that was deleted, or another one
-pub gets_one : (low : Name) (high : Option Name) (m : Marked) (at : ℕ) (a b : List (Name × Cell)) → m.slot.version ≡ Deleted → GetsDeletions (λ x. is_inside low high x && is_eq (name_cmp m.slot.name x)) at a b →
-    GetsDeletions (shows_deletion_inside low high (m ∷ [])) at a b
-gets_one low high m at a b deleted got =
-    gets_by (λ x. is_inside low high x && is_eq (name_cmp m.slot.name x)) (shows_deletion_inside low high (m ∷ [])) at a b
-    (λ x. ap (λ (v : Version). is_inside low high x && ((is_deletion v && is_eq (name_cmp m.slot.name x)) || false)) deleted ∙ ap (λ (t : Bool). is_inside low high x && t) (or_false (is_eq (name_cmp m.slot.name x)))) got
 
 pub gets_no : (low : Name) (high : Option Name) (m : Marked) (at : ℕ) (a : List (Name × Cell)) → is_deletion m.slot.version ≡ false → GetsDeletions (shows_deletion_inside low high (m ∷ [])) at a a
 gets_no low high m at a other =

@@ -1,8 +1,7 @@
 -- Which nodes are logged where nodes are split.
 use Rattle.std.proofs.Common.{◌≡◌, ◌&&◌, ◌-◌, ◌+◌, ◌<◌, ◌≤◌, ◌++◌, ◌∷◌, not, [], ℕ, suc, List, Bool, true, false, cond, Option, None, Some, IfSome, option_copied, Bor, Less, filter, map, drop, get_or, length, refl, ap, ap₂, sym, subst, ◌∙◌, arith}
 use Rattle.std.specs.Map.{keys_of}
-use Rattle.std.proofs.lemmas.List.{map-append, append_assoc, append-nil, drop_more, drop_all}
-use Rattle.std.proofs.lemmas.List.Elements.{filter-append}
+use Rattle.std.proofs.lemmas.List.{append_assoc, append-nil, drop_more, drop_all}
 use Rattle.je_order.specs.Order.{name_cmp}
 use Rattle.je_order.specs.Edges.{is_between}
 use Rattle.je_order.specs.Edges.Edge.{At}
@@ -14,7 +13,7 @@ use Rattle.tree_nodes.specs.Levels.{row_of, slot_of}
 use Rattle.tree_nodes.proofs.LowLaws.{keys_passed}
 use Rattle.db_tree.specs.declared.node_at.NodeAt.{NodeAt}
 use Rattle.db_tree.specs.declared.node_split.NodeSplit.{NodeSplit}
-use Rattle.db_tree.specs.Waiting.{is_same_name, is_logged_before, waits_in, waiting_in, waiting_of, at_level, waiting_below, waiting_before, halves_of, root_at, logged_for}
+use Rattle.db_tree.specs.Waiting.{is_same_name, is_logged_before, waits_in, waiting_in, waiting_of, at_level, waiting_below, halves_of}
 use Rattle.db_tree.proofs.ImageLaws.{slot_names}
 use Rattle.db_tree.proofs.WaitCounts.{waiting_at_is}
 
@@ -23,16 +22,6 @@ use Rattle.db_tree.proofs.WaitCounts.{waiting_at_is}
 -- whether a node of a level waits, and is not the one that is split
 abbrev pub waits_beside : NodeRow → NodeSplit → Name → Bool
 waits_beside row split y = waits_in row y && not (is_same_name y split.low)
-
--- one low more
-pub lows_more : (p : Name → Bool) (level : ℕ) (low : Name) (left rest : List Name) (before nodes all : List NodeAt) → left ≡ low ∷ rest → nodes ≡ before ++ at_level level (filter p (low ∷ [])) →
-    before ++ at_level level (filter p left) ≡ all → nodes ++ at_level level (filter p rest) ≡ all
-lows_more p level low left rest before nodes all steps pushed so_far =
-    ap (λ (l : List NodeAt). l ++ at_level level (filter p rest)) pushed
-    ∙ append_assoc before (at_level level (filter p (low ∷ []))) (at_level level (filter p rest))
-    ∙ ap (λ (l : List NodeAt). before ++ l) (sym (ap (at_level level) (filter-append p (low ∷ []) rest) ∙ map-append (λ (y : Name). record { level = level; low = y }) (filter p (low ∷ [])) (filter p rest)))
-    ∙ ap (λ (l : List Name). before ++ at_level level (filter p l)) (sym steps)
-    ∙ so_far
 
 pub low_passes : (p : Name → Bool) (level : ℕ) (low : Name) (t : Bool) → p low ≡ t → at_level level (filter p (low ∷ [])) ≡ cond t (record { level = level; low = low } ∷ []) []
 low_passes p level low true is = ap (λ (s : Bool). at_level level (cond s (low ∷ []) [])) is
@@ -142,11 +131,3 @@ last_is (s ∷ t ∷ splits) top n at some is =
     let below : length splits ≡ length (t ∷ splits) - 1 = omega arith in
     let more : 0 < length (t ∷ splits) = omega arith in
     last_is (t ∷ splits) top (length splits) below more (is ∙ ap (λ (k : ℕ). get_or (s ∷ t ∷ splits) k top) next)
-
--- with a new root
-pub root_logged : (splits : List NodeSplit) (raised t : Bool) (waiting : List (List Name)) (before halves nodes : List NodeAt) → raised ≡ t → before ≡ waiting_before (last_of splits) splits waiting → halves ≡ before ++ halves_of 0 splits →
-    nodes ≡ halves ++ root_at (length splits) t → nodes ≡ logged_for splits raised waiting
-root_logged splits raised t waiting before halves nodes is first next last =
-    last
-    ∙ ap (λ (l : List NodeAt). l ++ root_at (length splits) t) (next ∙ ap (λ (l : List NodeAt). l ++ halves_of 0 splits) first)
-    ∙ ap (λ (s : Bool). logged_for splits s waiting) (sym is)

@@ -1,5 +1,5 @@
 -- Lows that are put on levels.
-use Rattle.std.proofs.Common.{◌≡◌, ◌∙◌, ℕ, suc, List, IsSome, Some, refl, sym, subst, arith}
+use Rattle.std.proofs.Common.{◌≡◌, ◌∙◌, ℕ, List, IsSome, Some, refl, sym, subst}
 use Rattle.je_order.specs.declared.name.Name.{Name}
 use Rattle.record_map.specs.Cells.{value_at}
 use Rattle.record_map.proofs.NameLaws.{same_gets}
@@ -12,7 +12,3 @@ pub low_put : (old new : List NodeRow) (level : ℕ) (low copy : Name) (node : N
 low_put old new level low copy node same put =
     subst (λ (y : Name). IsSome (value_at y (row_of new level))) same
     (subst IsSome (sym (put.here copy ∙ same_gets copy (Some node) (value_at copy (row_of old level)))) refl)
-
--- a low that a level has is on the level below the next one
-pub low_below : (rows : List NodeRow) (low : Name) (level : ℕ) → IsSome (value_at low (row_of rows level)) → (k : ℕ) → suc level ≡ suc k → IsSome (value_at low (row_of rows k))
-low_below rows low level there k same = subst (λ (n : ℕ). IsSome (value_at low (row_of rows n))) (omega (arith, same)) there

@@ -1,29 +1,18 @@
 -- Logging a node keeps that a tree fits its log.
-use Rattle.std.proofs.Common.{◌≡◌, ◌<◌, ◌≤◌, ◌++◌, ◌∷◌, [], ◌==◌, ℕ, zero, suc, List, Bool, true, false, cond, Option, None, Some, length, refl, ap, ap₂, sym, subst, ◌∙◌, arith, eq-eqb}
-use Rattle.std.specs.List.{AllByRecursion}
+use Rattle.std.proofs.Common.{◌≡◌, ◌≤◌, ◌++◌, ◌∷◌, [], ◌==◌, ℕ, zero, suc, List, Bool, true, false, cond, Option, None, Some, refl, ap, sym, subst, ◌∙◌, arith, eq-eqb}
 use Rattle.std.proofs.lemmas.Option.{none-some}
-use Rattle.std.proofs.lemmas.List.{get_or_past}
 use Rattle.je_order.specs.declared.name.Name.{Name}
 use Rattle.log_entry.specs.declared.entry.Entry.{Entry}
-use Rattle.record_map.specs.declared.cell.Cell.{Cell}
-use Rattle.record_map.specs.Cells.{value_at, IsRising}
+use Rattle.record_map.specs.Cells.{value_at}
 use Rattle.tree_nodes.specs.declared.node.Node.{Node}
 use Rattle.tree_nodes.specs.Nodes.{NodeRow, IsOver, earlier, logged}
 use Rattle.tree_nodes.specs.Levels.{row_of, AreParts, HasPutAt, HasMarkedAt}
-use Rattle.db_tree.specs.Images.{Placed, entry_at, IsRead}
-use Rattle.db_tree.specs.Content.{NameState, bin_image, in_image, kept_by}
+use Rattle.db_tree.specs.Images.{Placed, entry_at}
+use Rattle.db_tree.specs.Content.{NameState}
 use Rattle.db_tree.specs.NodeSteps.{mark_above}
-use Rattle.db_tree.specs.Trees.{IsTreeOf, IsTree, IsImageOf, IsHandedOn}
-use Rattle.db_tree.proofs.Longer.{longer}
-use Rattle.db_tree.proofs.Contents.{bins_show}
-use Rattle.db_tree.proofs.Children.{ins_show}
+use Rattle.db_tree.specs.Trees.{IsTreeOf, IsImageOf, IsHandedOn}
 use Rattle.db_tree.proofs.Logging.{logged as is_logged}
 use Rattle.db_tree.proofs.Records.{over_marked, earlier_below}
-
--- a node without a node above it
-pub nobody_above : (rows : List NodeRow) (level : ℕ) (low : Name) (n : Node) → length rows ≤ suc level → IsHandedOn rows level low n
-nobody_above rows level low n high p over =
-    absurd (none-some p.1 (subst (λ (row : NodeRow). value_at p.0 row ≡ Some p.1) (get_or_past rows (suc level) [] high) over.there))
 
 -- the node above a node has its mark
 pub handed_on : (old new : List NodeRow) (level : ℕ) (low : Name) (n : Node) (at : ℕ) → HasMarkedAt old new (suc level) low (mark_above n.from at) → IsHandedOn new level low n

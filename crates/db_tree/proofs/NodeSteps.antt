@@ -1,6 +1,5 @@
 -- How the nodes of a tree change, as far as their images go.
-use Rattle.std.proofs.Common.{◌≡◌, ◌⊎◌, ℕ, List, true, false, Option, None, Some, IsSome, is_some, option_map, cond, refl, ap, sym, subst, ◌∙◌, inl, inr, is_eq}
-use Rattle.std.proofs.lemmas.Bool.{true≢false}
+use Rattle.std.proofs.Common.{◌≡◌, ◌⊎◌, ℕ, List, true, false, Option, None, Some, option_map, cond, refl, ap, sym, subst, ◌∙◌, inl, inr, is_eq}
 use Rattle.std.proofs.lemmas.Option.{same_Some}
 use Rattle.std.specs.Prelude.{Box}
 use Rattle.std.specs.Global.{Global}
@@ -90,10 +89,6 @@ node_noted old mid new level low m n at was are same row there is put = record {
     by_place : (k : ℕ) (x : Name) (o : Node) → (k ≡ level → x ≡ low → ⊥) → value_at x (row_of new k) ≡ Some o → ((level ≡ k) × (low ≡ x)) ⊎ IsElsewhere level low k x → WasThere old k x o
     by_place k x o other found (inl h) = absurd (other (sym h.0) (sym h.1))
     by_place k x o other found (inr h) = same.each k x o (sym (put_elsewhere mid new level low n k x put h) ∙ found)
-
--- no node is noted where there is none
-pub none_noted : {A : Type 0} (row : NodeRow) (low : Name) → value_at low row ≡ None → IsSome (value_at low row) → A
-none_noted row low none some = absurd (true≢false (sym some ∙ ap is_some none))
 
 -- ---- cells
 

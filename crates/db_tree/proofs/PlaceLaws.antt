@@ -2,7 +2,7 @@
 use Rattle.std.proofs.Common.{◌≡◌, ◌*◌, ◌+◌, ◌≤◌, ◌++◌, ◌∷◌, [], ℕ, List, Bool, true, false, cond, Option, None, Some, IsSome, is_some, map, length, nat_lt, refl, ap, ap₂, sym, subst, ◌∙◌, arith, is_eq, ◌⊎◌, inl, inr}
 use Rattle.std.specs.BTreeMap.{insert_entry}
 use Rattle.std.specs.List.{AllByRecursion}
-use Rattle.std.proofs.lemmas.Bool.{eq-eqb, le-ltb, true≢false}
+use Rattle.std.proofs.lemmas.Bool.{eq-eqb, true≢false}
 use Rattle.std.proofs.lemmas.List.{length-map}
 use Rattle.std.proofs.lemmas.Option.{none-some}
 use Rattle.std.specs.Map.{keys_of}
@@ -24,7 +24,7 @@ use Rattle.db_tree.specs.Numbers.{IsRootNumbered, AreNewNumbered}
 use Rattle.db_tree.specs.Placing.{AreTaken, IsFilled, IsPlacedBy}
 use Rattle.db_tree.specs.Seen.{occupied}
 use Rattle.db_tree.specs.Shapes.{shape_in, AreForced, IsCellMade, IsPlaced, IsUndoable}
-use Rattle.db_tree.specs.Splits.{is_raised, lows_behind, one_if, splits_of, passes_top, has_slot, shape_behind, nodes_logged, nodes_made, made_for, logged_by, node_size}
+use Rattle.db_tree.specs.Splits.{is_raised, lows_behind, one_if, splits_of, has_slot, shape_behind, nodes_logged, made_for, logged_by, node_size}
 use Rattle.db_tree.specs.Splitting.{AreGrown}
 use Rattle.db_tree.specs.Trees.{HasCell, cell_or_fresh}
 use Rattle.db_tree.specs.Waiting.{is_among, logged_for, still_waiting, waiting_of, waiting_raised, waits_at, count_lows}
@@ -152,28 +152,6 @@ placed_from db name room old mid new nodes first second is_first is_second up fr
     (lows ∙ ap (λ (l : List NodeSplit). lows_behind l (lows_of old.levels)) is_second)
     (waits ∙ ap (λ (l : List NodeSplit). waiting_raised (is_raised l (lows_of old.levels)) (waiting_of old.levels)) is_second)
     (subst (λ (l : List NodeSplit). AreGrown l (is_raised l (lows_of old.levels)) old.levels mid.levels) is_second grown) cells filled
-
--- a name without a cell
-pub placed_new : (db fanout : ℕ) (name : Name) (room : SlotRoom) (old new : DbTree) → has_slot name (shape_in old) ≡ false → made_for (splits_of fanout name (shape_in old)) (lows_of old.levels) ≤ 64 →
-    IsPlacedBy db (splits_of fanout name (shape_in old)) name room old new → IsPlaced fanout name room old new × AreNodeImages db new.levels new.cells (nodes_logged fanout name (shape_in old)) room.images.items
-placed_new db fanout name room old new free few is = (
-  record {
-    there = is.there;
-    same = is.same;
-    kept = is.kept;
-    shape = is.shape ∙ sym (ap (λ (t : Bool). cond t (shape_in old) (shape_behind (splits_of fanout name (shape_in old)) name (shape_in old))) free);
-    sizes = is.sizes
-        ∙ sym (ap (λ (t : Bool). map (node_size (cond t (shape_in old) (shape_behind (splits_of fanout name (shape_in old)) name (shape_in old)))) (cond t [] (logged_by (splits_of fanout name (shape_in old)) (shape_in old)))) free);
-    loggable = is.loggable;
-    made = is.made ∙ sym (ap (λ (t : Bool). cond t 0 (made_for (splits_of fanout name (shape_in old)) (lows_of old.levels))) free);
-    low = not_above (ap (λ (t : Bool). cond t 0 (made_for (splits_of fanout name (shape_in old)) (lows_of old.levels))) free);
-    back = is.back;
-  },
-  subst (λ (t : Bool). AreNodeImages db new.levels new.cells (cond t [] (logged_by (splits_of fanout name (shape_in old)) (shape_in old))) room.images.items) (sym free) is.images,
-)
-  where
-    not_above : nodes_made fanout name (shape_in old) ≡ made_for (splits_of fanout name (shape_in old)) (lows_of old.levels) → passes_top fanout name (shape_in old) ≡ false
-    not_above made = le-ltb 64 (nodes_made fanout name (shape_in old)) (subst (λ (n : ℕ). n ≤ 64) (sym made) few)
 
 -- a name with a cell
 pub placed_there : (db fanout : ℕ) (name : Name) (room : SlotRoom) (tree : DbTree) → AreParts tree.levels → has_slot name (shape_in tree) ≡ true → room.splits.items ≡ [] → room.is_raised ≡ false → room.is_new ≡ false → room.images.items ≡ [] →

@@ -135,11 +135,6 @@ there_cell cells name some = by_value (value_at name cells) refl some
     by_value None is some = absurd (true≢false (sym some))
     by_value (Some cell) is some = kept_cell cells name cell is
 
--- what is committed of a cell that was logged
-pub logged_version : (value : Option (List ℕ)) (at commit : ℕ) (last : Option ℕ) (cell : Cell) → (with_logged value at commit last cell).version ≡ version_logged at value
-logged_version None at commit last cell = refl
-logged_version (Some value) at commit last cell = refl
-
 -- what is committed of a cell, logged again
 abbrev held_with : Version → Version → ℕ → NameState
 held_with version shown touched = record { version = version; shown = shown; touched = touched }

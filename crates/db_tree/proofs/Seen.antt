@@ -91,18 +91,6 @@ change_seen old new name raw change up_old up_new has is x = seen_at new x up_ne
         ∙ sym (seen_at old x up_old)
         ∙ sym (other_stays name x (change (value_at x (occupied old))) (value_at x (occupied old)) apart)
 
--- where nothing is seen of a name that no change makes seen, nothing changes
-pub none_changes : (cells : List (Name × Cell)) (name : Name) (change : Option Occupied → Option Occupied) → change None ≡ None → IsRising cells → value_at name cells ≡ None →
-    (x : Name) → value_at x (occupied cells) ≡ cond (is_eq (name_cmp name x)) (change (value_at x (occupied cells))) (value_at x (occupied cells))
-none_changes cells name change keeps up none x = by_name (same_or_other name x)
-  where
-    by_name : (name ≡ x) ⊎ (is_eq (name_cmp name x) ≡ false) → value_at x (occupied cells) ≡ cond (is_eq (name_cmp name x)) (change (value_at x (occupied cells))) (value_at x (occupied cells))
-    by_name (inl same) =
-        let equal : is_eq (name_cmp name x) ≡ true = subst (λ (y : Name). is_eq (name_cmp name y) ≡ true) same (ap is_eq (name_same name)) in
-        let here : value_at x (occupied cells) ≡ None = seen_at cells x up ∙ ap seen (subst (λ (y : Name). value_at y cells ≡ None) same none) in
-        here ∙ sym keeps ∙ sym (ap change here) ∙ sym (ap (λ (t : Bool). cond t (change (value_at x (occupied cells))) (value_at x (occupied cells))) equal)
-    by_name (inr apart) = sym (other_stays name x (change (value_at x (occupied cells))) (value_at x (occupied cells)) apart)
-
 -- ---- what is seen of a cell that changed
 
 value_seen : (o : Occupied) → value_in (if_occupied o) ≡ o.value

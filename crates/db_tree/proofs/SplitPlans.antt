@@ -1,9 +1,9 @@
 -- Which nodes are split, by what is read of them.
-use Rattle.std.proofs.Common.{◌≡◌, ◌+◌, ◌-◌, ◌<◌, ◌≤◌, ◌++◌, ◌∷◌, [], ℕ, zero, suc, List, Bool, true, false, cond, Option, None, Some, filter, length, drop, refl, ap, ap₂, sym, ◌∙◌, arith, option_map}
+use Rattle.std.proofs.Common.{◌≡◌, ◌+◌, ◌-◌, ◌<◌, ◌∷◌, [], ℕ, zero, suc, List, Bool, true, false, cond, Option, None, Some, filter, length, drop, refl, ap, ap₂, sym, ◌∙◌, arith, option_map}
 use Rattle.std.specs.Prelude.{◌/◌, nat_lt}
 use Rattle.std.specs.List.{slice_get}
 use Rattle.std.specs.Map.{keys_of}
-use Rattle.std.proofs.lemmas.List.{drop_more, drop_all, append_assoc, append-nil}
+use Rattle.std.proofs.lemmas.List.{drop_more}
 use Rattle.std.proofs.lemmas.Map.Entries.{length-keys_of}
 use Rattle.std.proofs.lemmas.Option.{none-some, same_Some, slice_get-map}
 use Rattle.je_order.specs.Edges.{is_between}
@@ -78,29 +78,6 @@ splits_here : (fanout : ℕ) (x : Name) (cells : List (Name × Cell)) (lows : Li
 splits_here fanout x cells lows level split within is =
     ap (splits_from fanout x (slot_names cells lows level)) (levels_left lows level within)
     ∙ ap₂ (λ (s : Option NodeSplit) (names : List Name). then_above s (splits_from fanout x names (drop (level + 1) lows))) (sym is) (names_above cells lows level)
-
--- one split more
-pub splits_step : (fanout : ℕ) (x : Name) (cells : List (Name × Cell)) (lows : List (List Name)) (level : ℕ) (split : NodeSplit) (found more all : List NodeSplit) → level < length lows →
-    Some split ≡ split_over fanout x (slot_names cells lows level) (lows_at lows level) → more ≡ found ++ split ∷ [] →
-    found ++ splits_from fanout x (slot_names cells lows level) (drop level lows) ≡ all → more ++ splits_from fanout x (slot_names cells lows (level + 1)) (drop (level + 1) lows) ≡ all
-splits_step fanout x cells lows level split found more all within is pushed so_far =
-    ap (λ (l : List NodeSplit). l ++ above) pushed ∙ append_assoc found (split ∷ []) above ∙ ap (λ (l : List NodeSplit). found ++ l) (sym (splits_here fanout x cells lows level (Some split) within is)) ∙ so_far
-  where
-    above : List NodeSplit
-    above = splits_from fanout x (slot_names cells lows (level + 1)) (drop (level + 1) lows)
-
--- no split more
-pub splits_stop : (fanout : ℕ) (x : Name) (cells : List (Name × Cell)) (lows : List (List Name)) (level : ℕ) (found all : List NodeSplit) → level < length lows →
-    None ≡ split_over fanout x (slot_names cells lows level) (lows_at lows level) →
-    found ++ splits_from fanout x (slot_names cells lows level) (drop level lows) ≡ all → found ≡ all
-splits_stop fanout x cells lows level found all within is so_far =
-    sym (append-nil found) ∙ ap (λ (l : List NodeSplit). found ++ l) (sym (splits_here fanout x cells lows level None within is)) ∙ so_far
-
--- the top was split
-pub splits_end : (fanout : ℕ) (x : Name) (cells : List (Name × Cell)) (lows : List (List Name)) (level : ℕ) (found all : List NodeSplit) → length lows ≤ level →
-    found ++ splits_from fanout x (slot_names cells lows level) (drop level lows) ≡ all → found ≡ all
-splits_end fanout x cells lows level found all past so_far =
-    sym (append-nil found) ∙ ap (λ (l : List (List Name)). found ++ splits_from fanout x (slot_names cells lows level) l) (sym (drop_all level lows past)) ∙ so_far
 
 -- ---- a count that is wanted only from the fanout on
 

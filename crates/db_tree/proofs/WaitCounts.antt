@@ -262,9 +262,5 @@ set_fewer old new level low n was are there put quiet = by_value (value_at low (
     by_value None is some = absurd (true≢false (sym some))
     by_value (Some m) is some = put_fewer old new level low m n was are is put quiet
 
--- counts that rise step by step, and fall at the end
-pub few_last : (a b c d m n k : ℕ) → b ≤ a + m → c ≤ b + n → d ≤ c → m + n ≤ k → d ≤ a + k
-few_last a b c d m n k first next last at_most = omega (arith, first, next, last, at_most)
-
 pub both_few : (m n a b : ℕ) → m ≤ a → n ≤ b → m + n ≤ a + b
 both_few m n a b first next = omega (arith, first, next)

@@ -18,7 +18,7 @@ use Rattle.tree_nodes.specs.Lows.{lows_of, lows_at, with_low, with_root}
 use Rattle.tree_nodes.proofs.LowLaws.{lows_at_is}
 use Rattle.db_tree.specs.NodeImages.{number_in, number_of}
 use Rattle.db_tree.specs.Shapes.{AreAlike}
-use Rattle.db_tree.specs.Waiting.{is_forced, waits_in, waits_at, waiting_in, waiting_of, waiting_raised}
+use Rattle.db_tree.specs.Waiting.{is_forced, waits_in, waits_at, waiting_in, waiting_of}
 use Rattle.tree_nodes.proofs.RisingLists.{same_lists}
 use Rattle.db_tree.proofs.SplitLaws.{level_cases}
 
@@ -213,10 +213,6 @@ pub raised_waits : {X E : Type 0} (r : Result X E) (old new : List NodeRow) (roo
     OnOk r (waiting_of new ≡ waiting_of old ++ [] ∷ [])
 raised_waits (Ok x) old new root quiet has lows front = quiet_root_waits old new root quiet has lows front
 raised_waits (Err e) old new root quiet has lows front = tt
-
--- with a new root or without one
-pub grown_waits : (t raised : Bool) (old mid : List (List Name)) → raised ≡ t → mid ≡ waiting_raised t old → mid ≡ waiting_raised raised old
-grown_waits t raised old mid is grown = grown ∙ ap (λ (s : Bool). waiting_raised s old) (sym is)
 
 -- ---- numbers
 

@@ -115,16 +115,6 @@ for_one old new db tree next there has noted d = subst (λ (b : Bool). IsNotedIf
     by_number false is =
         subst (λ (b : Bool). IsNotedIf b (get nat_cmp old d) (get nat_cmp new d)) (sym is) (has d ∙ ap (λ (b : Bool). cond b (Some next) (get nat_cmp old d)) is)
 
--- a database has no tree
-pub for_no_tree : (forest : BTreeMap ℕ DbTree) (db : ℕ) → None ≡ get nat_cmp forest db → AreNotedFor (db ∷ []) forest forest
-for_no_tree forest db none d = subst (λ (b : Bool). IsNotedIf b (get nat_cmp forest d) (get nat_cmp forest d)) (sym (or_false (is_eq (nat_cmp db d)))) (by_number (is_eq (nat_cmp db d)) refl)
-  where
-    by_number : (b : Bool) → is_eq (nat_cmp db d) ≡ b → IsNotedIf (is_eq (nat_cmp db d)) (get nat_cmp forest d) (get nat_cmp forest d)
-    by_number true is =
-        subst (λ (b : Bool). IsNotedIf b (get nat_cmp forest d) (get nat_cmp forest d)) (sym is)
-        (subst (λ (o : Option DbTree). IsNotedOne o o) (none ∙ ap (λ (e : ℕ). get nat_cmp forest e) (nat_same db d is)) tt)
-    by_number false is = subst (λ (b : Bool). IsNotedIf b (get nat_cmp forest d) (get nat_cmp forest d)) (sym is) refl
-
 -- ---- the numbers of all databases
 
 abbrev pub HasNumber : List ℕ → ℕ × DbTree → Type 0

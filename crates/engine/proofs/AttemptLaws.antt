@@ -71,10 +71,6 @@ alone_changes p session call none is =
     ap (λ (r : Option Answer). changes_of r (alone p) session call) (early_none p session call none is)
     ∙ unless_refused (late_refusal (alone p) session call) p session call is
 
--- after a fault it is to commit nothing
-pub fault_changes : (p : Alone) (session : ℕ) (call : Call) (first : Fault) → p.fault ≡ Some first → changes_of (early_refusal (alone p) session call) (alone p) session call ≡ []
-fault_changes p session call first is = ap (λ (f : Option Fault). changes_of (or_refusal (fault_refusal f) (txn_refusal call None)) (alone p) session call) is
-
 -- ---- attempts
 
 pub tried_refused : (changes : List Change) → tried changes IsRefused ≡ []

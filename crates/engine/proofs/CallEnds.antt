@@ -13,7 +13,7 @@ use Rattle.store_model.specs.declared.record_change.RecordChange.{RecordChange}
 use Rattle.store_model.specs.declared.record_change.RecordChange.TheVariants.{Set, Unset}
 use Rattle.store_model.specs.declared.answer.Fault.{Fault}
 use Rattle.store_model.specs.declared.answer.Answer.{Answer}
-use Rattle.store_model.specs.declared.answer.Answer.TheVariants.{NoDatabase, Logged, LogFull, IdsEnded, DiskFault, Invalid}
+use Rattle.store_model.specs.declared.answer.Answer.TheVariants.{NoDatabase, Logged, LogFull, IdsEnded, DiskFault}
 use Rattle.store_model.specs.declared.index.Index.{Index}
 use Rattle.store_model.specs.Evaluation.{Outcome, answers, changes_by, emptying, evaluation, evaluation_in, indexing}
 use Rattle.store_model.specs.Indexes.{Numbered, all_changes}
@@ -395,13 +395,6 @@ ids_ends known p session call planned none is has log low over =
     some_end known p session call planned IdsEnded (drawn_alone p) none is log (omega (arith, last_db, low))
     (subst (λ (l : Option Answer). IsLogged l (Logged (p.commits + 1)) IdsEnded)
     (sym (past (p.last_db + made_by (log.change ∷ log.more)) (omega (arith, last, over)))) refl) refl
-
--- after a fault
-pub invalid_ends : (limit : Option Answer) (p : Alone) (session : ℕ) (call : Call) (first : Fault) → p.fault ≡ Some first → EndsAlone limit p session call (Invalid first) p
-invalid_ends limit p session call first is = record {
-  answers = subst (λ (f : Option Fault). IsAnsweredAlone f limit p session call (Invalid first)) (sym is) refl;
-  leaves = ap (λ (f : Option Fault). after_alone f call p session (Invalid first)) is;
-}
 
 -- no number is left for a transaction
 no_number : (last : ℕ) → LAST_TXN ≤ last → nat_lt last LAST_TXN ≡ false

@@ -1,7 +1,6 @@
 -- Where a call leaves the model that is to log changes, by what becomes of them.
-use Rattle.std.proofs.Common.{◌≡◌, ℕ, List, [], ◌∷◌, Option, None, Some, refl, ap, ◌∙◌}
+use Rattle.std.proofs.Common.{◌≡◌, ℕ, List, [], ◌∷◌, Option, None, Some, refl, ap}
 use Rattle.store_model.specs.declared.answer.Answer.{Answer}
-use Rattle.store_model.specs.declared.answer.Fault.{Fault}
 use Rattle.store_model.specs.declared.call.Call.{Call}
 use Rattle.store_model.specs.declared.call.Call.TheVariants.{List as Lists, Create, CreateIndex, Remove, Rename, Truncate, Get, GetBoth, Put, Delete}
 use Rattle.store_model.specs.declared.change.Change.{Change}
@@ -9,10 +8,9 @@ use Rattle.store_model.specs.declared.record_change.RecordChange.{RecordChange}
 use Rattle.store_model.specs.Evaluation.{Outcome}
 use Rattle.db_catalog.specs.Planning.{outcome_unless}
 use Rattle.je_answers.specs.Views.{Target, target_of}
-use Rattle.je_answers.specs.Refusals.{late_refusal}
 use Rattle.je_answers.specs.After.{fate_of}
-use Rattle.je_answers.specs.Alone.{Alone, IsAutoCommitted, after_alone, alone, changes_alone, changes_of_call, evaluated_alone, evaluated_on, fate_alone, performed_alone, target_alone}
-use Rattle.txn_core.specs.Planning.{outcome_alone, outcome_on, performed_outcome}
+use Rattle.je_answers.specs.Alone.{Alone, IsAutoCommitted, alone, changes_alone, changes_of_call, evaluated_on, fate_alone, performed_alone, target_alone}
+use Rattle.txn_core.specs.Planning.{outcome_on, performed_outcome}
 
 -- a call that changes something was not refused
 not_refused : (late : Option Answer) (o : Outcome) (change : Change) (more : List Change) → (outcome_unless late o).changes ≡ change ∷ more → (late ≡ None) × (o.changes ≡ change ∷ more)
@@ -42,11 +40,3 @@ performed (GetBoth db key value rmw) p session answer change more auto is = on_t
 performed (Put db key value mode) p session answer change more auto is = on_target (target_of (alone p) session (Put db key value mode)) (Put db key value mode) p answer change more is
 performed (Delete db key) p session answer change more auto is = on_target (target_of (alone p) session (Delete db key)) (Delete db key) p answer change more is
 performed call p session answer change more auto is = absurd auto
-
--- whatever it answers
-pub leaves_logged : (p : Alone) (session : ℕ) (call : Call) (change : Change) (more : List Change) → p.fault ≡ None → IsAutoCommitted call → (outcome_alone p session call).changes ≡ change ∷ more → (answer : Answer) →
-    after_alone p.fault call p session answer ≡ fate_alone (fate_of answer) (change ∷ more) p
-leaves_logged p session call change more none auto is answer =
-    let some = not_refused (late_refusal (alone p) session call) (performed_outcome p session call) change more is in
-    ap (λ (f : Option Fault). after_alone f call p session answer) none ∙ ap (λ (r : Option Answer). evaluated_alone r call p session answer) some.0
-    ∙ performed call p session answer change more auto some.1

@@ -27,7 +27,6 @@ use Rattle.log_buffer.specs.Growth.{longer}
 use Rattle.log_replay.specs.Rows.{RowChange, Rows, rows_changed}
 use Rattle.log_replay.specs.Kept.{all_numbered as kept_all_numbered, numbered as kept_numbered}
 use Rattle.log_replay.specs.Logging.{catalog_row_change, number_named, record_named, row_changes}
-use Rattle.log_replay.proofs.ListLaws.{all_of_map}
 use Rattle.record_tree.specs.declared.tree_change.TreeChange.{TreeChange}
 use Rattle.record_tree.specs.Logged.{LogsTransaction}
 use Rattle.txn_core.specs.Planning.{row_by}
@@ -85,13 +84,6 @@ in_catalog last_db (MakeIndex db index) rows is = catalog_only (logged_as (recor
 in_catalog last_db (Remove db) rows is = catalog_only (logged_as (record_named rows) (last_db + 1) (Remove db))
 in_catalog last_db (Rename db to) rows is = catalog_only (logged_as (record_named rows) (last_db + 1) (Rename db to))
 in_catalog last_db (Empty db) rows is = catalog_only (logged_as (record_named rows) (last_db + 1) (Empty db))
-
--- what a change of the catalog logs is of the catalog's names
-pub planned_in_catalog : (rows : Rows) (last_db : ℕ) (change : Change) (planned : List TreeChange) (dropped : Option ℕ) → IsOfCatalog change → ArePlanned rows last_db change [] planned dropped →
-    AllByRecursion (λ (c : TreeChange). c.db ≡ 0) planned
-planned_in_catalog rows last_db change planned dropped of_catalog are =
-    let logs : map (row_by 0) planned ≡ row_changes 0 last_db change rows = are.logs ∙ append-nil (row_changes 0 last_db change rows) in
-    all_of_map (row_by 0) (λ (r : RowChange). r.db ≡ 0) planned (subst (AllByRecursion (λ (r : RowChange). r.db ≡ 0)) (sym logs) (in_catalog last_db change rows of_catalog))
 
 -- ---- a database that nobody uses
 

@@ -9,9 +9,7 @@ use Rattle.std.proofs.lemmas.Bool.Decides.{nat_tests}
 use Rattle.std.proofs.lemmas.List.{take_all}
 use Rattle.std.proofs.lemmas.Map.Keys.{IsStrictlyIncreasing-from_sorted, sorted_from_strictly_increasing}
 use Rattle.je_bytes.specs.Reading.{AreBytes}
-use Rattle.je_disk.specs.Moments.{History, Passes, now}
-use Rattle.je_disk.specs.States.{Files, State, content, put_at}
-use Rattle.je_disk.proofs.MomentLaws.{passes_then, passes_weaken}
+use Rattle.je_disk.specs.States.{Files, content, put_at}
 use Rattle.log_entry.specs.declared.entry.Entry.{Entry}
 use Rattle.log_entry.specs.Prefix.{last_from}
 use Rattle.je_lsn.specs.Naming.{last_file}
@@ -368,10 +366,3 @@ stops_earlier observable files before mid after (Unreadable corruption) earlier 
 stops_earlier observable files before mid after (WrongIndex name) earlier later stops = stops
 stops_earlier observable files before mid after IdsEnded earlier later stops = stops
 stops_earlier observable files before mid after Memory earlier later stops = tt
-
--- a call that passes nothing new goes on from a state that is still the one at entry
-pub passes_on : (entry middle new : History) → now middle ≡ now entry → Passes entry middle (λ s. s ≡ now entry) → Passes middle new (λ s. s ≡ now middle)
-    → Passes entry new (λ s. s ≡ now entry)
-passes_on entry middle new same first second =
-    passes_then entry middle new (λ (s : State). s ≡ now entry) first
-    (passes_weaken middle new (λ (s : State). s ≡ now middle) (λ (s : State). s ≡ now entry) (λ s is. is ∙ same) second)

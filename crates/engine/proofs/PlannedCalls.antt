@@ -1,8 +1,8 @@
 -- What calls plan to log: changes of which all but the first are of records. What they leave of the records and of the numbers of databases.
-use Rattle.std.proofs.Common.{◌≡◌, ℕ, ◌<◌, ◌≤◌, ◌^◌, ◌==◌, ◌||◌, nat_lt, arith, map, refl, sym, Bool, true, false, cond, List, [], ◌∷◌, Option, None, Some, ap, subst, ◌∙◌}
+use Rattle.std.proofs.Common.{◌≡◌, ℕ, ◌<◌, ◌≤◌, ◌^◌, ◌==◌, ◌||◌, arith, map, refl, sym, Bool, true, false, cond, List, [], ◌∷◌, Option, None, Some, ap, subst, ◌∙◌}
 use Rattle.std.specs.Prelude.{IfSome}
 use Rattle.std.specs.List.{AllByRecursion, list_any}
-use Rattle.std.proofs.lemmas.Bool.{and_parts, eq-eqb, eqb-true, ltb-true, ne_eqb, or_from, or_left, or_right}
+use Rattle.std.proofs.lemmas.Bool.{eq-eqb, ne_eqb, or_from, or_left, or_right}
 use mathlib.Core.Path.{fun_ext}
 use Rattle.store_model.specs.declared.answer.Answer.{Answer}
 use Rattle.store_model.specs.declared.call.Call.{Call}
@@ -140,11 +140,6 @@ none_named last_db d (r ∷ rows) above all =
     or_from (catalog_number r.1 == d) (list_any (λ n. n == d) (map number_of_row rows)) (ne_eqb (catalog_number r.1) d (λ e. let low : catalog_number r.1 ≤ last_db = all.0 in absurd (omega (arith, e, low, above))))
     (none_named last_db d rows above all.1)
 
--- a number that was not allocated is in no catalog
-pub later_is_new : (rows : Rows) (last_db d : ℕ) → IsSound rows last_db → last_db < d → has_number (numbers_of rows) d ≡ false
-later_is_new rows last_db d sound above =
-    or_from (d == 0) (list_any (λ n. n == d) (numbers_of rows)) (ne_eqb d 0 (λ e. absurd (omega (arith, e, above)))) (none_named last_db d (rows 0) above sound.numbers)
-
 each_makes : (P : ℕ → Type 0) (changes : List TreeChange) → ((d : ℕ) → is_made d changes ≡ true → P d) → AllByRecursion (λ e. IfSome e.makes P) changes
 each_makes P [] made = tt
 each_makes P (c ∷ changes) made = (by_makes c.makes refl, each_makes P changes (λ d is. made d (or_right (makes_db d c.makes) (is_made d changes) is)))
@@ -152,14 +147,3 @@ each_makes P (c ∷ changes) made = (by_makes c.makes refl, each_makes P changes
     by_makes : (o : Option ℕ) → c.makes ≡ o → IfSome o P
     by_makes None is = tt
     by_makes (Some d) is = made d (or_left (makes_db d c.makes) (is_made d changes) (ap (makes_db d) is ∙ eq-eqb d d refl))
-
--- each database that planned changes make is a new one
-pub made_are_new : (c : Contents) (p : Alone) (session : ℕ) (call : Call) (planned : PlannedChanges) → IsSound c.rows c.last_db → IsPlannedLog (known c) p session call planned →
-    planned.last_db < 2 ^ 32 → AllByRecursion (λ e. IfSome e.makes (λ d. has_number (numbers_of c.rows) d ≡ false)) planned.changes.items
-made_are_new c p session call planned sound l fits =
-    each_makes (λ d. has_number (numbers_of c.rows) d ≡ false) planned.changes.items
-    (λ d is.
-    let parts = and_parts (nat_lt c.last_db planned.last_db) (d == planned.last_db) (sym (l.made fits d) ∙ is) in
-    let above = ltb-true c.last_db planned.last_db parts.0 in
-    let at = eqb-true d planned.last_db parts.1 in
-    later_is_new c.rows c.last_db d sound (omega (arith, above, at)))

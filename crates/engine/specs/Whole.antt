@@ -1,16 +1,16 @@
 -- An engine as one value. Users speak of it by these alone; what it is made of may change below them.
-use Rattle.std.specs.Prelude.{ℕ, suc, ◌≡◌, ◌≤◌, ◌<◌, ◌^◌, ◌+◌, ◌++◌, ◌∷◌, [], List, Option, None, Bool, Result, Ok, Err, true, false, length, map, if◌then◌else◌}
+use Rattle.std.specs.Prelude.{ℕ, suc, ◌≡◌, ◌≤◌, ◌<◌, ◌^◌, ◌+◌, ◌++◌, ◌∷◌, [], List, Option, None, Bool, Result, Ok, Err, true, length, map, if◌then◌else◌}
 use Rattle.std.specs.declared.alloc.AllocError.{AllocError}
 use Rattle.je_disk.specs.States.{Files, State, synced_crash_states}
 use Rattle.je_disk.specs.Moments.{History, now}
 use Rattle.store_model.specs.declared.answer.Answer.{Answer}
-use Rattle.store_model.specs.declared.answer.Answer.TheVariants.{Done, DiskFault, Logged}
+use Rattle.store_model.specs.declared.answer.Answer.TheVariants.{DiskFault, Logged}
 use Rattle.store_model.specs.declared.call.Call.{Call}
 use Rattle.store_model.specs.declared.event.Event.{Event}
-use Rattle.store_model.specs.declared.event.Event.TheVariants.{Call as Called, SyncBegin, SyncEnd}
+use Rattle.store_model.specs.declared.event.Event.TheVariants.{Call as Called}
 use Rattle.store_model.specs.declared.store.Store.{Store}
 use Rattle.je_answers.specs.Standing.{Standing}
-use Rattle.je_answers.specs.Events.{IsAnswered, IsSyncBegun, IsSyncEnded}
+use Rattle.je_answers.specs.Events.{IsAnswered}
 use Rattle.je_answers.specs.After.{after_event}
 use Rattle.je_answers.specs.Journal.{changes_by}
 use Rattle.log_file.specs.Log.{Log}
@@ -161,19 +161,6 @@ module _ {D : Type 0} where
   abbrev pub GoesOnSafely : ℕ → Standing → History → History → Engine D → List Event → ℕ → ℕ → Call → Result Answer AllocError → Type 0
   GoesOnSafely most st start history engine journal session line call (Ok answer) = IsGuarded most st start history engine (journal ++ Called session line call answer [] ∷ [])
   GoesOnSafely most st start history engine journal session line call (Err error) = IsGuarded most st start history engine journal
-
-  -- a sync began, or the disk failed
-  abbrev pub BeginsSync : ℕ → Bool → State → Engine D → Standing → Answer → Type 0
-  BeginsSync most observable state engine st answer = IsSyncBegun None answer × IsAt most observable state engine (after_event st (SyncBegin answer))
-
-  -- a sync began, of all that was logged, or the disk failed
-  abbrev pub BeginsSafely : ℕ → Standing → History → History → Engine D → List Event → Bool → Type 0
-  BeginsSafely most st start history engine journal true = IsGuarded most st start history engine (journal ++ SyncBegin Done ∷ [])
-  BeginsSafely most st start history engine journal false = IsGuarded most st start history engine (journal ++ SyncBegin DiskFault ∷ [])
-
-  -- a sync made durable the commits as it began, or the disk failed
-  abbrev pub EndsSync : ℕ → Bool → State → Engine D → Standing → Answer → Type 0
-  EndsSync most observable state engine st answer = IsSyncEnded None st.begun answer × IsAt most observable state engine (after_event st (SyncEnd answer))
 
   -- an engine was opened: the model starts from what the files mean, and the log goes on in the last of them
   pub record IsOpenedAt (most : ℕ) (observable : Bool) (files : Files) (state : State) (engine : Engine D) (opening : Store) (st : Standing) : Type 0 where

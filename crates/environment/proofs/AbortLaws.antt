@@ -8,7 +8,7 @@ use Rattle.store_model.specs.declared.call.Call.TheVariants.{Abort}
 use Rattle.store_model.specs.Refusals.{or_refusal}
 use Rattle.je_answers.specs.declared.active.Active.{Active}
 use Rattle.je_answers.specs.Standing.{Standing, active_of}
-use Rattle.je_answers.specs.Refusals.{early_refusal, late_refusal, number_refusal, txn_refusal}
+use Rattle.je_answers.specs.Refusals.{late_refusal, number_refusal}
 use Rattle.je_answers.specs.Events.{IsEvaluated}
 use Rattle.je_answers.specs.After.{after_evaluated, ended_if_any}
 use Rattle.je_answers.specs.Journal.{changes_evaluated}
@@ -21,15 +21,7 @@ use Rattle.engine.specs.declared.kept.Kept.{Kept}
 use Rattle.environment.specs.Steps.{HasCome, HasStepped, PerformsAnswer, StandsAt}
 use Rattle.environment.specs.Whole.{CanGoOn, disk_of}
 use Rattle.environment.proofs.Answering.{within_more}
-use Rattle.environment.proofs.EarlyLaws.{not_early}
 use Rattle.environment.proofs.EndingLaws.{abandoned, abandoned_near, ended_fault, found_session}
-
--- only a session with a transaction gets there
-pub abort_has : (st : Standing) (session : ℕ) → early_refusal st session Abort ≡ None → active_of session st.actives ≡ None → ⊥
-abort_has st session early none = absurd (by (sym (ap (txn_refusal Abort) none) ∙ (not_early st session Abort early).txn))
-  where
-    by : txn_refusal Abort None ≡ None → ⊥
-    by h = absurd cc
 
 -- and nothing refuses it late
 abort_late : (st : Standing) (session : ℕ) (a : Active) → active_of session st.actives ≡ Some a → late_refusal st session Abort ≡ None

@@ -242,12 +242,6 @@ module _ {D : Type 0} (log : LogBuffer D) (fanout last : ℕ) (changes : List Tr
   limit_met Fault works placed is full ended limit = absurd limit
   limit_met Memory works placed is full ended limit = absurd limit
 
--- where no slot was made a limit is that of levels
-pub high_met : {D : Type 0} (log : LogBuffer D) (fanout last : ℕ) (changes : List TreeChange) (owed : ℕ) (shapes : Shapes) (e : TreeErr) → has_failed log ≡ false → (e ≡ IdsEnded) ⊎ (e ≡ Memory) →
-    (e ≡ IdsEnded → are_too_high fanout shapes changes ≡ true) → IsLimit e → limit_of log fanout last shapes changes owed ≡ Some e
-high_met log fanout last changes owed shapes e works (inl is) high limit = limit_high log fanout last changes owed shapes works (high is) ∙ ap Some (sym is)
-high_met log fanout last changes owed shapes e works (inr is) high limit = absurd (subst IsLimit is limit)
-
 pub never_fault : (e : TreeErr) → (e ≡ IdsEnded) ⊎ (e ≡ Memory) → e ≡ Fault → ⊥
 never_fault e (inl is) fault = apart (sym is ∙ fault)
   where

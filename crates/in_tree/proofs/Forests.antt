@@ -1,5 +1,5 @@
 -- How the trees of all databases change where that of one does.
-use Rattle.std.proofs.Common.{◌≡◌, ◌==◌, ◌&&◌, ◌⊎◌, ℕ, [], Bool, true, false, cond, Option, None, Some, IsSome, is_some, refl, ap, sym, subst, ◌∙◌, inl, inr, Less, Equal, Greater, is_eq, arith}
+use Rattle.std.proofs.Common.{◌≡◌, ◌==◌, ◌&&◌, ◌⊎◌, ℕ, Bool, true, false, cond, Option, Some, IsSome, is_some, refl, ap, sym, subst, ◌∙◌, inl, inr, Less, Equal, Greater, is_eq, arith}
 use Rattle.std.specs.Ordering.{nat_cmp}
 use Rattle.std.specs.Cmp.{nat_cmp_is}
 use Rattle.std.specs.BTreeMap.{get}
@@ -103,37 +103,9 @@ forest_rises old new db o has up d rises = by_number (number_cases db d)
         (subst (λ (t : Option DbTree). IsRising (occupied (cells_of t))) (sym (replaced old new db o has)) up)
     by_number (inr apart) = subst (λ (t : Option DbTree). IsRising (occupied (cells_of t))) (sym (others old new db o has d apart.1)) rises
 
--- what is seen where the tree of a database goes
-pub forest_without : (old new : Forest) (db : ℕ) → Replaces old new db None → (d : ℕ) → cells_seen new d ≡ cond (d == db) [] (cells_seen old d)
-forest_without old new db has d = by_number (number_cases db d)
-  where
-    by_number : (db ≡ d) ⊎ ((d == db ≡ false) × (is_eq (nat_cmp db d) ≡ false)) → cells_seen new d ≡ cond (d == db) [] (cells_seen old d)
-    by_number (inl is) =
-        subst (λ (e : ℕ). cells_seen new e ≡ cond (e == db) [] (cells_seen old e)) is
-        (ap (λ (t : Option DbTree). occupied (cells_of t)) (replaced old new db None has) ∙ sym (ap (λ (t : Bool). cond t [] (cells_seen old db)) (eq-eqb db db refl)))
-    by_number (inr apart) = ap (λ (t : Option DbTree). occupied (cells_of t)) (others old new db None has d apart.1) ∙ sym (ap (λ (t : Bool). cond t [] (cells_seen old d)) apart.0)
-
 -- two numbers that a test tells apart
 pub apart_numbers : (a b : ℕ) → is_eq (nat_cmp a b) ≡ false → a ≡ b → ⊥
 apart_numbers a b apart same = absurd (true≢false (sym (number_same b) ∙ sym (ap (λ (n : ℕ). is_eq (nat_cmp n b)) same) ∙ apart))
-
--- each other database has what it had
-pub forest_others : (old new : Forest) (db : ℕ) (o : Option DbTree) → Replaces old new db o → (d : ℕ) → d == db ≡ false → get nat_cmp new d ≡ get nat_cmp old d
-forest_others old new db o has d apart = by_number (number_cases db d)
-  where
-    by_number : (db ≡ d) ⊎ ((d == db ≡ false) × (is_eq (nat_cmp db d) ≡ false)) → get nat_cmp new d ≡ get nat_cmp old d
-    by_number (inl is) = absurd (true≢false (sym (eq-eqb d db (sym is)) ∙ apart))
-    by_number (inr other) = others old new db o has d other.1
-
--- a tree goes
-pub forest_gone : (old new : Forest) (db : ℕ) → Replaces old new db None → (d : ℕ) → get nat_cmp new d ≡ cond (d == db) None (get nat_cmp old d)
-forest_gone old new db has d = by_number (number_cases db d)
-  where
-    by_number : (db ≡ d) ⊎ ((d == db ≡ false) × (is_eq (nat_cmp db d) ≡ false)) → get nat_cmp new d ≡ cond (d == db) None (get nat_cmp old d)
-    by_number (inl is) =
-        subst (λ (e : ℕ). get nat_cmp new e ≡ cond (e == db) None (get nat_cmp old e)) is
-        (replaced old new db None has ∙ sym (ap (λ (t : Bool). cond t None (get nat_cmp old db)) (eq-eqb db db refl)))
-    by_number (inr apart) = others old new db None has d apart.1 ∙ sym (ap (λ (t : Bool). cond t None (get nat_cmp old d)) apart.0)
 
 -- a tree is what it was before
 pub forest_back : (before old new : Forest) (db : ℕ) (t : DbTree) (o : Option DbTree) → get nat_cmp before db ≡ Some t → Replaces before old db o → Replaces old new db (Some t) → IsSameForest before new

@@ -50,3 +50,5 @@ pub mod FillGrown
 pub mod MarksLeft
 -- Nodes that are split for a name's slot leave BINs dirty exactly where they have not their last images' content.
 pub mod SplitExact
+-- The records of cells are the occupied names with committed data.
+pub mod RecordCounts

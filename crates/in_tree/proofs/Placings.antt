@@ -1,5 +1,5 @@
 -- Names of changes get their slots, change by change.
-use Rattle.std.proofs.Common.{◌≡◌, ◌≤◌, ◌<◌, ◌+◌, ◌-◌, ◌*◌, ◌^◌, ◌==◌, ◌||◌, ◌++◌, ◌⊎◌, ℕ, List, [], ◌∷◌, Bool, true, false, cond, Option, None, Some, IsSome, is_some, map, length, take, drop, get_or, min, refl, ap, ap₂, sym, subst, ◌∙◌, inl, inr, arith}
+use Rattle.std.proofs.Common.{◌≡◌, ◌≤◌, ◌<◌, ◌+◌, ◌-◌, ◌*◌, ◌^◌, ◌==◌, ◌||◌, ◌++◌, ◌⊎◌, ℕ, List, [], ◌∷◌, Bool, true, false, cond, Option, Some, IsSome, is_some, map, length, take, drop, get_or, min, refl, ap, ap₂, sym, subst, ◌∙◌, inl, inr, arith}
 use mathlib.Core.Path.{fun_ext}
 use Rattle.std.specs.Ordering.{is_eq, nat_cmp}
 use Rattle.std.specs.BTreeMap.{get}
@@ -59,13 +59,6 @@ taken_back fanout db x room before old new tree next there has levels cells plac
 
     undo : IsUndoable x room placed.tree tree
     undo = subst (λ (t : DbTree). IsUndoable x room placed.tree t) is_tree placed.placed.back
-
--- it had a tree, so no place was there to take a slot back from
-pub nothing_back : (fanout db : ℕ) (x : Name) (room : SlotRoom) (before old : Forest) → None ≡ get nat_cmp old db → IsPlacedIn fanout db x room before old → ⊥
-nothing_back fanout db x room before old none placed = apart placed.next (none ∙ replaced before old db (Some placed.next) placed.has)
-  where
-    apart : (t : DbTree) → None ≡ Some t → ⊥
-    apart t h = cc
 
 pub was_shape : (fanout : ℕ) (c : TreeChange) (room : SlotRoom) (old new : Forest) → (p : IsPlacedIn fanout c.db c.name room old new) → shapes_of old c.db ≡ shape_in p.tree
 was_shape fanout c room old new p = shapes_at old c.db p.within ∙ ap shape_of p.was

@@ -1,11 +1,11 @@
 -- What is committed in trees while a log is read again, and how it changes where one cell does.
-use Rattle.std.proofs.Common.{◌≡◌, ◌==◌, ◌&&◌, ◌||◌, not, ◌⊎◌, ℕ, List, [], ◌∷◌, ◌++◌, Bool, true, false, cond, Option, None, Some, IsSome, find, is_some, option_map, map, refl, ap, sym, subst, ◌∙◌, inl, inr, Less, is_eq, Box}
+use Rattle.std.proofs.Common.{◌≡◌, ◌==◌, ◌&&◌, ◌||◌, not, ◌⊎◌, ℕ, List, [], ◌∷◌, ◌++◌, Bool, true, false, cond, Option, None, Some, find, option_map, map, refl, ap, sym, subst, ◌∙◌, inl, inr, Less, is_eq, Box}
 use Rattle.std.specs.Global.{Global}
 use Rattle.std.specs.List.{AllByRecursion, list_any}
 use Rattle.std.specs.List.Sorted.{IsStrictlySortedBy}
-use Rattle.std.specs.Map.{keys_of, lookup}
+use Rattle.std.specs.Map.{keys_of}
 use Rattle.std.specs.Ordering.{nat_cmp}
-use Rattle.std.specs.BTreeMap.{get, keys, is_at}
+use Rattle.std.specs.BTreeMap.{get}
 use Rattle.std.proofs.lemmas.Bool.{eq-eqb, true≢false}
 use Rattle.std.proofs.lemmas.Option.{none-some, same_Some}
 use Rattle.je_order.specs.Edges.Edge.{First}
@@ -24,14 +24,14 @@ use Rattle.node_core.specs.Changes.{is_committed}
 use Rattle.db_tree.specs.Loading.{deleted_cell, has_version, slot_read, GetsDeletions}
 use Rattle.db_tree.specs.declared.tree.DbTree.{DbTree}
 use Rattle.db_tree.specs.Trees.{HasCell, cell_or_fresh}
-use Rattle.in_tree.specs.Forest.{Forest, cells_of, cells_at, is_there, cells_seen}
+use Rattle.in_tree.specs.Forest.{Forest, cells_of, cells_at, cells_seen}
 use Rattle.db_tree.specs.Seen.{occupied}
 use Rattle.db_tree.specs.Stored.{with_logged, loaded_cell, version_logged, IsLoggedAlready}
 use Rattle.db_tree.specs.Stored.{stored_by, stored_under, with_name, stored_in, AreQuiet, HasLogged}
 use Rattle.in_tree.specs.Stored.{slots_held, stored_of, committed_cell, read_of, IsQuiet, IsSlotFor}
 use Rattle.tree_nodes.proofs.RisingLists.{none_behind, same_lists}
 use Rattle.in_tree.specs.Forest.{Replaces}
-use Rattle.in_tree.proofs.Forests.{number_cases, number_same, replaced, others}
+use Rattle.in_tree.proofs.Forests.{number_cases, replaced, others}
 
 -- ---- the records of cells
 
@@ -178,10 +178,6 @@ logged_quiet old new name value lsn up_new logged quiet =
 
 -- ---- the trees of all databases
 
--- a name's slot, before anything is committed of it
-pub slot_none : (x : Name) (old new : List (Name × Cell)) → new ≡ old → IsSlotFor x old new
-slot_none x old new same = record { here = ap (λ (l : List (Name × Cell)). cell_or_fresh (value_at x l)) same; others = λ y apart. ap (value_at y) same }
-
 pub slot_made : (x : Name) (old new : List (Name × Cell)) → HasCell old new x (cell_or_fresh (value_at x old)) → IsSlotFor x old new
 slot_made x old new has = record {
   here = ap cell_or_fresh (has x ∙ same_gets x (Some (cell_or_fresh (value_at x old))) (value_at x old));
@@ -256,24 +252,6 @@ stored_put old new db before after name s there has is =
     stored_forest old new db (Some after) name s has
     (subst (λ (o : Option DbTree). (x : Name) → value_at x (stored_in after.cells) ≡ cond (is_eq (name_cmp name x)) s (value_at x (stored_in (cells_of o)))) there is)
 
--- no record changes where the cells of one database are as before
-pub forest_still : (old new : Forest) (db : ℕ) (o : Option DbTree) → Replaces old new db o → cells_of o ≡ cells_at old db → AreStoredStill (stored_of old) (stored_of new)
-forest_still old new db o has same d = by_number (number_cases db d)
-  where
-    by_number : (db ≡ d) ⊎ ((d == db ≡ false) × (is_eq (nat_cmp db d) ≡ false)) → stored_of new d ≡ stored_of old d
-    by_number (inl is) = subst (λ (e : ℕ). stored_of new e ≡ stored_of old e) is (ap (λ (t : Option DbTree). stored_in (cells_of t)) (replaced old new db o has) ∙ ap stored_in same)
-    by_number (inr apart) = ap (λ (t : Option DbTree). stored_in (cells_of t)) (others old new db o has d apart.1)
-
--- the records of a database go with its tree
-pub stored_without : (old new : Forest) (db : ℕ) → Replaces old new db None → (d : ℕ) → stored_of new d ≡ cond (d == db) [] (stored_of old d)
-stored_without old new db has d = by_number (number_cases db d)
-  where
-    by_number : (db ≡ d) ⊎ ((d == db ≡ false) × (is_eq (nat_cmp db d) ≡ false)) → stored_of new d ≡ cond (d == db) [] (stored_of old d)
-    by_number (inl is) =
-        subst (λ (e : ℕ). stored_of new e ≡ cond (e == db) [] (stored_of old e)) is
-        (ap (λ (t : Option DbTree). stored_in (cells_of t)) (replaced old new db None has) ∙ sym (ap (λ (t : Bool). cond t [] (stored_of old db)) (eq-eqb db db refl)))
-    by_number (inr apart) = ap (λ (t : Option DbTree). stored_in (cells_of t)) (others old new db None has d apart.1) ∙ sym (ap (λ (t : Bool). cond t [] (stored_of old d)) apart.0)
-
 -- nor where a tree that was written over has the same records
 pub stored_still : (old new : Forest) (db : ℕ) (before after : DbTree) → Some before ≡ get nat_cmp old db → Replaces old new db (Some after) → stored_in after.cells ≡ stored_in before.cells → AreStoredStill (stored_of old) (stored_of new)
 stored_still old new db before after there has same d = by_number (number_cases db d)
@@ -298,24 +276,6 @@ forest_seen forest quiet d = quiet_seen (cells_at forest d) (quiet d).rising (qu
 
 pub forest_rises : (forest : Forest) → IsQuiet forest → (d : ℕ) → IsRising (stored_of forest d)
 forest_rises forest quiet d = stored_rises (cells_at forest d) (quiet d).rising
-
--- the databases with a tree are those whose numbers are keys
-pub there_by_keys : (forest : Forest) (d : ℕ) → is_there forest d ≡ list_any (λ n. n == d) (keys forest)
-there_by_keys forest d = by_entries forest.entries
-  where
-    by_entries : (entries : List (ℕ × DbTree)) → is_some (lookup (is_at (nat_cmp d)) entries) ≡ list_any (λ n. n == d) (keys_of entries)
-    by_entries [] = refl
-    by_entries (e ∷ entries) = by_number (number_cases d e.0) (by_entries entries)
-      where
-        by_number : (d ≡ e.0) ⊎ ((e.0 == d ≡ false) × (is_eq (nat_cmp d e.0) ≡ false)) → is_some (lookup (is_at (nat_cmp d)) entries) ≡ list_any (λ n. n == d) (keys_of entries) →
-            is_some (lookup (is_at (nat_cmp d)) (e ∷ entries)) ≡ list_any (λ n. n == d) (keys_of (e ∷ entries))
-        by_number (inl same) rest =
-            ap (λ (t : Bool). is_some (cond t (Some e.1) (lookup (is_at (nat_cmp d)) entries))) (subst (λ (k : ℕ). is_eq (nat_cmp d k) ≡ true) same (number_same d))
-            ∙ sym (ap (λ (t : Bool). t || list_any (λ n. n == d) (keys_of entries)) (eq-eqb e.0 d (sym same)))
-        by_number (inr apart) rest =
-            ap (λ (t : Bool). is_some (cond t (Some e.1) (lookup (is_at (nat_cmp d)) entries))) apart.1
-            ∙ rest
-            ∙ sym (ap (λ (t : Bool). t || list_any (λ n. n == d) (keys_of entries)) apart.0)
 
 -- trees stay quiet where a tree that was written over does
 pub quiet_put : (old new : Forest) (db : ℕ) (before after : DbTree) → Some before ≡ get nat_cmp old db → Replaces old new db (Some after) → (AreQuiet before.cells → AreQuiet after.cells) → IsQuiet old → IsQuiet new
@@ -417,17 +377,6 @@ slots_still old new db o has same d x = by_number (number_cases db d)
         (ap (λ (t : Option DbTree). has_version (value_at x (cells_of t))) (replaced old new db o has) ∙ ap (λ (cells : List (Name × Cell)). has_version (value_at x cells)) same)
     by_number (inr apart) = ap (λ (t : Option DbTree). has_version (value_at x (cells_of t))) (others old new db o has d apart.1)
 
--- the slots of a database go with its tree
-pub slots_without : (old new : Forest) (db : ℕ) → Replaces old new db None → (d : ℕ) (x : Name) → slots_held new d x ≡ cond (d == db) false (slots_held old d x)
-slots_without old new db has d x = by_number (number_cases db d)
-  where
-    by_number : (db ≡ d) ⊎ ((d == db ≡ false) × (is_eq (nat_cmp db d) ≡ false)) → slots_held new d x ≡ cond (d == db) false (slots_held old d x)
-    by_number (inl is) =
-        subst (λ (e : ℕ). slots_held new e x ≡ cond (e == db) false (slots_held old e x)) is
-        (ap (λ (t : Option DbTree). has_version (value_at x (cells_of t))) (replaced old new db None has) ∙ sym (ap (λ (t : Bool). cond t false (slots_held old db x)) (eq-eqb db db refl)))
-    by_number (inr apart) =
-        ap (λ (t : Option DbTree). has_version (value_at x (cells_of t))) (others old new db None has d apart.1) ∙ sym (ap (λ (t : Bool). cond t false (slots_held old d x)) apart.0)
-
 -- a tree is made first
 pub slots_then : (a b c : AllSlots) (db : ℕ) (got : Name → Bool) → AreSlotsStill a b → HasMoreSlots b c db got → HasMoreSlots a c db got
 slots_then a b c db got first next d x = next d x ∙ ap (λ (t : Bool). t || ((db == d) && got x)) (first d x)
@@ -487,16 +436,6 @@ read_put old new db before after name at value there has cell d x = by_number (a
         ap (λ (t : Option DbTree). option_map slot_read (value_at x (cells_of t))) (others old new db (Some after) has d apart.1)
         ∙ sym (ap (λ (t : Bool). cond (t && is_eq (name_cmp name x)) (Some (slot_put at)) (read_of old d x)) apart.0)
 
--- nothing else is read where the cells of one database are as before
-pub read_still : (old new : Forest) (db : ℕ) (o : Option DbTree) → Replaces old new db o → cells_of o ≡ cells_at old db → IsReadStill (read_of old) (read_of new)
-read_still old new db o has same d x = by_number (number_cases db d)
-  where
-    by_number : (db ≡ d) ⊎ ((d == db ≡ false) × (is_eq (nat_cmp db d) ≡ false)) → read_of new d x ≡ read_of old d x
-    by_number (inl is) =
-        subst (λ (e : ℕ). read_of new e x ≡ read_of old e x) is
-        (ap (λ (t : Option DbTree). option_map slot_read (value_at x (cells_of t))) (replaced old new db o has) ∙ ap (λ (cells : List (Name × Cell)). option_map slot_read (value_at x cells)) same)
-    by_number (inr apart) = ap (λ (t : Option DbTree). option_map slot_read (value_at x (cells_of t))) (others old new db o has d apart.1)
-
 -- a tree is made first
 pub read_then : (a b c : AllRead) (db : ℕ) (got : Name → Bool) (at : ℕ) → IsReadStill a b → HasGone b c db got at → HasGone a c db got at
 read_then a b c db got at first next d x = next d x ∙ ap (λ r. cond ((db == d) && (got x && not (has_committed_slot r))) (Some (slot_gone at)) r) (first d x)
@@ -517,19 +456,3 @@ logged_already cells name at value = by_cell (value_at name cells)
     by_cell : (o : Option Cell) → has_version o ≡ true → stored_under o ≡ stored_at at value → (cell_or_fresh o).version ≡ version_logged at value
     by_cell None shown same = absurd (true≢false (sym shown))
     by_cell (Some cell) shown same = by_version cell.version cell.«data» value shown same
-
--- what is committed already has a cell
-pub already_there : (cells : List (Name × Cell)) (name : Name) (at : ℕ) (value : Option (List ℕ)) → IsLoggedAlready cells name at value → IsSome (value_at name cells)
-already_there cells name at value = by_cell (value_at name cells)
-  where
-    unset : (logged : Option (List ℕ)) → is_committed (version_logged at logged) ≡ true
-    unset None = refl
-    unset (Some v) = refl
-
-    by_cell : (o : Option Cell) → (cell_or_fresh o).version ≡ version_logged at value → IsSome o
-    by_cell None is = absurd (true≢false (sym (ap is_committed is ∙ unset value)))
-    by_cell (Some cell) is = refl
-
--- where the slot that is there stays
-pub logged_stays : (old mid : DbTree) (name : Name) (at : ℕ) (value : Option (List ℕ)) → mid ≡ old → IsLoggedAlready old.cells name at value → IsLoggedAlready mid.cells name at value
-logged_stays old mid name at value same is = subst (λ (t : DbTree). IsLoggedAlready t.cells name at value) (sym same) is

@@ -97,6 +97,10 @@ impl<D: Disk> Records for LogTrees<D> {
         Ok(reading::last_below(&self.trees.forest, db, upto))
     }
 
+    fn count_records(&self, db: u32) -> usize {
+        reading::count_records(&self.trees.forest, db)
+    }
+
     fn write_all(
         &mut self,
         alloc: Global,

@@ -1,9 +1,10 @@
 // What transactions see in trees.
-ghost use Rattle.std.specs.Prelude.{◌≡◌, option_map};
+ghost use Rattle.std.specs.Prelude.{◌≡◌, is_some, count_by, option_map};
 ghost use Rattle.record_map.specs.Cells.{value_at, IsRising, first_of, last_of, from_edge, below_edge, edge_of};
 ghost use Rattle.record_tree.specs.Occupied.{occupied_by};
 ghost use Rattle.in_tree.specs.Forest.{cells_seen};
 
+use crate::stored;
 use db_tree::DbTree;
 use record_map::{Cell, EdgeRef, SortKey};
 use std::collections::BTreeMap;
@@ -47,4 +48,11 @@ pub(crate) fn last_below<'a>(
         Some(tree) => tree.last_below(upto),
         None => None,
     }
+}
+
+// How many names of a database have committed data.
+pub(crate) fn count_records(trees: &BTreeMap<u32, DbTree>, db: u32) -> usize
+    ensures { result ≡ count_by (λ e. is_some e.1.value) (cells_seen trees.now db) }
+{
+    stored::count(trees, db)
 }

@@ -1,7 +1,6 @@
 -- What a call is on where the store has no index: it changes, locks and answers there as evaluation says, and nowhere else.
 use Rattle.std.proofs.Common.{◌≡◌, ℕ, List, [], ◌∷◌, ◌++◌, Option, None, Some, map, flat_map, refl, ap, ap₂, ◌∙◌, subst}
 use Rattle.std.specs.Prelude.{option_map, find, ◌==◌, unwrap_or, option_to_list}
-use Rattle.std.specs.List.{list_any}
 use Rattle.std.proofs.lemmas.List.{append-nil}
 use Rattle.std.proofs.lemmas.Option.{none-some, same_Some}
 use Rattle.je_order.specs.declared.name.Name.{Name}
@@ -10,7 +9,7 @@ use Rattle.store_model.specs.declared.store.Database.{Database}
 use Rattle.store_model.specs.declared.index.Index.{Index}
 use Rattle.store_model.specs.declared.isolation.Isolation.{Isolation}
 use Rattle.store_model.specs.declared.call.Call.{Call}
-use Rattle.store_model.specs.declared.call.Call.TheVariants.{Get, GetBoth, Put, Delete, Count, Cur, CPutCur, CDel, CPut}
+use Rattle.store_model.specs.declared.call.Call.TheVariants.{Put, CPutCur, CPut}
 use Rattle.store_model.specs.declared.change.Change.{Change}
 use Rattle.store_model.specs.declared.record_change.RecordChange.{RecordChange}
 use Rattle.store_model.specs.declared.answer.Answer.{Answer}
@@ -21,13 +20,13 @@ use Rattle.store_model.specs.Records.{Evaluated, evaluation}
 use Rattle.store_model.specs.Reads.{seen, passed_to}
 use Rattle.store_model.specs.Records.{look_of, early_of, conclude}
 use Rattle.store_model.specs.Needs.{Part, part_of, part_needs, ends, needs_unless, needs_of, record_needs, change_needs, write_needs, needs_through}
-use Rattle.store_model.specs.Indexes.{HasNoIndex, Numbered, is_index_of, records_name, all_changes, answer_through}
-use Rattle.store_model.specs.Refusals.{or_refusal, indexed_refusal, index_refusal, database_refuses}
+use Rattle.store_model.specs.Indexes.{HasNoIndex, Numbered, records_name, all_changes, answer_through}
+use Rattle.store_model.specs.Refusals.{or_refusal, index_refusal, database_refuses}
 use Rattle.store_model.proofs.StoreLaws.{found}
-use Rattle.store_model.proofs.NoIndex.{found_no_index, has_no_indexes, no_indexes_of, no_primary_of}
+use Rattle.store_model.proofs.NoIndex.{found_no_index, no_indexes_of, no_primary_of}
 use Rattle.je_answers.specs.declared.active.Active.{Active}
 use Rattle.je_answers.specs.Standing.{Standing, place_at, database_at}
-use Rattle.je_answers.specs.Views.{Target, IsPlain, target, named_target, target_at, cursor_target, target_of, view_in, view_of, changes_with, with_numbers, with_names, changes_on, changes_at, occupied_in, occupied, answered_with, outcome_of, needs_in, database_among}
+use Rattle.je_answers.specs.Views.{Target, IsPlain, target, named_target, target_at, cursor_target, view_in, view_of, changes_with, with_numbers, with_names, changes_on, changes_at, occupied_in, occupied, answered_with, outcome_of, needs_in, database_among}
 use Rattle.je_answers.specs.Refusals.{target_refusal}
 use Rattle.je_answers.specs.Events.{lock_target}
 
@@ -61,19 +60,6 @@ cursor_plain st session cursor g none is = at_plain st (place_at cursor (st.plac
 
 nothing : (g : Target) → None ≡ Some g → IsPlain g
 nothing g is = absurd (none-some g is)
-
--- each call's is one
-pub target_is_plain : (st : Standing) (session : ℕ) (call : Call) (g : Target) → HasNoIndex st.store → target_of st session call ≡ Some g → IsPlain g
-target_is_plain st session (Get db key rmw) g none is = named_plain st db g none is
-target_is_plain st session (GetBoth db key value rmw) g none is = named_plain st db g none is
-target_is_plain st session (Put db key value mode) g none is = named_plain st db g none is
-target_is_plain st session (Delete db key) g none is = named_plain st db g none is
-target_is_plain st session (Count cursor) g none is = cursor_plain st session cursor g none is
-target_is_plain st session (Cur cursor motion rmw) g none is = cursor_plain st session cursor g none is
-target_is_plain st session (CPutCur cursor value) g none is = cursor_plain st session cursor g none is
-target_is_plain st session (CDel cursor) g none is = cursor_plain st session cursor g none is
-target_is_plain st session (CPut cursor key value mode) g none is = cursor_plain st session cursor g none is
-target_is_plain st session call g none is = nothing g is
 
 -- ---- changes
 
@@ -167,7 +153,3 @@ pub plain_refusal : (call : Call) (g : Target) → IsPlain g → target_refusal 
 plain_refusal call g plain =
     ap (λ (o : Option Index). or_refusal (index_refusal call o) (database_refuses g.database.kind call)) plain.index
     ∙ ap (λ (r : Option Answer). or_refusal r (database_refuses g.database.kind call)) (no_index_refusal call)
-
--- no database has an index
-pub plain_indexed : (db : List ℕ) (store : Store) → HasNoIndex store → indexed_refusal (list_any (is_index_of db) store.databases) ≡ None
-plain_indexed db store none = ap indexed_refusal (has_no_indexes db store none)

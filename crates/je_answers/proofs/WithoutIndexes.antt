@@ -1,5 +1,5 @@
 -- Events that make no index leave a store without one.
-use Rattle.std.proofs.Common.{◌≡◌, ℕ, List, [], ◌∷◌, ◌++◌, Option, None, Some, Bool, true, false, refl, sym, subst}
+use Rattle.std.proofs.Common.{◌≡◌, ℕ, List, [], ◌∷◌, Option, None, Some, Bool, true, false, refl}
 use Rattle.std.specs.List.{AllByRecursion}
 use Rattle.je_order.proofs.Lists.{all_append}
 use Rattle.store_model.specs.declared.store.Store.{Store}
@@ -14,10 +14,9 @@ use Rattle.store_model.specs.declared.need.Need.{Need}
 use Rattle.store_model.specs.declared.answer.Answer.{Answer}
 use Rattle.store_model.specs.declared.event.Event.{Event}
 use Rattle.store_model.specs.declared.event.Event.TheVariants.{Call as Called, Resume, End, WriteOut, SyncBegin, SyncEnd, Turn}
-use Rattle.store_model.specs.Store.{database_of, change_in, store_after}
+use Rattle.store_model.specs.Store.{database_of, change_in}
 use Rattle.store_model.specs.Evaluation.{emptying, evaluation_in}
-use Rattle.store_model.specs.Indexes.{HasNoIndex, MakesNoIndex, Numbered}
-use Rattle.store_model.proofs.NoIndex.{after_keeps_no_index}
+use Rattle.store_model.specs.Indexes.{MakesNoIndex, Numbered}
 use Rattle.je_answers.specs.declared.active.Active.{Active}
 use Rattle.je_answers.specs.declared.wait.Wait.{Wait}
 use Rattle.je_answers.specs.Standing.{Standing, active_of, wait_of, database_at}
@@ -25,10 +24,9 @@ use Rattle.je_answers.specs.Views.{Target, target_of, changes_in, changes_with, 
 use Rattle.je_answers.specs.Refusals.{early_refusal, late_refusal}
 use Rattle.je_answers.specs.Locking.{first_blocked}
 use Rattle.je_answers.specs.Events.{auto_active, begun, resumed}
-use Rattle.je_answers.specs.After.{Fate, after_event}
+use Rattle.je_answers.specs.After.{Fate}
 use Rattle.je_answers.specs.After.Fate.{Succeeds, IsRefused, Faults}
-use Rattle.je_answers.specs.Journal.{logged, changes_closed, changes_taken, changes_in as changes_in_target, changes_run, changes_ended, changes_performed, changes_evaluated, changes_of, changes_resumed, changes_by, answer_by, commit_of}
-use Rattle.je_answers.proofs.Commits.{commits-make_the_store}
+use Rattle.je_answers.specs.Journal.{logged, changes_closed, changes_taken, changes_in as changes_in_target, changes_run, changes_ended, changes_performed, changes_evaluated, changes_of, changes_resumed, changes_by}
 
 -- ---- changes that make no index
 
@@ -140,12 +138,3 @@ logged_make_none [] fate all = tt
 logged_make_none (change ∷ changes) Succeeds all = (all, tt)
 logged_make_none (change ∷ changes) IsRefused all = tt
 logged_make_none (change ∷ changes) Faults all = tt
-
--- a store without indexes stays so
-pub event_keeps_no_index : (st : Standing) (event : Event) → MakesNone st event → HasNoIndex st.store → HasNoIndex (after_event st event).store
-event_keeps_no_index st event is none =
-    let one : List (List Change) = commit_of st event in
-    let made : (after_event st event).store ≡ store_after st.store (one ++ []) = (commits-make_the_store st (event ∷ [])).store in
-    let all : AllByRecursion (AllByRecursion MakesNoIndex) (one ++ []) =
-    all_append (AllByRecursion MakesNoIndex) one [] (logged_make_none (changes_by st event) (answer_by event) (event_makes_none st event is)) tt in
-    subst HasNoIndex (sym made) (after_keeps_no_index (one ++ []) st.store all none)

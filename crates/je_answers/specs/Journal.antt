@@ -9,7 +9,7 @@ use Rattle.store_model.specs.declared.call.Call.TheVariants.{Commit, Create, Cre
 use Rattle.store_model.specs.declared.change.Change.{Change}
 use Rattle.store_model.specs.declared.need.Need.{Need}
 use Rattle.store_model.specs.declared.answer.Answer.{Answer}
-use Rattle.store_model.specs.declared.answer.Answer.TheVariants.{Done, Logged, Durable, LogFull, IdsEnded, DiskFault}
+use Rattle.store_model.specs.declared.answer.Answer.TheVariants.{Done, Logged, Durable, DiskFault}
 use Rattle.store_model.specs.declared.event.Event.{Event}
 use Rattle.store_model.specs.declared.event.Event.TheVariants.{Call as Called, Resume, End, WriteOut, SyncBegin, SyncEnd, Turn}
 use Rattle.store_model.specs.declared.plan.ScriptLine.{ScriptLine}
@@ -27,12 +27,6 @@ use Rattle.je_answers.specs.After.{Fate, fate_of, after_event}
 use Rattle.je_answers.specs.After.Fate.{Succeeds, IsRefused, Faults}
 
 -- ---- answers and lines
-
--- LogFull and IdsEnded, after which a run ends with a status of its own
-abbrev pub is_out_of_room : Answer → Bool
-is_out_of_room LogFull = true
-is_out_of_room IdsEnded = true
-is_out_of_room answer = false
 
 -- whether an answer of a kind stands in the journal
 abbrev pub has_answer : (Answer → Bool) → List Event → Bool

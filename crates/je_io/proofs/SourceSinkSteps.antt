@@ -64,11 +64,6 @@ pub gains_further : (a b c : Option (List ℕ)) (bytes : List ℕ) (i n : ℕ) �
 gains_further a b c bytes i n h k =
     subst (λ (taken : List ℕ). Gains a c taken) (take_further bytes i n) (gains_then a b c (take i bytes) (take n (drop i bytes)) h k)
 
--- nothing lost
-pub loses_none : (w : Option (List ℕ)) → Loses w w []
-loses_none None = tt
-loses_none (Some w) = refl
-
 -- a read loses what it gives
 pub loses_further : (a b c : Option (List ℕ)) (bytes before after : List ℕ) (count : ℕ) → Loses a b bytes → Takes b c before after count → Loses a c (bytes ++ take count after)
 loses_further None None None bytes before after count h k = tt

@@ -13,6 +13,6 @@ pub mod valid_prefix;
 
 pub use file_scan::FileScan;
 pub use laws::{entries_are_placed, files_are_found, files_are_one_list};
-pub use reading::{Scanned, scan};
+pub use reading::{Scanned, read_whole, scan};
 pub use scanning::{HEADER_SIZE, LOG_VERSION, scan_bytes};
 pub use valid_prefix::ValidPrefix;

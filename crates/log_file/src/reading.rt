@@ -47,8 +47,9 @@ fn scan_whole(alloc: Global, bytes: &[u8], f: FileNo) -> Result<Scanned, AllocEr
     })
 }
 
-// The bytes of a file; none where it is not there.
-fn read_whole<D: Disk>(alloc: Global, disk: &mut D, f: FileNo) -> Result<Vec<u8>, DiskErr>
+/// The bytes of a file of the disk; none where it is not there. `Failed` comes only where the disk counted a fault;
+/// Memory is free. The disk's state stays the same, and so do the jobs that are out.
+pub fn read_whole<D: Disk>(alloc: Global, disk: &mut D, f: FileNo) -> Result<Vec<u8>, DiskErr>
     ensures bytes { D.meaning.observable ≡ true → IfOk result (λ bytes. bytes.items ≡ content (now (D.meaning.history disk.old)).reads f.0) }
     ensures same { D.meaning.observable ≡ true → now (D.meaning.history disk.new) ≡ now (D.meaning.history disk.old) }
     ensures moments { D.meaning.observable ≡ true → Passes (D.meaning.history disk.old) (D.meaning.history disk.new) (λ s. s ≡ now (D.meaning.history disk.old)) }

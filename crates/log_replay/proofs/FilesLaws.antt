@@ -1,6 +1,5 @@
 -- What the files of a log hold, and what is wrong with them.
 use Rattle.std.proofs.Common.{◌≡◌, ℕ, ◌==◌, not, Bool, true, false, cond, List, [], ◌∷◌, ◌++◌, map, refl, sym, ap, ◌∙◌, append_assoc, arith}
-use Rattle.std.proofs.lemmas.List.{append-nil}
 use Rattle.je_bytes.specs.Reading.{AreBytes}
 use Rattle.log_entry.specs.declared.entry.Entry.{Entry}
 use Rattle.log_entry.specs.declared.entry.Entry.TheVariants.{FileHeader}
@@ -47,13 +46,6 @@ log_in-append (x ∷ a) b = ap (λ (l : Log). let p : ℕ × List Entry = (x.0, 
 pub entries_of-append : (a b : Log) → entries_of (a ++ b) ≡ entries_of a ++ entries_of b
 entries_of-append [] b = refl
 entries_of-append (x ∷ a) b = ap (λ (l : List Entry). x.1 ++ l) (entries_of-append a b) ∙ sym (append_assoc x.1 (entries_of a) (entries_of b))
-
--- the entries of files with one file more
-pub entries-more : (held : List (ℕ × List ℕ)) (f : ℕ) (bytes : List ℕ) →
-    entries_of (log_in (held ++ (f, bytes) ∷ [])) ≡ entries_of (log_in held) ++ entries_scanned (scan_of f bytes)
-entries-more held f bytes =
-    ap entries_of (log_in-append held ((f, bytes) ∷ [])) ∙ entries_of-append (log_in held) (log_in ((f, bytes) ∷ []))
-    ∙ ap (λ (l : List Entry). entries_of (log_in held) ++ l) (append-nil (entries_scanned (scan_of f bytes)))
 
 pub numbers-append : {X : Type 0} (a b : List X) (f : X → ℕ) → map f (a ++ b) ≡ map f a ++ map f b
 numbers-append [] b f = refl

@@ -13,10 +13,6 @@ pub all_true : {X : Type 0} (p : X → Bool) (xs : List X) → list_all p xs ≡
 all_true p [] h = tt
 all_true p (x ∷ xs) h = let s = and_parts (p x) (list_all p xs) h in (s.0, all_true p xs s.1)
 
--- the first one, and the rest
-pub first_true : {X : Type 0} (p : X → Bool) (x : X) (rest left : List X) → left ≡ x ∷ rest → list_all p left ≡ true → (p x ≡ true) × (list_all p rest ≡ true)
-first_true p x rest left is h = and_parts (p x) (list_all p rest) (ap (list_all p) (sym is) ∙ h)
-
 -- and the other way
 pub all_from_true : {X : Type 0} (p : X → Bool) (xs : List X) → AllByRecursion (λ x. p x ≡ true) xs → list_all p xs ≡ true
 all_from_true p [] h = refl

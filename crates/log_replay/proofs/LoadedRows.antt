@@ -1,5 +1,5 @@
 -- Records that go in many at a time.
-use Rattle.std.proofs.Common.{◌≡◌, ℕ, List, [], ◌∷◌, ◌++◌, ◌==◌, Bool, true, false, cond, refl, ap, ap₂, sym, subst, ◌∙◌, arith}
+use Rattle.std.proofs.Common.{◌≡◌, ℕ, List, [], ◌∷◌, ◌++◌, ◌==◌, Bool, true, false, cond, refl, ap, ap₂, sym, subst, ◌∙◌}
 use mathlib.Core.Path.{fun_ext}
 use Rattle.std.specs.Option.{option_or}
 use Rattle.std.specs.declared.option.Option.{Option}
@@ -7,19 +7,15 @@ use Rattle.std.specs.declared.option.Option.TheVariants.{None, Some}
 use Rattle.std.specs.declared.cmp.Ordering.{Ordering}
 use Rattle.std.specs.declared.cmp.Ordering.TheVariants.{Less, Equal, Greater}
 use Rattle.std.specs.Ordering.{is_eq, match_ordering, eq_by_cmp, ordering_reverse}
-use Rattle.std.specs.Map.{lookup, keys_of, update, update_all}
-use Rattle.std.specs.BTreeMap.{BTreeMap, insert_entry, is_at, InsertsAll, IsFromIterResult}
-use Rattle.std.proofs.lemmas.Cmp.{eq_by_cmp_equiv}
+use Rattle.std.specs.Map.{lookup, update, update_all}
+use Rattle.std.specs.BTreeMap.{insert_entry, is_at}
 use Rattle.std.proofs.lemmas.Bool.{cond-false}
 use Rattle.std.proofs.lemmas.Option.{none-some, same_Some}
 use Rattle.std.specs.List.{AllByRecursion}
-use Rattle.std.proofs.lemmas.Map.Keys.{IsDistinct-from_sorted}
-use Rattle.std.proofs.lemmas.Map.Made.{update_all_distinct}
 use Rattle.je_order.specs.Order.{name_cmp}
 use Rattle.je_order.specs.declared.name.Name.{Name}
-use Rattle.log_replay.specs.Rows.{Row, Rows, IsRising, rows_in, row_changed, rows_with, rows_put}
-use Rattle.std.proofs.lemmas.Bool.Decides.{nat_tests}
-use Rattle.log_replay.proofs.MapRows.{IsUpdated, list_updated, name_cmp_total, flips_equal, insert_is_set, rising_from_keys}
+use Rattle.log_replay.specs.Rows.{Row, Rows, IsRising, row_changed, rows_with, rows_put}
+use Rattle.log_replay.proofs.MapRows.{name_cmp_total, flips_equal, insert_is_set}
 use Rattle.je_order.proofs.Orderings.{name_exact, equal_from_test}
 use Rattle.log_replay.proofs.RowLaws.{rising-changed, rising_head, rising_tail, name_flipped_back}
 use Rattle.je_order.proofs.Lists.{all_weaker}
@@ -148,12 +144,6 @@ same_rows (r ∷ a) (s ∷ b) up_a up_b h =
 
 -- ---- a map that was filled
 
--- a map with pairs inserted in turn has them put
-pub inserts_are_puts : (old new : BTreeMap Name (List ℕ)) (puts : List Row) → IsRising old.entries → InsertsAll name_cmp old puts new → new.entries ≡ rows_put puts old.entries
-inserts_are_puts old new puts up all =
-    same_rows new.entries (rows_put puts old.entries) (rising_from_keys new.entries all.1) (rising-put puts old.entries up)
-    (λ q. all.0 q ∙ sym (found-put puts old.entries up q))
-
 -- pairs inserted in turn over f: those that they have from nothing, and else what f has
 over : (f g h : Name → Option (List ℕ)) (puts : List Row) → ((q : Name) → h q ≡ option_or (g q) (f q)) → (q : Name) →
     update_all (eq_by_cmp name_cmp) h puts q ≡ option_or (update_all (eq_by_cmp name_cmp) g puts q) (f q)
@@ -165,34 +155,7 @@ over f g h (p ∷ puts) is q =
     by_case n true e = refl
     by_case n false e = e
 
--- a map that takes over those of a map made of pairs has these put
-pub appends_are_puts : (old made new : BTreeMap Name (List ℕ)) (puts : List Row) → IsRising old.entries → IsFromIterResult name_cmp puts made → InsertsAll name_cmp old made.entries new →
-    new.entries ≡ rows_put puts old.entries
-appends_are_puts old made new puts up from all = inserts_are_puts old new puts up (inserts, all.1)
-  where
-    nothing : Name → Option (List ℕ)
-    nothing q = None
-
-    inserts : (q : Name) → found new.entries q ≡ update_all (eq_by_cmp name_cmp) (found old.entries) puts q
-    inserts q =
-        all.0 q
-        ∙ update_all_distinct (eq_by_cmp_equiv name_cmp_total) (eq_by_cmp name_cmp) (λ x y. refl) (found old.entries) made.entries q (IsDistinct-from_sorted name_cmp (keys_of made.entries) from.1)
-        ∙ ap (λ (o : Option (List ℕ)). option_or o (found old.entries q)) (from.0 q)
-        ∙ sym (over (found old.entries) nothing (found old.entries) puts (λ n. refl) q)
-
 -- ---- the records by databases
-
--- the records after puts into one database
-pub rows_put_in : (db : ℕ) (puts rows : List Row) (old new : List (ℕ × List Row)) → IsUpdated db (Some rows) old new →
-    rows ≡ rows_put puts (rows_in old db) →
-    (d : ℕ) → rows_in new d ≡ cond (d == db) (rows_put puts (rows_in old d)) (rows_in old d)
-rows_put_in db puts rows old new updates is d = list_updated db (Some rows) old new updates d ∙ by_case (d == db) refl
-  where
-    by_case : (b : Bool) → (d == db) ≡ b → cond b rows (rows_in old d) ≡ cond b (rows_put puts (rows_in old d)) (rows_in old d)
-    by_case true h =
-        let same : d ≡ db = grind (arith, nat_tests) in
-        is ∙ ap (λ (n : ℕ). rows_put puts (rows_in old n)) (sym same)
-    by_case false h = refl
 
 -- a put that waits behind others changes the records that are loaded
 pub put_waits : (at db txn : ℕ) (name : Name) (value : List ℕ) (rows all : Rows) (waiting more : List Row) → at ≡ db → more ≡ waiting ++ (name, value) ∷ [] →

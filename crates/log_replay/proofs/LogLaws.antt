@@ -1,5 +1,5 @@
 -- What a log means, and what one more transaction in it leaves.
-use Rattle.std.proofs.Common.{◌≡◌, ℕ, ◌<◌, ◌≤◌, max, List, [], ◌∷◌, true, false, cond, not, ◌==◌, Option, None, Some, filter, ap, sym, ◌∙◌, ⊎_elim, arith, Ok}
+use Rattle.std.proofs.Common.{◌≡◌, ℕ, ◌<◌, ◌≤◌, max, List, [], ◌∷◌, true, false, cond, not, ◌==◌, Option, None, Some, filter, sym, ◌∙◌, ⊎_elim, arith}
 use Rattle.std.specs.List.{AllByRecursion}
 use Rattle.std.proofs.lemmas.Bool.{cases_Bool, cond_both, cond-true, cond-false, eqb-true, eq-eqb}
 use Rattle.je_order.specs.declared.name.Name.{Name}
@@ -7,15 +7,11 @@ use Rattle.je_order.specs.Order.{name_cmp}
 use Rattle.std.specs.Ordering.{is_eq, is_lt, is_gt}
 use Rattle.log_entry.specs.declared.entry.Entry.{Entry}
 use Rattle.log_entry.specs.declared.entry.Entry.TheVariants.{Put, Delete, Commit}
-use Rattle.log_file.specs.Log.{Log, entries_of}
-use Rattle.log_replay.specs.Rows.{Row, Rows, RowChange, row_changed, rows_changed, rows_with, catalog_number, store_of}
+use Rattle.log_replay.specs.Rows.{Row, Rows, RowChange, row_changed, rows_changed, rows_with, catalog_number}
 use Rattle.log_replay.specs.Replay.{Replay, nothing_replayed, changes_of, replayed_entry, replayed, txn_in, db_in, greatest}
-use Rattle.log_replay.specs.Meaning.{meaning_of}
-use Rattle.log_replay.specs.Reading.{validated, validated_by}
 use Rattle.log_replay.specs.Kept.{IsOfBefore, IsKept}
 use Rattle.je_order.proofs.Lists.{all_weaker, all_append, all_kept}
-use Rattle.log_replay.proofs.StoreLaws.{store_of-same, is_environment-same, row_changed-there}
-use Rattle.log_replay.proofs.WrongLaws.{environment_is_none}
+use Rattle.log_replay.proofs.StoreLaws.{row_changed-there}
 
 -- ---- a replay stays within the numbers of its entries
 
@@ -117,16 +113,6 @@ at_most_greatest number (entry ∷ entries) =
     )
 
 -- ---- what is kept of a log
-
--- a log that is kept has a meaning
-pub kept_validated : (log : Log) (rows : Rows) (last_txn last_db : ℕ) → IsKept (entries_of log) rows last_txn last_db → validated log ≡ Ok (meaning_of (entries_of log))
-kept_validated log rows last_txn last_db kept =
-    let replay : Replay = replayed (entries_of log) nothing_replayed in
-    ap (validated_by log) (environment_is_none replay.rows (is_environment-same replay.rows rows kept.same ∙ kept.environment))
-
--- and its store is that of the records
-pub kept_store : (entries : List Entry) (rows : Rows) (last_txn last_db : ℕ) → IsKept entries rows last_txn last_db → (meaning_of entries).store ≡ store_of rows
-kept_store entries rows last_txn last_db kept = store_of-same (replayed entries nothing_replayed).rows rows kept.same
 
 -- a transaction that logs nothing only allocates its id
 pub kept_later : (entries : List Entry) (rows : Rows) (last_txn txn last_db : ℕ) → IsKept entries rows last_txn last_db → last_txn ≤ txn → IsKept entries rows txn last_db

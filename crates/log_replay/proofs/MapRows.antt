@@ -8,7 +8,7 @@ use Rattle.std.specs.declared.cmp.Ordering.TheVariants.{Less, Equal, Greater}
 use Rattle.std.specs.Result.{OnErr}
 use Rattle.std.specs.declared.result.Result.{Result}
 use Rattle.std.specs.declared.result.Result.TheVariants.{Ok, Err}
-use Rattle.std.specs.Ordering.{is_eq, is_lt, is_gt, ordering_reverse, match_ordering, ordering_then, nat_cmp}
+use Rattle.std.specs.Ordering.{is_eq, is_lt, is_gt, ordering_reverse, match_ordering, nat_cmp}
 use Rattle.std.specs.Cmp.{IsTotalOrder}
 use Rattle.std.specs.List.{filter, AllByRecursion, find}
 use Rattle.std.specs.List.Sorted.{IsStrictlySortedBy}
@@ -17,7 +17,7 @@ use Rattle.std.specs.BTreeMap.{insert_entry, is_at}
 use Rattle.std.proofs.lemmas.Cmp.{nat_list_cmp_total, on_total, then_total}
 use Rattle.je_order.specs.Order.{name_cmp}
 use Rattle.je_order.specs.declared.name.Name.{Name}
-use Rattle.log_replay.specs.Rows.{Row, RowChange, IsRising, rows_with, rows_in, row_changed, data_at}
+use Rattle.log_replay.specs.Rows.{Row, IsRising, rows_with, rows_in, data_at}
 use Rattle.std.proofs.lemmas.Bool.Decides.{nat_tests}
 use Rattle.je_order.proofs.Orderings.{name_exact}
 
@@ -25,12 +25,6 @@ use Rattle.je_order.proofs.Orderings.{name_exact}
 
 pub name_cmp_total : IsTotalOrder name_cmp
 name_cmp_total = then_total (on_total (λ (n : Name). n.key) nat_list_cmp_total) (on_total (λ (n : Name). n.dup) nat_list_cmp_total)
-
--- two orderings are equal together only where both are
-both_equal : (a b : Ordering) → ordering_then a b ≡ Equal → (a ≡ Equal) × (b ≡ Equal)
-both_equal Equal b h = (refl, h)
-both_equal Less b h = cc
-both_equal Greater b h = cc
 
 flipped : (a b : Name) (r : Ordering) → name_cmp a b ≡ r → name_cmp b a ≡ ordering_reverse r
 flipped a b r h = name_cmp_total.antisymm b a ∙ ap ordering_reverse h
@@ -187,19 +181,6 @@ pub is_there : {X : Type 0} (n : ℕ) (found : List X) (kept : List (ℕ × List
 is_there {X} n found kept is = let P : Option (List X) → Type 0 = λ o. IsSome o in subst P is refl
 
 -- ---- the records by databases
-
--- the records after a change of one database's
-pub rows_set : (change : RowChange) (rows : List Row) (old new : List (ℕ × List Row)) → IsUpdated change.db (Some rows) old new →
-    rows ≡ rows_with change.name change.value (rows_in old change.db) →
-    (d : ℕ) → rows_in new d ≡ row_changed change (rows_in old) d
-rows_set change rows old new updates is d =
-    list_updated change.db (Some rows) old new updates d ∙ by_case (d == change.db) refl
-  where
-    by_case : (b : Bool) → (d == change.db) ≡ b → cond b rows (rows_in old d) ≡ cond b (rows_with change.name change.value (rows_in old d)) (rows_in old d)
-    by_case true h =
-        let same : d ≡ change.db = grind (arith, nat_tests) in
-        is ∙ ap (λ (n : ℕ). rows_with change.name change.value (rows_in old n)) (sym same)
-    by_case false h = refl
 
 pub rising_updated : (db : ℕ) (rows : List Row) (old new : List (ℕ × List Row)) → IsUpdated db (Some rows) old new →
     IsRising rows → ((d : ℕ) → IsRising (rows_in old d)) → (d : ℕ) → IsRising (rows_in new d)

@@ -19,14 +19,13 @@ use Rattle.store_model.specs.declared.kind.Kind.{Kind}
 use Rattle.store_model.specs.Evaluation.{plain_name}
 use Rattle.store_model.specs.Store.{proper, all_changed}
 use Rattle.store_model.specs.Refusals.{made_by}
-use Rattle.log_replay.specs.Rows.{data_at, number_or_0, kind_or_plain, is_right_row, Row, Rows, no_rows, RowChange, row_changed, rows_changed, catalog_number, IsRising, store_of}
+use Rattle.log_replay.specs.Rows.{data_at, number_or_0, kind_or_plain, is_right_row, Row, Rows, RowChange, row_changed, rows_changed, catalog_number, IsRising, store_of}
 use Rattle.log_replay.specs.Replay.{Replay, nothing_replayed, changes_of, changes_of_others, replayed_entry, replayed}
 use Rattle.log_replay.specs.Logging.{record_in, record_named, number_named, kind_named, catalog_row_change, row_changes, last_db_after, all_row_changes, entry_with, row_entry, entries_with, catalog_entry}
 use Rattle.log_replay.specs.Kept.{IsOfBefore, IsKept, IsRecordChange, MayBeLogged, AllMayBeLogged, all_numbered}
 use Rattle.log_replay.specs.Laws.{TransactionsAreKept, StoresAreChanged, NumbersAreChanged, KeptIsRight, DatabasesByNumber, ChangedByAnyTransaction, LoggedAsEntries, RecordsMayBeLogged, RecordsAreLogged, EntriesFollow, SizesOfAnyNumbers}
 use Rattle.log_replay.proofs.ListLaws.{all_of_map, all_to_map, filter-all, filter-none}
 use Rattle.je_order.proofs.Lists.{all_weaker, all_append}
-use Rattle.log_replay.proofs.RowLaws.{rising-nil}
 use Rattle.log_replay.proofs.StoreLaws.{row_changed-there, number_of_row, store_of-same, environment_parts, primaries_in, environment_from, rising-row_changed, database_of-numbered, database_of-absent}
 use Rattle.log_replay.proofs.WrongLaws.{environment_is_none}
 use Rattle.log_replay.proofs.LogLaws.{IsWithin, AreWithin, within-all_changed}
@@ -404,14 +403,3 @@ pub databases_by_number : DatabasesByNumber
 databases_by_number rows name env = (λ none. database_of-absent rows name env none, λ has. database_of-numbered rows name env has)
 
 -- ---- a new log
-
--- a log without entries is kept
-pub kept_new : IsKept [] no_rows 0 0
-kept_new = record {
-  same = λ db. refl;
-  environment = refl;
-  rising = λ db. rising-nil;
-  pending = tt;
-  unused = λ db above. refl;
-  numbers = tt;
-}

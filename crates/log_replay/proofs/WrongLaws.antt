@@ -254,12 +254,6 @@ environment_is_none rows h =
     let databases : wrong_database rows ≡ None = least_of_none (is_right_database rows) (map numbered_by (rows 0)) (all_numbered (is_right_database rows) (rows 0) ∙ parts.2) in
     rw (none, databases) refl
 
--- where no record is wrong, the catalog's are right
-pub none_is_catalog : (rows : Rows) → wrong_record rows ≡ None → list_all is_catalog_row (rows 0) ≡ true
-none_is_catalog rows h =
-    (four_of (list_all is_catalog_row (rows 0)) (are_distinct (numbers_of rows)) (list_all (λ (r : Row). are_right (catalog_kind r.1) (rows_of_row rows r)) (rows 0)) (nat_le (length (rows 0)) MOST_DATABASES)
-    (and_parts (four_tests rows) (list_all (with_primary (rows 0)) (rows 0)) (none_is_environment rows h)).0).0
-
 -- ---- the search for the least
 
 -- the least of what was found and of what is left

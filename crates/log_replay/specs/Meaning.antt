@@ -2,7 +2,6 @@
 use Rattle.std.specs.Prelude.{ℕ, List}
 use Rattle.log_entry.specs.declared.entry.Entry.{Entry}
 use Rattle.store_model.specs.declared.store.Store.{Store}
-use Rattle.store_model.specs.Store.{no_databases}
 use Rattle.log_replay.specs.Rows.{store_of}
 use Rattle.log_replay.specs.Replay.{replayed, nothing_replayed, txn_in, db_in, greatest}
 
@@ -15,7 +14,3 @@ pub record Meaning : Type 0 where
 -- what entries mean whose records are those of an environment
 abbrev pub meaning_of : List Entry → Meaning
 meaning_of entries = record { store = store_of (replayed entries nothing_replayed).rows; last_txn = greatest txn_in entries; last_db = greatest db_in entries }
-
--- what a new environment means
-abbrev pub new_meaning : Meaning
-new_meaning = record { store = no_databases; last_txn = 0; last_db = 0 }

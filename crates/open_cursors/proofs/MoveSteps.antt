@@ -1,7 +1,7 @@
 -- A cursor is moved: the walk along the cursors.
-use Rattle.std.proofs.Common.{◌≡◌, ℕ, ◌<◌, ◌≤◌, ◌+◌, true, List, ◌++◌, ◌∷◌, Option, Some, length, get_or, take, drop, ap, ap₂, refl, sym, ◌∙◌}
+use Rattle.std.proofs.Common.{◌≡◌, ℕ, ◌<◌, ◌+◌, true, List, ◌++◌, ◌∷◌, Option, Some, length, get_or, take, drop, ap, ap₂, refl, sym, ◌∙◌}
 use Rattle.std.specs.List.{slice_set}
-use Rattle.std.proofs.lemmas.List.{append-nil, drop_all, drop_more, take_all, take-set, take-append-drop}
+use Rattle.std.proofs.lemmas.List.{drop_more, take-set, take-append-drop}
 use Rattle.std.proofs.lemmas.Grind.{drop-set_at}
 use Rattle.std.proofs.lemmas.Option.{slice_get-get_or}
 use Rattle.std.proofs.lemmas.Bool.{cond-true}
@@ -25,9 +25,3 @@ move_here session cursor at xs first i x y within its so =
     set_parts xs i (moved_cursor at z) within
     ∙ (ap (λ (l : List OpenCursor). take i xs ++ l) (sym (cond-true (is_of session cursor z) (moved_cursor at z ∷ drop (i + 1) xs) (z ∷ moved_in session cursor at (drop (i + 1) xs)) test))
     ∙ (ap (λ (l : List OpenCursor). take i xs ++ moved_in session cursor at l) (sym (drop_more xs i y within)) ∙ so))
-
--- no cursor is
-pub move_ends : (session cursor : ℕ) (at : Option Name) (xs first : List OpenCursor) (i : ℕ) → length xs ≤ i
-    → take i xs ++ moved_in session cursor at (drop i xs) ≡ moved_in session cursor at first → xs ≡ moved_in session cursor at first
-move_ends session cursor at xs first i past so =
-    sym (append-nil xs) ∙ (ap₂ (λ (a b : List OpenCursor). a ++ moved_in session cursor at b) (sym (take_all i xs past)) (sym (drop_all i xs past)) ∙ so)

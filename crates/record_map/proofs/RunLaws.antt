@@ -4,7 +4,7 @@ use Rattle.std.specs.Ordering.{match_ordering, eq_by_cmp, ordering_reverse}
 use Rattle.std.specs.Map.{remove_entry, set_value}
 use Rattle.std.specs.BTreeMap.{is_at, insert_entry}
 use Rattle.std.specs.BTreeMap.Range.{IsLeBy}
-use Rattle.std.proofs.lemmas.Option.{none-some, same_Some}
+use Rattle.std.proofs.lemmas.Option.{same_Some}
 use Rattle.std.proofs.lemmas.Bool.{true≢false, cases_eq}
 use Rattle.std.proofs.lemmas.List.{get_or_append_left, get_or_push, get_or_read, length-set, length_push}
 use Rattle.je_order.specs.Order.{name_cmp}
@@ -233,16 +233,6 @@ none_counts lows bounds cells name cell none runs = record {
         length (filter (λ e. test e.0) (insert_entry name_cmp cells name cell)) ≤ get_or bounds i 0
     by_test low i there test lies true passes = absurd (none low (some_there lows low i there) (lies name passes).0)
     by_test low i there test lies false out = omega (arith, none_more test cells name cell out, runs.few low i there test lies)
-
--- without lows there is nothing to keep
-pub no_runs : (lows : List (Name × ℕ)) (bounds : List ℕ) (cells : List (Name × Cell)) → lows ≡ [] → AreRuns lows bounds cells
-no_runs lows bounds cells is = record {
-  within = λ low i there. absurd (nothing low i there);
-  few = λ low i there. absurd (nothing low i there);
-}
-  where
-    nothing : (low : Name) (i : ℕ) → value_at low lows ≡ Some i → ⊥
-    nothing low i there = none-some i (sym (ap (λ (l : List (Name × ℕ)). value_at low l) is) ∙ there)
 
 -- a name less, and another cell under a name
 pub removed_runs : (lows : List (Name × ℕ)) (bounds : List ℕ) (cells : List (Name × Cell)) (at : Name → Bool) → AreRuns lows bounds cells → AreRuns lows bounds (remove_entry at cells)

@@ -1,5 +1,5 @@
 // The records of an environment's trees.
-ghost use Rattle.std.specs.Prelude.{◌≡◌, ◌≤◌, ◌==◌, ◌||◌, ◌+◌, ℕ, suc, length, List, [], ◌∷◌, ◌++◌, Option, Some, None, Ok, Err, IfOk, OnOk, IfErr, OnErr, IfSome, IsOk, option_map, Bool, true, false, if◌then◌else◌};
+ghost use Rattle.std.specs.Prelude.{◌≡◌, ◌≤◌, ◌==◌, ◌||◌, ◌+◌, ℕ, suc, length, List, [], ◌∷◌, ◌++◌, Option, Some, None, is_some, count_by, Ok, Err, IfOk, OnOk, IfErr, OnErr, IfSome, IsOk, option_map, Bool, true, false, if◌then◌else◌};
 ghost use Rattle.je_order.specs.declared.name.Name.{Name};
 ghost use Rattle.log_entry.specs.declared.entry.Entry.{Entry};
 ghost use Rattle.log_entry.specs.declared.entry.Entry.TheVariants.{Commit};
@@ -60,6 +60,10 @@ pub trait Records {
         ensures found { IfOk result (λ found. option_map (λ p. (p.0.now, occupied_by p.1.now)) found ≡ last_of (below_edge (edge_of upto.entry) (cells self.now db))) }
         ensures here { IsOk result }
         ensures rising { IsRising (cells self.now db) };
+
+    /// How many names of a database have committed data. It goes over the occupied names once.
+    fn count_records(&self, db: u32) -> usize
+        ensures { result ≡ count_by (λ e. is_some e.1.value) (cells self.now db) };
 
     /// Changes names for the transaction, and logs the changes in order, each behind the images of the nodes that
     /// are split for it. Room for `owed` Commits is left, that of the transaction among them. A database that a

@@ -1,7 +1,7 @@
 -- Records while a log is read again.
 use Rattle.std.proofs.Common.{◌≡◌, ◌<◌, ℕ, Bool, true, false, cond, List, [], ◌∷◌, ◌++◌, Option, ◌==◌, reverse, refl, sym, ap, subst, arith, ◌∙◌}
 use Rattle.std.specs.Prelude.{nat_le}
-use Rattle.std.proofs.lemmas.Bool.{le-leb, lt-leb}
+use Rattle.std.proofs.lemmas.Bool.{le-leb}
 use Rattle.std.proofs.lemmas.List.{reverse-append}
 use Rattle.je_order.specs.declared.name.Name.{Name}
 use Rattle.record_map.specs.Cells.{value_at}
@@ -9,7 +9,7 @@ use Rattle.record_tree.specs.Stored.{Stored, AllStored}
 use Rattle.log_trees.specs.Placed.{Placed}
 use Rattle.log_trees.specs.Changes.{Written, unwritten, LoggedChange, is_of, last_of}
 use Rattle.log_trees.proofs.Rooted.{last_of-append}
-use Rattle.log_meaning.specs.Redo.{Redo, pushed, emptied, redo_entry, redo_all, from, record_at}
+use Rattle.log_meaning.specs.Redo.{Redo, emptied, redo_entry, redo_all, from, record_at}
 use Rattle.recovery_je.specs.Redoing.{waits, there, stored_after, HasMade, IsRedoAt}
 
 -- what stands under a name after changes, by what was written there
@@ -20,14 +20,6 @@ after_written d x (c ∷ cs) w = ap (stored_after d x cs) (by_test (is_of d x c)
     by_test : (b : Bool) → cond b (there c.written) (there w) ≡ there (cond b c.written w)
     by_test true = refl
     by_test false = refl
-
--- one more change waits
-pub waits_more : (stored : AllStored) (old new : List (ℕ × List LoggedChange)) (txn : ℕ) (change : LoggedChange) (redo : Redo) → ((t : ℕ) → waits new t ≡ pushed txn change (waits old) t) →
-    IsRedoAt stored old redo → IsRedoAt stored new (record { done = redo.done; pending = pushed txn change redo.pending })
-waits_more stored old new txn change redo more at = record {
-  records = at.records;
-  pending = λ t. more t ∙ ap (λ (l : List LoggedChange). cond (txn == t) (l ++ change ∷ []) l) (at.pending t);
-}
 
 -- changes are made behind those that were
 pub are_done : (old new : AllStored) (changes cs : List LoggedChange) (redo : Redo) (d : ℕ) (x : Name) → HasMade changes old new → changes ≡ cs → value_at x (old d) ≡ there (record_at redo d x) →
@@ -124,10 +116,6 @@ pub taking_ends : (redo : ℕ) (all left : List Placed) (start : AllStored) (beg
 taking_ends redo all left start begun stored kept none so_far r at =
     let here = so_far r at in
     subst (IsRedoAt stored kept) (ap (λ (l : List Placed). redo_all (from redo l) here.here) (sym none) ∙ here.rest) here.at
-
--- an entry below the redo LSN, and one at it or behind it
-pub one_below : (redo : ℕ) (p : Placed) (r : Redo) → p.0 < redo → r ≡ redo_all (from redo (p ∷ [])) r
-one_below redo p r lt = ap (λ (b : Bool). redo_all (cond b (p ∷ []) []) r) (sym (lt-leb redo p.0 lt))
 
 pub one_at : (redo : ℕ) (p : Placed) (r : Redo) → (p.0 < redo → ⊥) → redo_entry p.0 p.1 r ≡ redo_all (from redo (p ∷ [])) r
 one_at redo p r ge = ap (λ (b : Bool). redo_all (cond b (p ∷ []) []) r) (sym (le-leb redo p.0 (omega (arith, ge))))

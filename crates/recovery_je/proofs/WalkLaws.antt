@@ -117,11 +117,6 @@ walking_on f all before more left P Q walk is on step =
     let new = step on.here on.at in
     record { here = new.0; at = new.2; rest = sym (each_both f more left on.here new.0 new.1) ∙ ap (λ (l : List _). each f l on.here) (sym is) ∙ on.rest }
 
--- the last of them
-pub walking_ends : {A B : Type 0} (f : A → Walk → Result Walk Corruption) (all left more : List A) (P Q : Walk → Type 0) (walk : Walk) (r : Result B ReadErr) → left ≡ more → IsWalkingOn f all left P walk →
-    ((here : Walk) → P here → GoesOn (each f more here) Q r) → GoesOn (each f all walk) Q r
-walking_ends f all left more P Q walk r is on step = subst (λ (s : Result Walk Corruption). GoesOn s Q r) (ap (λ (l : List _). each f l on.here) (sym is) ∙ on.rest) (step on.here on.at)
-
 each_fails : {A : Type 0} (f : A → Walk → Result Walk Corruption) (more left : List A) (walk : Walk) (c : Corruption) → each f more walk ≡ Err c → each f (more ++ left) walk ≡ Err c
 each_fails f [] left walk c is = absurd cc
 each_fails f (x ∷ more) left walk c is = by_first (f x walk) is (λ w. each_fails f more left w c)

@@ -2,7 +2,7 @@
 ghost use Rattle.std.specs.Prelude.{◌≡◌, ◌∷◌, ◌++◌, ◌+◌, ◌*◌, ◌^◌, ◌<◌, [], nat_lt, true, Some, IfOk, OnOk, if◌then◌else◌};
 ghost use Rattle.je_bytes.specs.Reading.{AreBytes};
 ghost use Rattle.je_disk.specs.Moments.{now, Passes};
-ghost use Rattle.je_disk.specs.States.{AreRisingNumbers, content};
+ghost use Rattle.je_disk.specs.States.{AreRisingNumbers};
 ghost use Rattle.je_disk.specs.Causes.{HasCause};
 ghost use Rattle.log_file.specs.declared.file_scan.FileScan.TheVariants.{Prefix};
 ghost use Rattle.log_file.specs.Scan.{scan_of};
@@ -24,7 +24,7 @@ use je_disk::{Disk, DiskErr};
 use je_lsn::{FileNo, Lsn};
 use je_order::List;
 use log_entry::{Entry, size};
-use log_file::{FileScan, ValidPrefix, scan_bytes};
+use log_file::{FileScan, ValidPrefix, read_whole, scan_bytes};
 use log_replay::{Corruption, LastFile};
 use std::alloc::{AllocError, Global};
 
@@ -166,21 +166,6 @@ fn take_file(
         }
         FileScan::Prefix(prefix) => take_prefix(alloc, f, is_last, bytes, prefix, notes),
     }
-}
-
-// The bytes of a file; none where it is not there.
-fn read_whole<D: Disk>(alloc: Global, disk: &mut D, f: FileNo) -> Result<Vec<u8>, DiskErr>
-    ensures bytes { D.meaning.observable ≡ true → IfOk result (λ bytes. bytes.items ≡ content (now (D.meaning.history disk.old)).reads f.0) }
-    ensures same { D.meaning.observable ≡ true → now (D.meaning.history disk.new) ≡ now (D.meaning.history disk.old) }
-    ensures moments { D.meaning.observable ≡ true → Passes (D.meaning.history disk.old) (D.meaning.history disk.new) (λ s. s ≡ now (D.meaning.history disk.old)) }
-    ensures jobs { (D.meaning.sync_out disk.new ≡ D.meaning.sync_out disk.old) × (D.meaning.read_out disk.new ≡ D.meaning.read_out disk.old) × (D.meaning.read_of disk.new ≡ D.meaning.read_of disk.old) × (D.meaning.last_job disk.new ≡ D.meaning.last_job disk.old) }
-    ensures cause { HasCause (D.meaning.faults disk.old) (D.meaning.faults disk.new) result }
-{
-    let len = disk.len(f)?;
-    let mut bytes = vec![in alloc; 0u8; len as usize]?;
-    let count = disk.read(f, 0, &mut bytes)?;
-    bytes.truncate(count);
-    Ok(bytes)
 }
 
 // Reads a file.

@@ -6,7 +6,6 @@ use Rattle.je_order.specs.declared.txn_id.TxnId.{TxnId}
 use Rattle.je_order.specs.declared.bound.Bound.TheVariants.{At as On}
 use Rattle.je_order.specs.Transactions.{is_same_txn}
 use Rattle.lock_mode.specs.declared.lock_type.LockType.{LockType}
-use Rattle.lock_mode.specs.declared.lock_type.LockType.TheVariants.{Read}
 use Rattle.lock_table.specs.declared.lock.Lock.{Lock}
 use Rattle.lock_table.specs.declared.record_id.RecordId.{RecordId}
 use Rattle.lock_table.specs.Locks.{has_lock, held_by, is_write, IsSettled}
@@ -81,10 +80,6 @@ MayWait call = ⊥
 pub record AreTables (locks : LockState) : Type 0 where
   pub settled : (r : RecordId) → IsSettled (locks.at r)
   pub alone : (t : TxnId) (r : RecordId) → has_lock t (locks.at r).1 ≡ true → locks.pending t ≡ Some r
-
--- a transaction has no lock of no more than READ
-abbrev pub HasNoReadLock : TxnId → Queues → Type 0
-HasNoReadLock t at = (r : RecordId) → held_by t (at r).0 ≡ Some Read → ⊥
 
 -- the record of a change
 abbrev pub place_of : ℕ × RecordChange → RecordId

@@ -10,7 +10,6 @@ use Rattle.store_model.specs.declared.index.Index.{Index}
 use Rattle.store_model.specs.declared.change.Change.{Change}
 use Rattle.store_model.specs.declared.change.Change.TheVariants.{Set, Unset, Make, MakeIndex, Remove, Rename, Empty}
 use Rattle.store_model.specs.Store.{Pair, database_of, pairs_with, pairs_without, with_pairs, with_name, with_primary, index_renamed, new_database, databases_with, databases_without, databases_renamed, changed, all_changed, store_after}
-use Rattle.store_model.specs.Evaluation.{changes_by, emptying}
 use Rattle.store_model.specs.Indexes.{HasNoIndex, MakesNoIndex, by_number, is_index_of, indexes_of, primary_of}
 use Rattle.je_order.proofs.Lists.{all_append, all_kept, all_weaker, each_none}
 use Rattle.store_model.proofs.StoreLaws.{found}
@@ -103,7 +102,3 @@ same_indexes db to (d ∷ ds) none = ap₂ (λ (e : Database) (es : List Databas
 pub renamed_alone : (d : Database) (to : List ℕ) (ds : List Database) → d.index ≡ None → AllByRecursion (λ e. e.index ≡ None) ds →
     databases_renamed (Some d) to ds ≡ databases_with (with_name d to) (databases_without d.name ds)
 renamed_alone d to ds is none = same_indexes d.name to (databases_with (with_name d to) (databases_without d.name ds)) (with_one (with_name d to) (databases_without d.name ds) is (without_one d.name ds none))
-
--- a database that is found is emptied by one change
-pub emptied_alone : (db : List ℕ) (store : Store) (d : Database) → HasNoIndex store → database_of db store ≡ Some d → emptying db d.index ≡ changes_by (Empty db)
-emptied_alone db store d none is = ap (emptying db) (found_no_index db store d none is)

@@ -107,10 +107,6 @@ sides_of low x high h = parts (is_gt (name_cmp low x)) (is_below (upper_edge hig
     parts true c h = absurd (true≢false (sym h))
     parts false c h = (refl, h)
 
--- a name at or above a bound, which is not below it
-over_bound : (high x : Name) → is_below (upper_edge (Some high)) x ≡ false → IsUpTo high x
-over_bound high x h = h
-
 less_through : (a b c : Name) → name_cmp a b ≡ Less → IsUpTo b c → name_cmp a c ≡ Less
 less_through a b c less up = by_case (up_cases a c (up_trans a b c (less_up a b less) up))
   where

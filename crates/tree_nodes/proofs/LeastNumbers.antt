@@ -3,7 +3,7 @@ use Rattle.std.proofs.Common.{◌≡◌, ◌≤◌, ◌<◌, ◌+◌, ◌*◌, �
 use Rattle.std.proofs.lemmas.Bool.{true≢false, cases_eq, cases_lt}
 use Rattle.std.proofs.lemmas.Bool.Decides.{nat_tests}
 use Rattle.std.proofs.lemmas.List.{get_or_past, length-set, length_push, set-get_or}
-use Rattle.std.proofs.lemmas.List.Sums.{count_by-le-length, sum_by-append, sum_by-cons, sum_by-set}
+use Rattle.std.proofs.lemmas.List.Sums.{sum_by-append, sum_by-cons, sum_by-set}
 use Rattle.std.proofs.lemmas.Option.{none-some, same_Some}
 use Rattle.tree_nodes.specs.Due.{AreLeast, AreLeastBut, IsLeastNumber, count_numbers, least_found, least_at, lesser, number_in, own_number}
 
@@ -43,13 +43,6 @@ pub settled_top : (numbers : List (Option ℕ)) (least : List (Option (ℕ × �
 settled_top numbers least place found within top is but = record {
   size = length-set least place found ∙ but.size;
   each = λ i. set_each numbers least place found i within is (but.each i) (λ e. omega (arith, e, top)) (λ e. omega (arith, e, top));
-}
-
--- all but what stands at the place of a number that changed is right
-pub number_set : (numbers : List (Option ℕ)) (least : List (Option (ℕ × ℕ))) (place : ℕ) (n : Option ℕ) → AreLeast numbers least → AreLeastBut place (set numbers place n) least
-number_set numbers least place n are = record {
-  size = are.size ∙ sym (length-set numbers place n);
-  each = λ i other. are.each i ∙ ap (λ (o : Option ℕ). lesser (option_map (λ n. (n, i)) o) (lesser (least_found least (2 * i + 1)) (least_found least (2 * i + 2)))) (sym (get_or-set_other numbers place i n None other));
 }
 
 -- to set what is there changes nothing

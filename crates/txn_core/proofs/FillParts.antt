@@ -1,11 +1,9 @@
 -- The parts of a plan that makes an index and fills it.
-use Rattle.std.proofs.Common.{◌≡◌, ℕ, List, ◌∷◌, ◌++◌, map, length, ap, ap₂, sym, ◌∙◌, append_assoc}
-use Rattle.std.proofs.lemmas.List.{length-map}
+use Rattle.std.proofs.Common.{◌≡◌, ℕ, List, ◌∷◌, ◌++◌, map, ap, ap₂, sym, ◌∙◌, append_assoc}
 use Rattle.store_model.specs.declared.extract.Extract.{Extract}
 use Rattle.store_model.specs.declared.kind.Kind.TheVariants.{Plain}
 use Rattle.store_model.specs.Store.{Pair}
-use Rattle.secondary.specs.declared.key_pair.KeyPair.{KeyPair}
-use Rattle.secondary.specs.Pairs.{keyed, keyed_pairs, pair_in, pairs_in}
+use Rattle.secondary.specs.Pairs.{keyed, keyed_pairs}
 use Rattle.log_replay.specs.Rows.{Row, pair_of}
 
 -- the pair of one more record comes behind those of the records in front of it
@@ -18,7 +16,3 @@ one_pair_more extract old new e key value left behind all more key_is value_is l
     ∙ append_assoc old (keyed extract (e.0.key, e.1)) rest
     ∙ ap (λ (l : List Row). old ++ keyed_pairs extract (map (pair_of Plain) l)) (sym left_is)
     ∙ are
-
--- as many pairs are counted as there are
-pub count_pairs : (pairs : List KeyPair) (ps : List Pair) (count : ℕ) → count ≡ length pairs → pairs_in pairs ≡ ps → count ≡ length ps
-count_pairs pairs ps count is are = is ∙ sym (length-map pairs pair_in) ∙ ap (λ (l : List Pair). length l) are

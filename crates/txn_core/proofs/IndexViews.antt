@@ -73,10 +73,6 @@ indexed_in rows name env up =
     (all_weaker (λ (r : Row). has_primary (rows 0) (catalog_index r.1) ≡ true) (λ r. is_index_of name (database_in rows r) ≡ is_made_of (number_named rows name) (catalog_index r.1))
     (λ r has. same_made rows name (catalog_index r.1) env up has) (rows 0) (primaries_in rows env))
 
--- a walk that ends at the first index of a number
-pub first_indexed : (e : Row) (l rest : List Row) (n : ℕ) → l ≡ e ∷ rest → is_made_of n (catalog_index e.1) ≡ true → is_indexed l n ≡ true
-first_indexed e l rest n is made = ap (λ (m : List Row). is_indexed m n) is ∙ ap (λ (b : Bool). b || is_indexed rest n) made
-
 pub later_indexed : (e : Row) (l rest : List Row) (n : ℕ) → l ≡ e ∷ rest → is_made_of n (catalog_index e.1) ≡ false → is_indexed rest n ≡ is_indexed l n
 later_indexed e l rest n is made = sym (ap (λ (m : List Row). is_indexed m n) is ∙ ap (λ (b : Bool). b || is_indexed rest n) made)
 

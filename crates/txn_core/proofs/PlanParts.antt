@@ -10,12 +10,8 @@ use Rattle.store_model.specs.declared.change.Change.{Change}
 use Rattle.store_model.specs.declared.change.Change.TheVariants.{Set, Unset, Make, MakeIndex, Remove, Rename, Empty}
 use Rattle.store_model.specs.Evaluation.{plain_name}
 use Rattle.log_replay.specs.Rows.{Rows}
-use Rattle.log_replay.proofs.ListLaws.{all_of_map}
-use Rattle.log_replay.proofs.LoggedLaws.{IsSound}
-use Rattle.log_replay.proofs.StoreLaws.{number_of_row, environment_parts, primaries_in}
 use Rattle.record_tree.specs.declared.tree_change.TreeChange.{TreeChange}
-use Rattle.txn_core.specs.Known.{Known}
-use Rattle.txn_core.specs.Planning.{CanPlan, gone_by}
+use Rattle.txn_core.specs.Planning.{gone_by}
 use Rattle.txn_core.specs.Plans.{catalog_planned, databases_by, records_without, totals_by}
 
 -- ---- the number of a database that is made
@@ -54,16 +50,6 @@ first_is [] change some is = absurd (omega (arith, some))
 first_is (c ∷ more) change some is = (more, ap (λ (x : Change). x ∷ more) (sym is))
 
 -- ---- what a plan rests on
-
--- what a plan needs is sound
-pub sound_plan : (known : Known) → CanPlan known → IsSound known.rows known.last_db
-sound_plan known can = record {
-  environment = environment_parts known.rows can.environment;
-  primaries = primaries_in known.rows can.environment;
-  rising = can.rising;
-  unused = can.unused;
-  numbers = all_of_map number_of_row (λ n. n ≤ known.last_db) (known.rows 0) can.numbers;
-}
 
 -- ---- what is logged of the catalog
 

@@ -1,10 +1,11 @@
 -- Searches among committed records, and walks over them.
-use Rattle.std.proofs.Common.{◌≡◌, ◌⊎◌, ℕ, ◌+◌, ◌-◌, ◌<◌, List, [], ◌∷◌, ◌++◌, Bool, true, false, cond, not, ◌&&◌, Option, None, Some, filter, length, refl, ap, sym, subst, ◌∙◌, arith, inl, inr, Ordering, Less, Equal, Greater, is_eq}
+use Rattle.std.proofs.Common.{◌≡◌, ◌⊎◌, ℕ, ◌+◌, ◌<◌, List, [], ◌∷◌, ◌++◌, Bool, true, false, cond, not, ◌&&◌, Option, None, Some, is_some, filter, count_by, length, refl, ap, sym, subst, ◌∙◌, arith, inl, inr, Ordering, Less, Equal, Greater, is_eq}
 use Rattle.std.specs.List.{AllByRecursion, list_all}
 use Rattle.std.specs.List.Sorted.{IsStrictlySortedBy}
 use Rattle.std.specs.Map.{keys_of}
 use Rattle.std.specs.Ordering.{is_gt, is_ge, ordering_reverse}
 use Rattle.std.proofs.lemmas.List.{append-nil, length-append}
+use Rattle.std.proofs.lemmas.List.Recursion.{is_count_by}
 use Rattle.std.proofs.lemmas.Option.{none-some, same_Some}
 use Rattle.je_order.specs.Order.{name_cmp}
 use Rattle.je_order.specs.declared.name.Name.{Name}
@@ -347,10 +348,10 @@ first_passes {V} p edge e (f ∷ l) all is = by_test (p f) refl (is_below edge f
     by_test true is_t false above rest both = ap p (same_Some e f (is ∙ ap first_of (taken edge f l above))) ∙ is_t
     by_test false is_t b is_b rest both = cc
 
--- one record more
-pub one_more : {V : Type 0} (edge : Edge) (e : Name × V) (l : List (Name × V)) → IsRising l → Some e ≡ first_of (from_edge edge l) → length (from_edge edge l) ≡ length (from_edge (Behind e.0) l) + 1
-one_more edge e l up is = let all = ap length (step_from edge e l up is) in omega (arith, all)
-
--- a count that is one less at each step
-pub less_one : (left all : ℕ) (n m : ℕ) → left - n ≡ all → n ≡ m + 1 → (left - 1) - m ≡ all
-less_one left all n m h is = omega (arith, h, is)
+-- there are as many committed records as names with committed data
+pub counted_rows : (cells : List (Name × Occupied)) → length (committed_rows cells) ≡ count_by (λ (e : Name × Occupied). is_some e.1.value) cells
+counted_rows cells = is_count_by (λ (l : List (Name × Occupied)). length (committed_rows l)) (λ e. is_some e.1.value) refl (λ e l. with_one e.0 e.1.value (committed_rows l)) cells
+  where
+    with_one : (x : Name) (value : Option (List ℕ)) (rows : List Row) → length (with_row x value rows) ≡ cond (is_some value) (1 + length rows) (length rows)
+    with_one x None rows = refl
+    with_one x (Some held) rows = omega arith

@@ -1,6 +1,6 @@
 -- What the views of the records in memory see.
 use Rattle.std.proofs.Common.{◌≡◌, ℕ, List, [], ◌∷◌, Bool, true, false, Option, None, Some, IfSome, map, filter, option_map, is_some, refl, ap, ap₂, sym, ◌∙◌, ⊎_elim, Less, is_eq, Bor, Result, IfOk, option_copied}
-use Rattle.std.specs.List.{AllByRecursion, list_all}
+use Rattle.std.specs.List.{AllByRecursion}
 use Rattle.std.specs.List.Sorted.{IsStrictlySortedBy}
 use Rattle.std.proofs.lemmas.Bool.{cases_Bool, cond-true, cond-false}
 use Rattle.std.proofs.lemmas.Option.{none-some, same_Some}
@@ -20,10 +20,10 @@ use Rattle.store_model.specs.Store.{name_of, database_of, names_of}
 use Rattle.store_model.specs.Reads.{range, seen, at_name, taken_by, is_within, last_of as last_pair}
 use Rattle.store_model.specs.Reads.Way.{Lowest, Highest}
 use Rattle.store_model.specs.Evaluation.{plain_name}
-use Rattle.log_replay.specs.Rows.{Row, Rows, row_at, data_at, is_catalog_row, is_environment, are_right, IsRising, pair_of, database_in, store_of}
-use Rattle.log_replay.proofs.ListLaws.{all_from_true, filter-map, filter-none, found, none_found, map-map}
+use Rattle.log_replay.specs.Rows.{Row, Rows, row_at, data_at, is_environment, are_right, IsRising, pair_of, database_in, store_of}
+use Rattle.log_replay.proofs.ListLaws.{filter-map, filter-none, found, none_found, map-map}
 use Rattle.log_replay.proofs.RowLaws.{each_right, name_flipped, row_of_data, no_row_of_data}
-use Rattle.log_replay.proofs.StoreLaws.{environment_parts, database_of-store_of}
+use Rattle.log_replay.proofs.StoreLaws.{database_of-store_of}
 use Rattle.txn_core.specs.Views.{pairs_found}
 
 -- ---- the catalog
@@ -47,10 +47,6 @@ names_in rows = sym (map-map (λ (d : Database). d.name) (database_in rows) (row
 
 pub names_ok : {E : Type 0} (rows : Rows) (r : Result (List (List ℕ)) E) → IfOk r (λ names. names ≡ map (λ (x : Row). x.0.key) (rows 0)) → IfOk r (λ names. names ≡ names_of (store_of rows))
 names_ok rows r h = if_ok r (λ names e. e ∙ names_in rows) h
-
--- a catalog is right
-pub catalog_right : (rows : Rows) → is_environment rows ≡ true → list_all is_catalog_row (rows 0) ≡ true
-catalog_right rows env = all_from_true is_catalog_row (rows 0) (environment_parts rows env).catalog
 
 -- ---- the records of one database
 

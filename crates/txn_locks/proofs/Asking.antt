@@ -12,7 +12,7 @@ use Rattle.lock_table.specs.declared.lock.Lock.{Lock}
 use Rattle.lock_table.specs.declared.record_id.RecordId.{RecordId}
 use Rattle.lock_table.specs.Locks.{lock_of, held_by, is_blocked, blocker, after_ask, after_cancel}
 use Rattle.lock_table.specs.Records.{is_record}
-use Rattle.lock_table.specs.Table.{Locks, locks_at, pending_at, IsSameTable}
+use Rattle.lock_table.specs.Table.{Locks, locks_at, pending_at}
 use Rattle.lock_table.proofs.QueueMaps.{record_is}
 use Rattle.lock_table.proofs.RecordCalls.{cancel_nothing}
 use Rattle.lock_table.proofs.WholeTable.{cancel_asked}
@@ -96,10 +96,6 @@ got_if_granted t n wait place v w (Granted held) was old new s none q is says pu
 got_if_granted t n wait place v w (NotAvailable owner) was old new s none q is says put = tt
 got_if_granted t n wait place v w (Waiting owner) was old new s none q is says put = tt
 got_if_granted t n wait place v w (Victims owner vs) was old new s none q is says put = tt
-
--- out of memory
-pub err_state : (v w : Locks) → IsSameTable v w → state_of w ≡ state_of v
-err_state v w same = same_state (state_of w) (state_of v) same.locks same.pending
 
 -- the same by the names that the code has
 pub got_noted : (t : TxnId) (n : Need) (wait : Bool) (place : ℕ) (v w : Locks) (q : Requested) (stop : Option Locked) (was : Option LockType) (at : RecordId) (old mid new : List Got) → stop ≡ stop_of place q → NoDeadlock v → pending_at t v ≡ None

@@ -1,8 +1,8 @@
 -- One need after another.
-use Rattle.std.proofs.Common.{◌≡◌, ℕ, ◌<◌, ◌≤◌, ◌+◌, Bool, true, false, cond, not, ◌&&◌, ◌||◌, reverse, List, [], ◌∷◌, ◌++◌, length, get_or, drop, map, Some, None, Option, refl, ap, sym, ◌∙◌, subst, ⊎_elim, inl, inr}
+use Rattle.std.proofs.Common.{◌≡◌, ℕ, ◌<◌, ◌+◌, Bool, true, false, cond, not, ◌&&◌, ◌||◌, reverse, List, [], ◌∷◌, ◌++◌, length, get_or, drop, map, Some, None, Option, refl, ap, sym, ◌∙◌, subst, ⊎_elim, inl, inr}
 use Rattle.std.specs.List.{slice_get, list_any, AllByRecursion}
 use Rattle.std.specs.Option.{is_some, IfNone, IfSome}
-use Rattle.std.proofs.lemmas.List.{drop_more, drop_all}
+use Rattle.std.proofs.lemmas.List.{drop_more}
 use Rattle.std.proofs.lemmas.List.Folds.{list_any-append}
 use Rattle.std.proofs.lemmas.Option.{slice_get-get_or}
 use mathlib.Core.Path.{fun_ext}
@@ -171,12 +171,6 @@ locking_halts t needs i n wait (Some x) locked s now next gs more some within is
   where
     inner : Some x ≡ Some locked → x ≡ locked
     inner e = cc
-
--- the call got all that it needs
-pub locking_ends : (t : TxnId) (needs : List Need) (i : ℕ) (wait : Bool) (s now : LockState) (gs : List Got) → length needs ≤ i → IsLocking t needs i s now gs → IsLockedAt Ready t needs wait s now gs
-locking_ends t needs i wait s now gs past k =
-    let e = taking_ends t needs (drop i needs) s now (drop_all i needs past) k.taking in
-    (λ level. (e.0, ap (when_answered level t) e.1), k.got, k.reads)
 
 -- ---- a need of RANGE_INSERT where no owner has a lock of a range type
 no_range : (t : TxnId) (os : List Lock) → AllByRecursion (λ o. is_range o.mode ≡ false) os → is_blocked os (lock_of t RangeInsert) ≡ false

@@ -290,12 +290,6 @@ none_left level t v w s none e is r h =
     none_left_by t (held_by t (locks_at r v).0) (locks_at r v) refl (waits_nowhere t v s none r) (sym (ap (λ (q : Queue). held_by t q.0) b) ∙ h)
 
 -- ---- a call that takes nothing
-pub if_answered : (locked : Locked) (P : Type 0) → P → IfAnswered locked P
-if_answered Ready P p = p
-if_answered (NotAvailable owner) P p = p
-if_answered (Waiting at owner) P p = tt
-if_answered (Victims at owner victims) P p = tt
-
 -- one that has to wait is not answered
 pub not_answered : (locked : Locked) (level : Isolation) (t : TxnId) (needs : List Need) (wait : Bool) (s next : LockState) (P : Type 0) → HasToWait t needs wait s → IsLocked locked level t needs wait s next → IfAnswered locked P
 not_answered Ready level t needs wait s next P h l = let k : None ≡ Some h.need = sym l.0 ∙ h.stopped.first in absurd (cc)
