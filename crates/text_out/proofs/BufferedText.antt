@@ -1,13 +1,13 @@
 -- Texts sent through a buffer.
-use Rattle.std.proofs.Common.{◌≡◌, ◌<◌, ◌≤◌, ◌+◌, ℕ, List, [], ◌∷◌, ◌++◌, get_or, length, take, drop, false, Option, sym, ap, ◌∙◌, subst, inl, inr, append_assoc, length-drop, arith}
+use Rattle.std.proofs.Common.{◌≡◌, ◌<◌, ◌≤◌, ◌+◌, ℕ, List, [], ◌∷◌, ◌++◌, get_or, length, take, drop, min, Bool, true, false, Option, refl, sym, ap, ◌∙◌, subst, inl, inr, append_assoc, length-append, length-drop, arith}
 use Rattle.std.proofs.Math.Nat.{eq-or-lt_of_le}
 use Rattle.std.specs.List.{flat_map}
-use Rattle.std.proofs.lemmas.List.{append-nil, take_all, take_more}
+use Rattle.std.proofs.lemmas.List.{append-nil, take-append-drop, take-append-le, drop-append-le, take_all, drop_all, take_min, take_more}
 use Rattle.std.proofs.lemmas.List.Concat.{flat_map-append}
 use Rattle.je_order.specs.Counts.{HasRisen}
 use Rattle.je_io.specs.Sink.{Gains, GainsPart}
-use Rattle.je_io.proofs.SourceSinkSteps.{gains_none}
-use Rattle.text_out.specs.OutBuffer.{Held, Point, point, Sends, Adds}
+use Rattle.je_io.proofs.SourceSinkSteps.{gains_then, gains_further, gains_none}
+use Rattle.text_out.specs.OutBuffer.{Held, Point, point, held_of, Sends, Adds}
 
 -- a count that rose later rose
 rose_later : {a f g : ℕ} → a ≤ f → f ≤ g → HasRisen f g → HasRisen a g
@@ -27,6 +27,71 @@ adds_then {a} {b} {c} {first} {second} h k =
 -- a text that is the same
 pub adds_same : {a b : Point} (x y : List ℕ) → x ≡ y → Adds a b x → Adds a b y
 adds_same {a} {b} x y e h = subst (λ (text : List ℕ). Adds a b text) e h
+
+-- bytes put into the buffer
+pub adds_held : (w : Option (List ℕ)) (f : ℕ) (held : List ℕ) (failed : Bool) (bytes : List ℕ) →
+    Adds (point w f (held_of held failed)) (point w f (held_of (held ++ bytes) failed)) bytes
+adds_held w f held failed bytes = record {
+  goes_on = λ start started sent s. record {
+    count = s.count;
+    within = omega (arith, s.within, length-append sent bytes);
+    gained = subst (λ (text : List ℕ). Gains start w text) (sym (take-append-le s.count sent bytes s.within)) s.gained;
+    behind = λ good. ap (λ h. h ++ bytes) (s.behind good) ∙ sym (drop-append-le s.count sent bytes s.within);
+    never_falls = s.never_falls;
+    cause = s.cause;
+  };
+}
+
+-- after a failed write the buffer's bytes do not matter
+pub adds_failed : (w : Option (List ℕ)) (f : ℕ) (held others bytes : List ℕ) →
+    Adds (point w f (held_of held true)) (point w f (held_of others true)) bytes
+adds_failed w f held others bytes = record {
+  goes_on = λ start started sent s. record {
+    count = s.count;
+    within = omega (arith, s.within, length-append sent bytes);
+    gained = subst (λ (text : List ℕ). Gains start w text) (sym (take-append-le s.count sent bytes s.within)) s.gained;
+    behind = λ good. cc;
+    never_falls = s.never_falls;
+    cause = s.cause;
+  };
+}
+
+-- the buffer was written
+pub adds_written : (w v : Option (List ℕ)) (f g : ℕ) (held : List ℕ) → Gains w v held → f ≤ g →
+    Adds (point w f (held_of held false)) (point v g (held_of [] false)) []
+adds_written w v f g held gains falls = record {
+  goes_on = λ start started sent s.
+      let whole : take s.count sent ++ held ≡ sent = ap (λ h. take s.count sent ++ h) (s.behind refl) ∙ take-append-drop s.count sent in
+      let all : sent ≡ sent ++ [] = sym (append-nil sent) in
+      record {
+        count = length sent;
+        within = omega (arith, ap length all);
+        gained = subst (λ (text : List ℕ). Gains start v text) (whole ∙ all ∙ sym (take_all (length sent) (sent ++ []) (omega (arith, ap length all)))) (gains_then start w v (take s.count sent) held s.gained gains);
+        behind = λ _. sym (drop_all (length sent) (sent ++ []) (omega (arith, ap length all)));
+        never_falls = omega (arith, s.never_falls);
+        cause = λ bad. cc;
+      };
+}
+
+-- writing the buffer failed
+pub adds_broken : (w v : Option (List ℕ)) (f g : ℕ) (held : List ℕ) → GainsPart w v held → f ≤ g → HasRisen f g →
+    Adds (point w f (held_of held false)) (point v g (held_of [] true)) []
+adds_broken w v f g held part falls rose = record {
+  goes_on = λ start started sent s.
+      let n : ℕ = min part.0 (length held) in
+      let rest : held ≡ drop s.count sent = s.behind refl in
+      let some : Gains w v (take n (drop s.count sent)) = subst (λ (text : List ℕ). Gains w v text) (sym (take_min part.0 held) ∙ ap (λ h. take n h) rest) part.1 in
+      let both : Gains start v (take (s.count + n) sent) = gains_further start w v sent s.count n s.gained some in
+      let all : sent ≡ sent ++ [] = sym (append-nil sent) in
+      record {
+        count = s.count + n;
+        within = omega (arith, s.within, ap length all, ap length rest, length-drop s.count sent);
+        gained = subst (λ (text : List ℕ). Gains start v (take (s.count + n) text)) all both;
+        behind = λ good. cc;
+        never_falls = omega (arith, s.never_falls);
+        cause = λ _. rose_later s.never_falls falls rose;
+      };
+}
 
 -- nothing has been sent yet
 begun : (w : Option (List ℕ)) (f : ℕ) (held : Held) → held.bytes ≡ [] → held.failed ≡ false → Sends w f (point w f held) []
