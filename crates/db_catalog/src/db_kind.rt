@@ -5,12 +5,7 @@ ghost use Rattle.db_catalog.specs.Catalog.{kind_bytes, is_slice, ended, slice_in
 
 use je_bytes::{Reader, put_u32};
 use std::alloc::AllocError;
-
-/// The greatest offset of a slice.
-const MOST_OFFSET: u32 = 65_535;
-
-/// The most bytes of a slice.
-const MOST_SLICE: u32 = 4_096;
+use store_model::{MOST_OFFSET, MOST_SLICE};
 
 /// How a database keeps its records.
 #[derive(Clone, Copy, PartialEq, Eq)]

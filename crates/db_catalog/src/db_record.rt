@@ -7,6 +7,9 @@ use crate::db_kind::{DbKind, put_kind, read_kind};
 use je_bytes::{Reader, put_u32};
 use std::alloc::{AllocError, Global};
 
+/// The number of the catalog, whose records are the other databases' names, numbers and kinds.
+pub const CATALOG: u32 = 0;
+
 /// A database's number and kind. The number names the database in the log; it is never allocated
 /// twice.
 #[derive(Clone, Copy, PartialEq, Eq)]

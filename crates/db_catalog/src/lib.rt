@@ -16,6 +16,6 @@ pub mod planning;
 pub use catalog_change::CatalogChange;
 pub use catalog_view::CatalogView;
 pub use db_kind::DbKind;
-pub use db_record::DbRecord;
+pub use db_record::{CATALOG, DbRecord};
 pub use found_db::{FoundDb, find_db, index_of, kind_of};
 pub use planning::{CatalogPlan, catalog_changes, plan, plan_index};

@@ -4,14 +4,12 @@ ghost use Rattle.record_tree.specs.Stored.{lent, values_of};
 ghost use Rattle.log_replay.specs.Rows.{Row};
 ghost use Rattle.db_names.specs.Names.{Names, HasNames, names_in, no_names, with_name};
 
+use db_catalog::CATALOG;
 use je_order::Word;
 use log_replay::number_of;
 use record_tree::{Loads, RecordRef};
 use std::alloc::{AllocError, Global};
 use std::collections::BTreeMap;
-
-/// The number of the catalog.
-const CATALOG: u32 = 0;
 
 /// The names of databases by their numbers. A look at it takes the time of its depth.
 #[derive(Drop)]

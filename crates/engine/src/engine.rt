@@ -13,16 +13,13 @@ ghost use Rattle.engine.specs.Steps.{HasStepCause, LogsChanges, refusal_by, txn_
 ghost use Rattle.engine.specs.Whole.{AreLeft, CanGoOn, EndsNear, LeavesCells, contents, disk_of};
 
 use crate::kept::Kept;
-use in_tree::LogTrees;
+use in_tree::{LAST_NODE, LogTrees};
 use je_disk::Disk;
 use je_order::TxnId;
 use record_tree::TreeErr;
 use std::alloc::{AllocError, Global};
 use store_model::{Answer, Fault, LAST_DATABASE, LAST_TXN};
 use txn_core::{PlannedChanges, commit_changes};
-
-/// The greatest number of a node.
-pub const LAST_NODE: u64 = 0x7fff_ffff_ffff_ffff;
 
 /// How many node numbers a change of a record may allocate: one for each of 64 levels, one for a root above
 /// them, and one for the root of a database.

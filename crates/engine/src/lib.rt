@@ -18,7 +18,7 @@ mod opening;
 
 pub use closing::{Records, close_log};
 pub use config::Config;
-pub use engine::{Engine, LAST_NODE, NUMBERS_FOR_CHANGE};
+pub use engine::{Engine, NUMBERS_FOR_CHANGE};
 pub use kept::Kept;
 pub use open_err::OpenErr;
 pub use opening::{Opened, Opening, Stopped, no_opening};

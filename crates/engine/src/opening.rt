@@ -17,12 +17,12 @@ ghost use Rattle.engine.specs.Whole.{CanGoOn, KeepsIndexes, KeepsNames, IsOpened
 ghost use Rattle.je_lsn.specs.declared.file_no.TheConstants.{LAST_FILE};
 
 use crate::config::Config;
-use crate::engine::{Engine, LAST_NODE, NUMBERS_FOR_CHANGE};
+use crate::engine::{Engine, NUMBERS_FOR_CHANGE};
 use crate::kept::Kept;
 use crate::open_err::OpenErr;
 use checkpointer::Checkpointer;
 use db_names::DbNames;
-use in_tree::{LoadedTrees, LogTrees};
+use in_tree::{LAST_NODE, LoadedTrees, LogTrees};
 use index_map::IndexMap;
 use je_disk::{Disk, DiskErr};
 use je_lsn::{FileNo, Lsn};

@@ -11,15 +11,13 @@ ghost use Rattle.environment.specs.Whole.{IsAt, disk_of};
 
 use crate::environment::Environment;
 use crate::found_database::FoundDatabase;
+use db_catalog::CATALOG;
 use je_disk::Disk;
 use je_order::{Word, cmp_bytes};
 use log_replay::{index_of, kind_of, number_of};
 use record_map::{Data, EdgeRef};
 use record_tree::Records;
 use txn_core::reading::next;
-
-// The number of the catalog, whose records are the other databases' names, numbers and kinds.
-const CATALOG: u32 = 0;
 
 fn is_same(a: &[u8], b: &[u8]) -> bool
     ensures { result ≡ is_same_bytes a.now b.now }

@@ -27,4 +27,4 @@ pub use laws::loaded_trees_fit;
 pub use loaded_trees::LoadedTrees;
 pub use logged_trees::LogTrees;
 pub(crate) use placed::Placed;
-pub use trees::Trees;
+pub use trees::{LAST_NODE, Trees};

@@ -28,7 +28,7 @@ use std::alloc::{AllocError, Global};
 use std::collections::BTreeMap;
 
 /// The greatest number that a node has.
-pub(crate) const LAST_NODE: u64 = 0x7fff_ffff_ffff_ffff;
+pub const LAST_NODE: u64 = 0x7fff_ffff_ffff_ffff;
 
 // How many nodes a name's slot makes at most.
 const MOST_MADE: u64 = 64;

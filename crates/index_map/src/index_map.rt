@@ -7,13 +7,11 @@ ghost use Rattle.index_map.specs.Map.{HasIndexes};
 
 use crate::FoundIndex;
 use crate::lists::{list_of, put_in, take_out};
+use db_catalog::CATALOG;
 use log_replay::{index_of, number_of};
 use record_tree::{Loads, RecordRef};
 use std::alloc::{AllocError, Global};
 use std::collections::BTreeMap;
-
-/// The number of the catalog.
-const CATALOG: u32 = 0;
 
 /// The indexes of an environment: the primary of each, and those of each primary by rising number. A look at it takes
 /// the time of its depth.

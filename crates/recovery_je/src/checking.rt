@@ -7,6 +7,7 @@ ghost use Rattle.recovery_je.specs.Checking.{values_of, numbered_of, as_found, w
 ghost use Rattle.recovery_je.specs.declared.numbered.Numbered.{Numbered as Database};
 
 use crate::numbered::Numbered;
+use db_catalog::CATALOG;
 use je_lsn::Lsn;
 use je_order::{Name, Word, copy_of};
 use log_replay::{index_of, is_plain, kind_of, number_of};
@@ -14,9 +15,6 @@ use record_map::SortKey;
 use record_tree::{Loads, StoredRecord};
 use std::alloc::{AllocError, Global};
 use store_model::{DUP_LIMIT, Extract, Kind, MOST_DATABASES};
-
-/// The number of the catalog.
-const CATALOG: u32 = 0;
 
 // Whether a catalog record of this name and number is right behind records of other numbers.
 fn is_right(name: &Name, number: u32, before: &[u32]) -> bool

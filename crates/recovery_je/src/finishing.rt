@@ -5,11 +5,9 @@ ghost use Rattle.record_tree.specs.Stored.{AreStoredStill};
 ghost use Rattle.recovery_je.specs.Finishing.{is_kept as is_kept_in, HaveTrees, HasDropped, IsFinished};
 
 use crate::redoing::ensure_tree;
+use db_catalog::CATALOG;
 use record_tree::{LoadErr, Loads};
 use std::alloc::{AllocError, Global};
-
-/// The number of the catalog.
-const CATALOG: u32 = 0;
 
 // Makes a tree for each of these databases that has none, in order.
 fn make_missing<T: Loads>(trees: &mut T, alloc: Global, numbers: &[u32]) -> Result<(), LoadErr>

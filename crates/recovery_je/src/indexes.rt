@@ -11,15 +11,13 @@ ghost use Rattle.log_replay.specs.Indexed.{are_same_pairs, is_same_pair};
 ghost use Rattle.recovery_je.specs.Checking.{values_in};
 ghost use Rattle.recovery_je.specs.Indexing.{IsIndexCheck, IsReadable, first_not_filled as first_not_filled_in, has_pairs_of as has_pairs, is_filled as is_filled_by, lent_row};
 
+use db_catalog::CATALOG;
 use je_order::{Word, cmp_bytes};
 use log_replay::{index_of, number_of};
 use record_tree::{Loads, RecordRef, StoredRecord};
 use secondary::{KeyPair, push_pair, sort_pairs};
 use std::alloc::{AllocError, Global};
 use store_model::Extract;
-
-/// The number of the catalog.
-const CATALOG: u32 = 0;
 
 // The pairs that an index has for records, in the order of these.
 fn pairs_of<'a>(

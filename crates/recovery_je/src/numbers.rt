@@ -11,14 +11,12 @@ ghost use Rattle.recovery_je.specs.Numbers.{with_entry, with_placed, none_number
 use crate::decoding::decode_found;
 use crate::file_entries::FileEntries;
 use crate::log_read::LogRead;
+use db_catalog::CATALOG;
 use je_lsn::{FileNo, Lsn};
 use je_order::Octets;
 use log_entry::Entry;
 use log_replay::number_of;
 use std::alloc::{AllocError, Global};
-
-/// The number of the catalog.
-const CATALOG: u32 = 0;
 
 /// The greatest transaction, node and database numbers, 0 where there is none.
 #[derive(Clone, Copy)]

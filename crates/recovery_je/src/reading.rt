@@ -21,18 +21,12 @@ use crate::giving_back::give_back;
 use crate::log_read::LogRead;
 use crate::read_notes::ReadNotes;
 use je_disk::{Disk, DiskErr};
-use je_lsn::{FileNo, Lsn};
+use je_lsn::{FileNo, LAST_FILE, Lsn};
 use je_order::List;
 use log_entry::{Entry, size};
-use log_file::{FileScan, ValidPrefix, read_whole, scan_bytes};
+use log_file::{FileScan, HEADER_SIZE, ValidPrefix, read_whole, scan_bytes};
 use log_replay::{Corruption, LastFile};
 use std::alloc::{AllocError, Global};
-
-/// How many bytes a file's header has.
-const HEADER_BYTES: u32 = 26;
-
-/// The greatest number of a log file.
-const LAST_FILE: u32 = 0xffff_fffe;
 
 // What was read of one file: it is right where it stands, or a corruption.
 #[derive(Drop)]
@@ -96,7 +90,7 @@ fn take_entries(
     let mut left = entries.into_vec();
     let mut offsets = Vec::with_capacity(alloc, left.len())?;
     left.reverse();
-    let mut at = HEADER_BYTES;
+    let mut at = HEADER_SIZE;
     while let Some(entry) = left.pop() {
         give_back(&mut left);
         let len = size(&entry);

@@ -25,14 +25,12 @@ use crate::redoing::{Redoing, ensure_tree, take_all};
 use crate::roots::{Walked, read_roots};
 use crate::settling::{Settled, settle};
 use crate::waiting::Waiting;
+use db_catalog::CATALOG;
 use je_lsn::{FileNo, Lsn};
 use log_entry::Root;
 use log_replay::Corruption;
 use record_tree::{LoadErr, Loads};
 use std::alloc::Global;
-
-/// The number of the catalog.
-const CATALOG: u32 = 0;
 
 /// What a log means: its environment, the numbers that were allocated last, the number and the redo LSN of
 /// the last checkpoint, and how many entries count for the nodes that were made.

@@ -15,15 +15,13 @@ use crate::giving_back::give_back;
 use crate::log_read::LogRead;
 use crate::waiting::Waiting;
 use crate::waiting_change::WaitingChange;
+use db_catalog::CATALOG;
 use je_lsn::{FileNo, Lsn};
 use je_order::{List, Octets};
 use log_entry::Entry;
 use log_replay::number_of;
 use record_tree::{LoadErr, Loads};
 use std::alloc::Global;
-
-/// The number of the catalog, whose records are the other databases' names and numbers.
-const CATALOG: u32 = 0;
 
 /// A redo under way: the trees, and the changes that wait for their transactions' commits. After an error
 /// nothing is known of the trees.

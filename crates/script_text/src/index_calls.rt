@@ -12,13 +12,7 @@ use crate::session::is_digit;
 use crate::words::Words;
 use je_order::{Octets, Word};
 use std::alloc::{AllocError, Global};
-use store_model::{Call, Extract, Index};
-
-// The greatest offset of a slice of data.
-const MOST_OFFSET: u32 = 65_535;
-
-// The greatest length of a slice of data.
-const MOST_LENGTH: u32 = 4_096;
+use store_model::{Call, Extract, Index, MOST_OFFSET, MOST_SLICE};
 
 // A number with one decimal digit more.
 fn with_digit(front: u32, digit: u8) -> Option<u32>
@@ -107,7 +101,7 @@ fn extract_of(
 {
     if way == b"slice".as_slice() {
         let offset = number_within(0, MOST_OFFSET, number_of(first));
-        let length = number_within(1, MOST_LENGTH, number_of(second));
+        let length = number_within(1, MOST_SLICE, number_of(second));
         Ok(slice_by(offset, length))
     } else if way == b"field".as_slice() {
         let separator = one_byte(bytes_of(alloc, second)?);

@@ -1,6 +1,12 @@
 // Which key an index has for a record.
 use je_order::Exact;
 
+/// The greatest offset of a slice of data.
+pub const MOST_OFFSET: u32 = 65_535;
+
+/// The most bytes of a slice of data.
+pub const MOST_SLICE: u32 = 4_096;
+
 /// Which part of a record's data is its key in an index.
 #[derive(Clone, Copy, Debug, PartialEq, Eq)]
 pub enum Extract {

@@ -35,7 +35,7 @@ pub use call::Call;
 pub use change::Change;
 pub use durability::Durability;
 pub use event::Event;
-pub use extract::Extract;
+pub use extract::{Extract, MOST_OFFSET, MOST_SLICE};
 pub use index::Index;
 pub use isolation::Isolation;
 pub use kind::Kind;

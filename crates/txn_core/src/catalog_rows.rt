@@ -6,8 +6,8 @@ ghost use Rattle.txn_core.specs.Known.{committed};
 
 use crate::catalog_plan::number_under;
 use crate::reading::data_of;
-use crate::walking::{CATALOG, has_index, names};
-use db_catalog::{CatalogView, DbRecord};
+use crate::walking::{has_index, names};
+use db_catalog::{CATALOG, CatalogView, DbRecord};
 use je_order::{List, Word};
 use record_map::SortKey;
 use record_tree::Records;

@@ -5,14 +5,12 @@ ghost use Rattle.log_replay.specs.Rows.{catalog_index, is_catalog_row, is_indexe
 ghost use Rattle.txn_core.specs.Known.{committed};
 
 use crate::reading::next;
+use db_catalog::CATALOG;
 use je_order::{List, Word};
 use log_replay::index_of;
 use record_map::{EdgeRef, SortKey};
 use record_tree::Records;
 use std::alloc::{AllocError, Global};
-
-/// The number of the catalog, whose records are the other databases' names, numbers and kinds.
-pub const CATALOG: u32 = 0;
 
 // The name of the database that a record of a right catalog names.
 fn word_in(alloc: Global, name: &SortKey) -> Result<Word, AllocError>
