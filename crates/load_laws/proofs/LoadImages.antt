@@ -1,5 +1,5 @@
 -- What a load attempts to commit, event after event.
-use Rattle.std.proofs.Common.{◌≡◌, ◌==◌, ◌⊎◌, ◌≤◌, inl, inr, ⊎_elim, arith, ℕ, zero, suc, length, Bool, true, false, cond, List, [], ◌∷◌, ◌++◌, Option, None, Some, refl, ap, sym, ◌∙◌, subst, map, filter}
+use Rattle.std.proofs.Common.{◌≡◌, ◌==◌, ◌⊎◌, ◌≤◌, inl, inr, ⊎_elim, arith, ℕ, zero, suc, length, Bool, true, false, cond, List, [], ◌∷◌, ◌++◌, Option, None, refl, ap, sym, ◌∙◌, subst, map}
 use Rattle.std.specs.Prelude.{take}
 use Rattle.std.proofs.lemmas.Bool.{true≢false}
 use Rattle.std.proofs.lemmas.List.{append-nil}
@@ -27,8 +27,8 @@ use Rattle.je_answers.specs.Events.{IsAnswered}
 use Rattle.je_answers.specs.After.{AnswersAsModel, Fate, fate_of, after_event}
 use Rattle.je_answers.specs.After.Fate.{Succeeds, IsRefused, Faults}
 use Rattle.je_answers.specs.Alone.{alone}
-use Rattle.je_answers.specs.Journal.{attempt_of, attempts_of, changes_of, line_of, lines_of, tried}
-use Rattle.load_run.specs.Lines.{begin_line, commit_line, kind_of_dump, load_lines, load_mode, pair_lines, put_line}
+use Rattle.je_answers.specs.Journal.{attempt_of, attempts_of, changes_of, lines_of, tried}
+use Rattle.load_run.specs.Lines.{begin_line, commit_line, kind_of_dump, load_lines, load_mode, put_line}
 use Rattle.load_laws.specs.Given.{AreEndsLast, StopsAtRefusal, is_refusal}
 use Rattle.load_laws.specs.Images.{LoadsComeWhole}
 use Rattle.load_laws.proofs.LoadLaws.{of_none, run_none}
@@ -46,19 +46,19 @@ step_none false l m more ls rest one other e =
     let same : l ≡ m = cc in absurd (true≢false (sym one ∙ ap is_session same ∙ other))
 
 -- a step is no line of a load
-not_step : (line : ℕ) (step : Step) (l : ScriptLine) (more ls rest : List ScriptLine) → is_session l ≡ true → l ∷ more ≡ ((cond (line == 0) [] (Maintenance line step ∷ [])) ++ ls) ++ rest → l ∷ more ≡ ls ++ rest
+pub not_step : (line : ℕ) (step : Step) (l : ScriptLine) (more ls rest : List ScriptLine) → is_session l ≡ true → l ∷ more ≡ ((cond (line == 0) [] (Maintenance line step ∷ [])) ++ ls) ++ rest → l ∷ more ≡ ls ++ rest
 not_step line step l more ls rest one e = step_none (line == 0) l (Maintenance line step) more ls rest one refl e
 
-pairs_step : (line : ℕ) (step : Step) (db : List ℕ) (mode : PutMode) (pairs : List DumpPair) (ls rest : List ScriptLine) →
+pub pairs_step : (line : ℕ) (step : Step) (db : List ℕ) (mode : PutMode) (pairs : List DumpPair) (ls rest : List ScriptLine) →
     map (put_line db mode) pairs ++ commit_line ∷ [] ≡ ((cond (line == 0) [] (Maintenance line step ∷ [])) ++ ls) ++ rest → map (put_line db mode) pairs ++ commit_line ∷ [] ≡ ls ++ rest
 pairs_step line step db mode [] ls rest e = not_step line step commit_line [] ls rest refl e
 pairs_step line step db mode (p ∷ pairs) ls rest e = not_step line step (put_line db mode p) (map (put_line db mode) pairs ++ commit_line ∷ []) ls rest refl e
 
-no_step : (b : Bool) (m : ScriptLine) (ls : List ScriptLine) → (cond b [] (m ∷ [])) ++ ls ≡ [] → ls ≡ []
+pub no_step : (b : Bool) (m : ScriptLine) (ls : List ScriptLine) → (cond b [] (m ∷ [])) ++ ls ≡ [] → ls ≡ []
 no_step true m ls e = e
 no_step false m ls e = cc
 
-front_empty : (ls rest : List ScriptLine) → [] ≡ ls ++ rest → (ls ≡ []) × (rest ≡ [])
+pub front_empty : (ls rest : List ScriptLine) → [] ≡ ls ++ rest → (ls ≡ []) × (rest ≡ [])
 front_empty [] rest e = (refl, sym e)
 front_empty (l ∷ ls) rest e = cc
 
@@ -98,16 +98,16 @@ tried_none : (changes : List Change) (fate : Fate) → changes ≡ [] → tried 
 tried_none changes fate none = ap (λ (l : List Change). tried l fate) none
 
 -- a put commits nothing
-put_none : (st : Standing) (x : IsInLoad st) (line : ℕ) (db key value : List ℕ) (mode : PutMode) (answer : Answer) (victims : List Victim) → attempt_of st (Called 1 line (Put db key value mode) answer victims) ≡ []
+pub put_none : (st : Standing) (x : IsInLoad st) (line : ℕ) (db key value : List ℕ) (mode : PutMode) (answer : Answer) (victims : List Victim) → attempt_of st (Called 1 line (Put db key value mode) answer victims) ≡ []
 put_none st x line db key value mode answer victims =
     tried_none _ (fate_of answer) (of_none (early_refusal st 1 (Put db key value mode)) st 1 (Put db key value mode)
     (run_none 1 st (Put db key value mode) (record { active = x.active; is = its_active st x; own = x.own })))
 
 -- nor does a beginning
-begin_none : (st : Standing) (line : ℕ) (answer : Answer) (victims : List Victim) → attempt_of st (Called 1 line (Begin RepeatableRead Sync true) answer victims) ≡ []
+pub begin_none : (st : Standing) (line : ℕ) (answer : Answer) (victims : List Victim) → attempt_of st (Called 1 line (Begin RepeatableRead Sync true) answer victims) ≡ []
 begin_none st line answer victims = tried_none _ (fate_of answer) (of_none (early_refusal st 1 (Begin RepeatableRead Sync true)) st 1 (Begin RepeatableRead Sync true) refl)
 
-called_same : (session line : ℕ) (call : Call) (answer : Answer) (victims : List Victim) (given : Call) (at : ℕ) (more : List ScriptLine) (ls rest : List ScriptLine) →
+pub called_same : (session line : ℕ) (call : Call) (answer : Answer) (victims : List Victim) (given : Call) (at : ℕ) (more : List ScriptLine) (ls rest : List ScriptLine) →
     Session 1 at given ∷ more ≡ Session session line call ∷ (ls ++ rest) → (Called session line call answer victims ≡ Called 1 at given answer victims) × (more ≡ ls ++ rest)
 called_same session line call answer victims given at more ls rest e = (cc, cc)
 
@@ -198,7 +198,7 @@ begun_load kept db mode rest pairs st (limit ∷ limits) (Turn line step answer 
 abbrev pub HasTwoAttempts : List ScriptLine → List ℕ → Kind → List (List Change) → Type 0
 HasTwoAttempts rest db kind attempts = (attempts ≡ []) ⊎ ((later : List (List Change)) × (attempts ≡ (Make db kind ∷ []) ∷ later) × HasOneAttempt rest later)
 
-created_then : (kept : Bool) (limit : Option Answer) (st : Standing) (event : Event) (line : ℕ) (db : List ℕ) (kind : Kind) (answer : Answer) (victims : List Victim) → IsAlone st → event ≡ Called 1 line (Create db kind) answer victims →
+pub created_then : (kept : Bool) (limit : Option Answer) (st : Standing) (event : Event) (line : ℕ) (db : List ℕ) (kind : Kind) (answer : Answer) (victims : List Victim) → IsAlone st → event ≡ Called 1 line (Create db kind) answer victims →
     IsAnswered limit st event → IsCreated kept answer (attempt_of st event) db kind × IsAlone (after_event st event)
 created_then kept limit st event line db kind answer victims h e is =
     let here = subst (λ (v : Event). IsAnswered limit (alone h.0) v) e (subst (λ (s : Standing). IsAnswered limit s event) h.1 is) in (

@@ -1,5 +1,5 @@
 -- What the events of a load attempt.
-use Rattle.std.proofs.Common.{arith, ◌≡◌, ◌≤◌, ◌+◌, ◌++◌, ℕ, suc, List, [], ◌∷◌, Option, Some, None, Bool, true, false, length, length-append, filter, refl, sym, ap, ◌∙◌, subst}
+use Rattle.std.proofs.Common.{arith, ◌≡◌, ◌≤◌, ◌+◌, ℕ, List, [], ◌∷◌, Option, Some, None, Bool, true, false, length, length-append, filter, refl}
 use Rattle.store_model.specs.declared.answer.Answer.{Answer}
 use Rattle.store_model.specs.declared.call.Call.{Call}
 use Rattle.store_model.specs.declared.call.Call.TheVariants.{Begin, Commit, Create, Put}
@@ -15,7 +15,7 @@ use Rattle.je_answers.specs.Locking.{first_blocked}
 use Rattle.je_answers.specs.After.{Fate, fate_of, after_event}
 use Rattle.je_answers.specs.After.Fate.{Succeeds, IsRefused, Faults}
 use Rattle.je_answers.specs.Journal.{attempt_of, attempts_of, changes_evaluated, changes_in, changes_of, changes_performed, changes_run, changes_taken, tried}
-use Rattle.load_laws.specs.Loads.{AreLoadEvents, IsInTxn, IsLoadCall, IsLoadEvent, LoadsAttemptFew, is_committing, may_commit}
+use Rattle.load_laws.specs.Loads.{IsInTxn, IsLoadCall, IsLoadEvent, LoadsAttemptFew, is_committing, may_commit}
 
 tried_few : (changes : List Change) (fate : Fate) → length (tried changes fate) ≤ 1
 tried_few [] fate = omega arith

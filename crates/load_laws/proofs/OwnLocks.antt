@@ -1,6 +1,6 @@
 -- Locks that are all of one transaction stop none of its calls.
-use Rattle.std.proofs.Common.{◌≡◌, ◌&&◌, Bool, true, false, cond, not, List, [], ◌∷◌, ◌++◌, Option, None, Some, refl, ap, sym, ◌∙◌, subst, map}
-use Rattle.std.specs.List.{AllByRecursion, list_any}
+use Rattle.std.proofs.Common.{◌≡◌, ◌&&◌, Bool, true, false, cond, not, List, [], ◌∷◌, None, Some, refl, ap, ◌∙◌, map}
+use Rattle.std.specs.List.{AllByRecursion}
 use Rattle.std.proofs.lemmas.Bool.{cond-false}
 use Rattle.je_order.specs.declared.txn_id.TxnId.{TxnId}
 use Rattle.je_order.specs.Transactions.{is_same_txn}
@@ -10,7 +10,7 @@ use Rattle.lock_mode.specs.Modes.{can_be_held, conflicts_with}
 use Rattle.lock_table.specs.declared.lock.Lock.{Lock}
 use Rattle.lock_table.specs.declared.record_id.RecordId.{RecordId}
 use Rattle.lock_table.specs.Records.{is_record}
-use Rattle.lock_table.specs.Locks.{after_ask, has_lock, is_blocked, is_blocking, is_of, lock_of, upgraded_by, with_lock}
+use Rattle.lock_table.specs.Locks.{after_ask, has_lock, is_blocked, is_of, lock_of, upgraded_by, with_lock}
 use Rattle.store_model.specs.declared.need.Need.{Need}
 use Rattle.je_answers.specs.Locking.{Queues, all_got, first_blocked, got, is_stopped, record_of}
 

@@ -1,5 +1,5 @@
 -- Where a load stands: before its transaction, in it, and behind its last line.
-use Rattle.std.proofs.Common.{◌≡◌, ◌==◌, ◌⊎◌, length, nat_le, inl, inr, ℕ, Bool, true, false, cond, nat_lt, List, [], ◌∷◌, ◌++◌, Option, None, Some, refl, ap, sym, ◌∙◌, subst}
+use Rattle.std.proofs.Common.{◌≡◌, ◌==◌, ◌⊎◌, length, nat_le, inl, inr, ℕ, Bool, true, false, cond, nat_lt, List, [], ◌∷◌, Option, None, Some, refl, ap, sym, ◌∙◌, subst}
 use Rattle.std.specs.Option.{is_some}
 use Rattle.std.proofs.lemmas.Bool.{eqb-true}
 use Rattle.je_order.specs.declared.txn_id.TxnId.{TxnId}
@@ -30,10 +30,10 @@ use Rattle.je_answers.specs.declared.active.Active.{Active}
 use Rattle.je_answers.specs.declared.wait.Wait.{Wait}
 use Rattle.je_answers.specs.Standing.{Standing, active_of, wait_of, without_wait}
 use Rattle.je_answers.specs.Views.{Target, target_of, outcome_of, needs_in}
-use Rattle.je_answers.specs.Refusals.{early_refusal, fault_refusal, late_refusal, number_refusal}
+use Rattle.je_answers.specs.Refusals.{early_refusal, fault_refusal, late_refusal}
 use Rattle.je_answers.specs.Locking.{Queues, all_got, first_blocked, given_back}
 use Rattle.je_answers.specs.Events.{IsAnswered, IsCallAnswered, IsEvaluated, IsResumed}
-use Rattle.je_answers.specs.After.{Fate, fate_of, drawn_by, closed, ended, ended_if_any, committed_if_any, after_fate, after_changes, after_taking, after_on, after_run, after_commit, after_ending, after_catalog, after_evaluated, after_call, faulted_if, after_begin, after_turn, after_event}
+use Rattle.je_answers.specs.After.{Fate, fate_of, drawn_by, closed, ended_if_any, after_fate, after_changes, after_taking, after_on, after_run, after_commit, after_ending, after_catalog, after_evaluated, after_call, faulted_if, after_begin, after_turn, after_event}
 use Rattle.je_answers.specs.After.Fate.{Succeeds, IsRefused, Faults}
 use Rattle.je_answers.specs.Alone.{Alone, alone, committed_alone, drawn_alone, faulted_alone}
 use Rattle.je_answers.specs.Journal.{attempt_of, changes_evaluated, changes_of, tried}
@@ -111,7 +111,7 @@ pub record IsInLoadAt (actives : List Active) (waiting : List Wait) (at : Queues
 abbrev pub IsInLoad : Standing → Type 0
 IsInLoad st = IsInLoadAt st.actives st.waiting st.locks.at
 
-found_one : (session : ℕ) (a : Active) (b : Bool) → (a.session == session) ≡ b → active_of session (a ∷ []) ≡ cond b (Some a) None
+pub found_one : (session : ℕ) (a : Active) (b : Bool) → (a.session == session) ≡ b → active_of session (a ∷ []) ≡ cond b (Some a) None
 found_one session a b e = rw e refl
 
 -- its transaction is found
@@ -147,7 +147,7 @@ load_turned st line step answer h = load_turn step answer st h
 
 -- ---- a put
 
-locks_after : (level : Isolation) (t : TxnId) (ns : List Need) (at : Queues) → level ≡ RepeatableRead → AreAllOf t at → AreAllOf t (given_back level t (all_got t ns at))
+pub locks_after : (level : Isolation) (t : TxnId) (ns : List Need) (at : Queues) → level ≡ RepeatableRead → AreAllOf t at → AreAllOf t (given_back level t (all_got t ns at))
 locks_after level t ns at is all =
     subst (λ (l : Isolation). AreAllOf t (given_back l t (all_got t ns at))) (sym is) (all_got_of t ns at all)
 

@@ -15,6 +15,11 @@ is_refusal kept (Logged commit) = false
 is_refusal kept KeyExist = not kept
 is_refusal kept answer = true
 
+-- whether an event is a call that was refused
+abbrev pub is_refused : Bool → Event → Bool
+is_refused kept (Called session line call answer victims) = is_refusal kept answer
+is_refused kept event = false
+
 -- behind a call that was refused no line is given
 abbrev pub IsLastIfRefused : Bool → Event → List Event → Type 0
 IsLastIfRefused kept (Called session line call answer victims) later = is_refusal kept answer ≡ true → lines_of later ≡ []

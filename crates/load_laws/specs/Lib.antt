@@ -3,3 +3,5 @@ pub mod Loads
 pub mod Given
 -- What a crash leaves of a load.
 pub mod Images
+-- What a load stores.
+pub mod Stored

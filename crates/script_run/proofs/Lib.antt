@@ -20,3 +20,9 @@ pub mod RunLaws
 pub mod Ending
 -- Steps of maintenance, and the syncs that they ask for.
 pub mod Steps
+-- How a journal grows, and that behind a refused call it grows by no line.
+pub mod Growing
+-- A load is a run of its lines that pauses at a refusal.
+pub mod LoadRuns
+-- What a loop over a vector's elements was given.
+pub mod Yielded

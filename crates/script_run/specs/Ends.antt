@@ -1,5 +1,5 @@
 -- Where a run ends its sessions.
-use Rattle.std.specs.Prelude.{ℕ, ◌≡◌, ◌<◌, ◌⊎◌, ◌++◌, [], ◌∷◌, List, None, Bool, true, false, slice_index_or}
+use Rattle.std.specs.Prelude.{ℕ, ◌≡◌, ◌≤◌, ◌<◌, ◌⊎◌, ◌++◌, [], ◌∷◌, List, None, Bool, true, false, length, slice_index_or}
 use Rattle.std.specs.Option.{is_some}
 use Rattle.std.specs.List.{AllByRecursion}
 use Rattle.store_model.specs.declared.event.Event.{Event}
@@ -60,6 +60,12 @@ pub record HasGained (stopped : List Bool) (old new : List Event) : Type 0 where
   pub is : new ≡ old ++ more
   pub lines : lines_of more ≡ []
   pub ends : AllByRecursion (IsOfStopped stopped) more
+
+-- a journal gained events, of which lines gave so many at most
+pub record HasGrown (most : ℕ) (old new : List Event) : Type 0 where
+  pub more : List Event
+  pub is : new ≡ old ++ more
+  pub lines : length (lines_of more) ≤ most
 
 -- ---- while sessions are ended, by rising number
 

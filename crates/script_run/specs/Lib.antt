@@ -6,3 +6,5 @@ pub mod Lines
 pub mod Ends
 pub mod UnderWay
 pub mod Running
+-- Where a run pauses.
+pub mod Pauses

@@ -3,7 +3,7 @@ ghost use Rattle.std.specs.Prelude.{◌≡◌, ◌≢◌, ◌++◌, ◌∷◌, [
 ghost use Rattle.store_model.specs.declared.step.Step.TheVariants.{Sync as SyncStep};
 ghost use Rattle.store_model.specs.declared.plan.ScriptLine.TheVariants.{Maintenance};
 ghost use Rattle.je_answers.specs.Journal.{lines_of};
-ghost use Rattle.script_run.specs.Ends.{AreEndsStopped, HasGained};
+ghost use Rattle.script_run.specs.Ends.{AreEndsStopped, HasGained, HasGrown};
 ghost use Rattle.script_run.specs.Events.Awaited.{Nothing};
 ghost use Rattle.script_run.specs.UnderWay.{Beginning, HasRoom, IsCalm, IsUnderWay, MayTurn};
 
@@ -47,6 +47,7 @@ impl<D: Disk> Recorded<D> {
         ensures goes_on { (p : Beginning) → IsUnderWay D.meaning p Nothing self.old → MayTurn p step self.old → IsUnderWay D.meaning p Nothing self.new }
         ensures line { OnOk result (lines_of self.new.journal.items ≡ lines_of self.old.journal.items ++ Maintenance line step ∷ []) }
         ensures ends { (stopped : List Bool) → AreEndsStopped stopped self.old.journal.items → AreEndsStopped stopped self.new.journal.items }
+        ensures grew { HasGrown 1 self.old.journal.items self.new.journal.items }
         ensures err { OnErr result (self.new.journal.items ≡ self.old.journal.items) }
     {
         let answer = match self.environment.turn(alloc, step) {
@@ -65,6 +66,7 @@ impl<D: Disk> Recorded<D> {
         ensures goes_on { (p : Beginning) → IsUnderWay D.meaning p Nothing self.old → IsCalm p self.old → IsUnderWay D.meaning p Nothing self.new }
         ensures line { OnOk result (lines_of self.new.journal.items ≡ lines_of self.old.journal.items ++ Maintenance line step ∷ []) }
         ensures ends { (stopped : List Bool) → AreEndsStopped stopped self.old.journal.items → AreEndsStopped stopped self.new.journal.items }
+        ensures grew { HasGrown 1 self.old.journal.items self.new.journal.items }
         ensures err { OnErr result (lines_of self.new.journal.items ≡ lines_of self.old.journal.items) }
     {
         self.make_room(ROOM)?;

@@ -7,7 +7,7 @@ ghost use Rattle.store_model.specs.declared.event.Event.TheVariants.{End};
 ghost use Rattle.store_model.specs.declared.plan.ScriptLine.TheVariants.{Session};
 ghost use Rattle.store_model.specs.Journal.{is_logged};
 ghost use Rattle.je_answers.specs.Journal.{lines_of};
-ghost use Rattle.script_run.specs.Ends.{AreEndsStopped, HasGained, IsStopped};
+ghost use Rattle.script_run.specs.Ends.{AreEndsStopped, HasGained, HasGrown, IsStopped};
 ghost use Rattle.script_run.specs.Events.{awaited_of};
 ghost use Rattle.script_run.specs.Events.Awaited.{Nothing, Follow};
 ghost use Rattle.script_run.specs.UnderWay.{Beginning, BeginsNone, GoesOnWith, HasRoom, HasSettled, HasSynced, IsCalm, IsNext, IsUnderWay, MayEnd, Settles, StandsAlike};
@@ -70,6 +70,7 @@ impl<D: Disk> Recorded<D> {
         ensures goes_on { (p : Beginning) → IsUnderWay D.meaning p Nothing self.old → IsCalm p self.old → GoesOnWith D.meaning p result self.new }
         ensures line { OnOk result (lines_of self.new.journal.items ≡ lines_of self.old.journal.items ++ Session session line call ∷ []) }
         ensures ends { (stopped : List Bool) → slice_index_or stopped session false ≡ false → AreEndsStopped stopped self.old.journal.items → AreEndsStopped stopped self.new.journal.items }
+        ensures grew { HasGrown 1 self.old.journal.items self.new.journal.items }
         ensures err { OnErr result (self.new.journal.items ≡ self.old.journal.items) }
         ensures room { OnOk result (HasRoom 2 self.new) }
     {
@@ -232,6 +233,7 @@ impl<D: Disk> Recorded<D> {
         ensures goes_on { (p : Beginning) → IsUnderWay D.meaning p Nothing self.old → IsCalm p self.old → IsUnderWay D.meaning p Nothing self.new }
         ensures line { OnOk result (lines_of self.new.journal.items ≡ lines_of self.old.journal.items ++ Session session line call ∷ []) }
         ensures ends { (stopped : List Bool) → slice_index_or stopped session false ≡ false → AreEndsStopped stopped self.old.journal.items → AreEndsStopped stopped self.new.journal.items }
+        ensures grew { HasGrown 1 self.old.journal.items self.new.journal.items }
         ensures err { OnErr result (self.new.journal.items ≡ self.old.journal.items) }
     {
         if self.make_room(ROOM).is_err() {

@@ -1,14 +1,16 @@
 // A run of a script's lines.
 ghost use Rattle.std.specs.Prelude.{◌≡◌, ◌≢◌, ◌≤◌, ◌<◌, ◌⊎◌, ◌+◌, ◌++◌, ◌∷◌, [], ℕ, List, length, true, false, slice_index_or, IfSome, IsNone};
-ghost use Rattle.std.specs.List.{list_all};
+ghost use Rattle.std.specs.List.{list_all, list_any};
 ghost use Rattle.script_text.specs.Grammar.{is_line};
 ghost use Rattle.store_model.specs.declared.plan.ScriptLine.{ScriptLine as Line};
 ghost use Rattle.store_model.specs.declared.plan.ScriptLine.TheVariants.{Maintenance, Session};
-ghost use Rattle.script_run.specs.Ends.{AreEndsInPlace, IsStopped};
+ghost use Rattle.script_run.specs.Ends.{AreEndsInPlace, HasGrown, IsStopped};
 ghost use Rattle.script_run.specs.Events.Awaited.{Nothing};
 ghost use Rattle.script_run.specs.UnderWay.{Beginning, BeginsNone, IsCalm, IsNext, IsOutside, IsUnderWay, MayEnd, standing};
+ghost use Rattle.script_run.specs.Pauses.{HasLinesUntil, StopsAt, pauses};
 ghost use Rattle.script_run.specs.Running.{AreFlags, Begins, EndsBelow, EndsStopped, HasEnded, HasGoneOn, HasHalted, HasLines, HasSettledOrHalted, IsCalmOrHalted};
 
+use crate::pause::Pause;
 use crate::recorded::{ROOM, Recorded};
 use environment::Environment;
 use je_disk::Disk;
@@ -170,6 +172,7 @@ impl<D: Disk> Running<D> {
         ensures flags { AreFlags self.new }
         ensures goes_on { (p : Beginning) → IsUnderWay D.meaning p Nothing self.old.recorded → IsCalmOrHalted p self.old → IsUnderWay D.meaning p Nothing self.new.recorded }
         ensures ends { EndsStopped self.old → EndsStopped self.new }
+        ensures grew { HasGrown 1 self.old.recorded.journal.items self.new.recorded.journal.items }
         ensures given { (lines : List Line) → HasLines self.old lines → HasLines self.new (lines ++ Session session line call ∷ []) }
     {
         if self.stopped[session as usize] {
@@ -194,6 +197,7 @@ impl<D: Disk> Running<D> {
         ensures goes_on { (p : Beginning) → IsUnderWay D.meaning p Nothing self.old.recorded → IsCalmOrHalted p self.old → IsUnderWay D.meaning p Nothing self.new.recorded }
         ensures calm { (p : Beginning) → IsUnderWay D.meaning p Nothing self.old.recorded → IsCalmOrHalted p self.old → IsCalmOrHalted p self.new }
         ensures ends { EndsStopped self.old → EndsStopped self.new }
+        ensures grew { HasGrown 1 self.old.recorded.journal.items self.new.recorded.journal.items }
         ensures given { (lines : List Line) → HasLines self.old lines → HasLines self.new (lines ++ Session session line call ∷ []) }
     {
         self.give_line(alloc, session, line, call);
@@ -208,6 +212,7 @@ impl<D: Disk> Running<D> {
         ensures flags { AreFlags self.new }
         ensures goes_on { (p : Beginning) → IsUnderWay D.meaning p Nothing self.old.recorded → IsCalmOrHalted p self.old → IsUnderWay D.meaning p Nothing self.new.recorded }
         ensures ends { EndsStopped self.old → EndsStopped self.new }
+        ensures grew { HasGrown 1 self.old.recorded.journal.items self.new.recorded.journal.items }
         ensures given { (lines : List Line) → HasLines self.old lines → HasLines self.new (lines ++ Maintenance line step ∷ []) }
     {
         if self.steps_stopped {
@@ -228,6 +233,7 @@ impl<D: Disk> Running<D> {
         ensures goes_on { (p : Beginning) → IsUnderWay D.meaning p Nothing self.old.recorded → IsCalmOrHalted p self.old → IsUnderWay D.meaning p Nothing self.new.recorded }
         ensures calm { (p : Beginning) → IsUnderWay D.meaning p Nothing self.old.recorded → IsCalmOrHalted p self.old → IsCalmOrHalted p self.new }
         ensures ends { EndsStopped self.old → EndsStopped self.new }
+        ensures grew { HasGrown 1 self.old.recorded.journal.items self.new.recorded.journal.items }
         ensures given { (lines : List Line) → HasLines self.old lines → HasLines self.new (lines ++ Maintenance line step ∷ []) }
     {
         self.give_step(alloc, line, step);
@@ -243,6 +249,7 @@ impl<D: Disk> Running<D> {
         ensures goes_on { (p : Beginning) → IsUnderWay D.meaning p Nothing self.old.recorded → IsCalmOrHalted p self.old → IsUnderWay D.meaning p Nothing self.new.recorded }
         ensures calm { (p : Beginning) → IsUnderWay D.meaning p Nothing self.old.recorded → IsCalmOrHalted p self.old → IsCalmOrHalted p self.new }
         ensures ends { EndsStopped self.old → EndsStopped self.new }
+        ensures grew { HasGrown 1 self.old.recorded.journal.items self.new.recorded.journal.items }
         ensures given { (lines : List Line) → HasLines self.old lines → HasLines self.new (lines ++ given ∷ []) }
     {
         match given {
@@ -255,6 +262,25 @@ impl<D: Disk> Running<D> {
         }
     }
 
+    // Gives the next line. Tells whether the run pauses behind it.
+    fn execute_until(&mut self, alloc: Global, given: ScriptLine, pause: Pause) -> bool
+        requires here { (p : Beginning) × IsUnderWay D.meaning p Nothing self.old.recorded × IsCalmOrHalted p self.old }
+        requires flags { AreFlags self.old }
+        requires line { is_line given ≡ true }
+        ensures flags { AreFlags self.new }
+        ensures goes_on { (p : Beginning) → IsUnderWay D.meaning p Nothing self.old.recorded → IsCalmOrHalted p self.old → IsUnderWay D.meaning p Nothing self.new.recorded }
+        ensures calm { (p : Beginning) → IsUnderWay D.meaning p Nothing self.old.recorded → IsCalmOrHalted p self.old → IsCalmOrHalted p self.new }
+        ensures ends { EndsStopped self.old → EndsStopped self.new }
+        ensures given { (lines : List Line) → HasLines self.old lines → HasLines self.new (lines ++ given ∷ []) }
+        ensures stops { list_any (pauses pause) self.old.recorded.journal.items ≡ false → StopsAt pause self.new.recorded.journal.items }
+        ensures paused { result ≡ true → list_any (pauses pause) self.new.recorded.journal.items ≡ true }
+        ensures going { result ≡ false → list_any (pauses pause) self.old.recorded.journal.items ≡ false → list_any (pauses pause) self.new.recorded.journal.items ≡ false }
+    {
+        let before = self.recorded.journal.len();
+        self.execute_next(alloc, given);
+        pause.pauses_in(&self.recorded.journal[before..])
+    }
+
     // Ends a session that has a transaction; then the calls that may go on do.
     fn end_if_open(&mut self, alloc: Global, session: u8)
         requires here { (p : Beginning) × IsUnderWay D.meaning p Nothing self.old.recorded × IsCalmOrHalted p self.old }
@@ -265,6 +291,7 @@ impl<D: Disk> Running<D> {
         ensures begins_none { (p : Beginning) → IsUnderWay D.meaning p Nothing self.old.recorded → IsCalmOrHalted p self.old → BeginsNone p self.old.recorded self.new.recorded }
         ensures ended { (p : Beginning) → IsUnderWay D.meaning p Nothing self.old.recorded → IsCalmOrHalted p self.old → self.new.halted ≡ false → IsOutside p session self.new.recorded }
         ensures ends { (p : Beginning) → IsUnderWay D.meaning p Nothing self.old.recorded → IsCalmOrHalted p self.old → EndsBelow p session self.old → EndsBelow p (session + 1) self.new }
+        ensures grew { HasGrown 0 self.old.recorded.journal.items self.new.recorded.journal.items }
         ensures works { self.new.halted ≡ false → self.old.halted ≡ false }
         ensures given { (lines : List Line) → HasLines self.old lines → HasLines self.new lines }
     {
@@ -287,6 +314,7 @@ impl<D: Disk> Running<D> {
         ensures calm { (p : Beginning) → IsUnderWay D.meaning p Nothing self.old.recorded → IsCalmOrHalted p self.old → IsCalmOrHalted p self.new }
         ensures ended { (p : Beginning) → IsUnderWay D.meaning p Nothing self.old.recorded → IsCalmOrHalted p self.old → self.new.halted ≡ false → (standing p self.new.recorded).actives ≡ [] }
         ensures ends { (p : Beginning) → IsUnderWay D.meaning p Nothing self.old.recorded → IsCalmOrHalted p self.old → EndsStopped self.old → AreEndsInPlace self.new.stopped p.st self.new.recorded.journal.items }
+        ensures grew { HasGrown 0 self.old.recorded.journal.items self.new.recorded.journal.items }
         ensures given { (lines : List Line) → HasLines self.old lines → HasLines self.new lines }
     {
         for session in 0..=255u8 {
@@ -294,29 +322,63 @@ impl<D: Disk> Running<D> {
         }
     }
 
-    // Gives lines, one after another.
-    fn execute_all(&mut self, alloc: Global, lines: Vec<ScriptLine>)
+    // Gives lines, one after another, until the run pauses.
+    fn execute_all(&mut self, alloc: Global, lines: Vec<ScriptLine>, pause: Pause)
         requires here { (p : Beginning) × IsUnderWay D.meaning p Nothing self.old.recorded × IsCalmOrHalted p self.old }
         requires flags { AreFlags self.old }
         requires lines { list_all is_line lines.items ≡ true }
         requires given { HasLines self.old [] }
+        requires none { self.old.recorded.journal.items ≡ [] }
         ensures flags { AreFlags self.new }
         ensures goes_on { (p : Beginning) → IsUnderWay D.meaning p Nothing self.old.recorded → IsCalmOrHalted p self.old → IsUnderWay D.meaning p Nothing self.new.recorded }
         ensures calm { (p : Beginning) → IsUnderWay D.meaning p Nothing self.old.recorded → IsCalmOrHalted p self.old → IsCalmOrHalted p self.new }
         ensures ends { EndsStopped self.old → EndsStopped self.new }
-        ensures given { HasLines self.new lines.items }
+        ensures given { HasLinesUntil pause self.new lines.items }
     {
         for given in lines {
-            self.execute_next(alloc, given);
+            if self.execute_until(alloc, given, pause) {
+                return;
+            }
         }
     }
 }
 
 /// Gives the lines in order. What a commit waits for is done at once; then each call that waited and may go
-/// on does, in the order in which they began to wait; then comes the next line. At the end each session that
-/// has a transaction is ended. A call that finds no memory is not in the journal, and ends its session, which
-/// gives no further line; the others go on. A step of maintenance that finds none is not in the journal either,
-/// and no further one is given.
+/// on does, in the order in which they began to wait; then comes the next line, unless the run pauses. At the
+/// end each session that has a transaction is ended. A call that finds no memory is not in the journal, and
+/// ends its session, which gives no further line; the others go on. A step of maintenance that finds none is
+/// not in the journal either, and no further one is given.
+pub fn run_until<D: Disk>(
+    alloc: Global,
+    environment: Environment<D>,
+    lines: Vec<ScriptLine>,
+    pause: Pause,
+) -> Running<D>
+    requires start { (p : Beginning) × Begins D.meaning p environment }
+    requires lines { list_all is_line lines.items ≡ true }
+    ensures goes_on { (p : Beginning) → Begins D.meaning p environment → IsUnderWay D.meaning p Nothing result.recorded }
+    ensures calm { (p : Beginning) → Begins D.meaning p environment → result.memory_ended ≡ false → IsCalm p result.recorded }
+    ensures ended { (p : Beginning) → Begins D.meaning p environment → result.memory_ended ≡ false → (standing p result.recorded).actives ≡ [] }
+    ensures ends { (p : Beginning) → Begins D.meaning p environment → AreEndsInPlace result.stopped p.st result.recorded.journal.items }
+    ensures given { HasLinesUntil pause result lines.items }
+{
+    let recorded = Recorded {
+        environment,
+        journal: journal_for(alloc, lines.len()),
+    };
+    let mut running = Running {
+        recorded,
+        memory_ended: false,
+        stopped: all_sessions(false),
+        steps_stopped: false,
+        halted: false,
+    };
+    running.execute_all(alloc, lines, pause);
+    running.end_sessions(alloc);
+    running
+}
+
+/// Gives all lines: a run that pauses nowhere.
 pub fn run<D: Disk>(
     alloc: Global,
     environment: Environment<D>,
@@ -330,18 +392,5 @@ pub fn run<D: Disk>(
     ensures ends { (p : Beginning) → Begins D.meaning p environment → AreEndsInPlace result.stopped p.st result.recorded.journal.items }
     ensures given { HasLines result lines.items }
 {
-    let recorded = Recorded {
-        environment,
-        journal: journal_for(alloc, lines.len()),
-    };
-    let mut running = Running {
-        recorded,
-        memory_ended: false,
-        stopped: all_sessions(false),
-        steps_stopped: false,
-        halted: false,
-    };
-    running.execute_all(alloc, lines);
-    running.end_sessions(alloc);
-    running
+    run_until(alloc, environment, lines, Pause::Never)
 }

@@ -1,10 +1,11 @@
-use Rattle.std.proofs.Common.{List, [], ◌∷◌, ◌++◌, ◌∙◌, ap, sym, subst}
+use Rattle.std.proofs.Common.{List, [], ◌∷◌, ◌++◌, ◌∙◌, ap, sym, subst, refl}
 use Rattle.store_model.specs.declared.event.Event.{Event}
 use Rattle.store_model.specs.declared.plan.ScriptLine.TheVariants.{Session}
 use Rattle.je_answers.specs.Journal.{lines_of}
 use Rattle.script_run.specs.Ends.{AreEndsStopped}
 use Rattle.script_run.proofs.EndLaws.{gained_lines, stopped_gained}
 use Rattle.script_run.proofs.Standings.{calm_same}
+use Rattle.script_run.proofs.Growing.{grown_from, grown_gained, grown_same, grown_then}
 use Rattle.script_run.proofs.recorded.Recorded.execute.Goals as goal
 
 pub returns-clause-goes_on : goal.returns-clause-goes_on
@@ -20,3 +21,14 @@ pub returns-clause-ends : goal.returns-clause-ends
 returns-clause-ends g c = λ stopped running ends.
     stopped_gained stopped stopped c.step.new.self.journal.items c.follow.new.self.journal.items (λ s was. was) (c.follow.ensures.gained stopped)
     (c.in_ok-awaited.ensures.ends stopped running (subst (λ (l : List Event). AreEndsStopped stopped l) (sym {A = List Event} c.make_room.ensures.items) ends))
+
+pub returns-clause-grew : goal.returns-clause-grew
+returns-clause-grew g c =
+    let x = c.args.self.now.journal.items in
+    let m = c.make_room.new.self.journal.items in
+    let s = c.step.new.self.journal.items in
+    let y = c.follow.new.self.journal.items in
+    grown_from 1 x m y c.make_room.ensures.items (grown_then 1 0 1 m s y refl c.step.ensures.grew (grown_gained [] s y (c.follow.ensures.gained [])))
+
+pub returns-then-is_err-clause-grew : goal.returns-then-is_err-clause-grew
+returns-then-is_err-clause-grew g c = grown_same 1 c.args.self.now.journal.items c.make_room.new.self.journal.items c.make_room.ensures.items

@@ -1,4 +1,4 @@
-use Rattle.std.proofs.Common.{List, [], ◌∷◌, ◌++◌, ◌≡◌, ◌∙◌, ap, sym, subst}
+use Rattle.std.proofs.Common.{List, [], ◌∷◌, ◌++◌, ◌≡◌, ◌∙◌, ap, sym, subst, refl}
 use Rattle.store_model.specs.declared.event.Event.{Event}
 use Rattle.store_model.specs.declared.plan.ScriptLine.{ScriptLine}
 use Rattle.store_model.specs.declared.plan.ScriptLine.TheVariants.{Maintenance}
@@ -7,6 +7,7 @@ use Rattle.script_run.specs.Ends.{AreEndsStopped}
 use Rattle.script_run.proofs.EndLaws.{gained_lines, stopped_gained}
 use Rattle.script_run.proofs.Ending.{err_then, ok_then}
 use Rattle.script_run.proofs.Standings.{calm_same}
+use Rattle.script_run.proofs.Growing.{grown_from, grown_gained, grown_same, grown_then}
 use Rattle.script_run.proofs.recorded.Recorded.maintain.Goals as goal
 
 pub returns-clause-goes_on : goal.returns-clause-goes_on
@@ -44,3 +45,14 @@ returns-clause-ends g c = λ stopped ends.
     c.turn.ensures.ends stopped
     (stopped_gained stopped stopped m.journal.items s.journal.items (λ t was. was) (c.sync_for.ensures.gained stopped)
     (subst (λ (l : List Event). AreEndsStopped stopped l) (sym {A = List Event} c.make_room.ensures.items) ends))
+
+pub returns-clause-grew : goal.returns-clause-grew
+returns-clause-grew g c =
+    let x = c.args.self.now.journal.items in
+    let m = c.make_room.new.self.journal.items in
+    let s = c.sync_for.new.self.journal.items in
+    let y = c.turn.new.self.journal.items in
+    grown_from 1 x m y c.make_room.ensures.items (grown_then 0 1 1 m s y refl (grown_gained [] m s (c.sync_for.ensures.gained [])) c.turn.ensures.grew)
+
+pub returns-in_err-make_room-clause-grew : goal.returns-in_err-make_room-clause-grew
+returns-in_err-make_room-clause-grew g c = grown_same 1 c.args.self.now.journal.items c.make_room.new.self.journal.items c.make_room.ensures.items

@@ -10,6 +10,7 @@ use Rattle.script_run.specs.Events.Awaited.{Nothing}
 use Rattle.store_model.specs.declared.event.Event.{Event}
 use Rattle.store_model.specs.declared.event.Event.TheVariants.{Call as Called}
 use Rattle.je_answers.specs.After.{after_event}
+use Rattle.script_run.proofs.Growing.{grown_one, grown_same}
 use Rattle.script_run.proofs.recorded.Recorded.step.Goals as goal
 
 pub returns-in-Err-clause-goes_on : goal.returns-in-Err-clause-goes_on
@@ -58,3 +59,11 @@ returns-clause-ends g c = λ stopped running ends.
     let o = c.in-Ok.outcome in
     subst (λ (l : List Event). AreEndsStopped stopped l) (sym {A = List Event} c.record.ensures.items)
     (stopped_line stopped c.args.self.now.journal.items (Called c.args.session c.args.line c.args.call o.answer o.victims) c.args.session c.args.line c.args.call refl (λ later. tt) running ends)
+
+pub returns-in-Err-clause-grew : goal.returns-in-Err-clause-grew
+returns-in-Err-clause-grew g c = grown_same 1 c.args.self.now.journal.items c.args.self.now.journal.items refl
+
+pub returns-clause-grew : goal.returns-clause-grew
+returns-clause-grew g c =
+    let o = c.in-Ok.outcome in
+    grown_one c.args.self.now.journal.items c.record.new.journal.items (Called c.args.session c.args.line c.args.call o.answer o.victims) c.record.ensures.items

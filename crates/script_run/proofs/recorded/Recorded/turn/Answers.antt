@@ -8,6 +8,7 @@ use Rattle.script_run.specs.declared.recorded.Recorded.{Recorded}
 use Rattle.script_run.specs.Events.Awaited.{Nothing}
 use Rattle.store_model.specs.declared.event.Event.{Event}
 use Rattle.store_model.specs.declared.event.Event.TheVariants.{Turn}
+use Rattle.script_run.proofs.Growing.{grown_one, grown_same}
 use Rattle.script_run.proofs.recorded.Recorded.turn.Goals as goal
 
 pub returns-in-Err-clause-goes_on : goal.returns-in-Err-clause-goes_on
@@ -47,3 +48,9 @@ returns-clause-line g c = turned_lines c.args.self.now.journal.items c.record.ne
 
 pub returns-clause-ends : goal.returns-clause-ends
 returns-clause-ends g c = λ stopped ends. stopped_step stopped c.args.self.now.journal.items c.record.new.journal.items c.args.line c.args.step c.in-Ok.answer c.record.ensures.items ends
+
+pub returns-in-Err-clause-grew : goal.returns-in-Err-clause-grew
+returns-in-Err-clause-grew g c = grown_same 1 c.args.self.now.journal.items c.args.self.now.journal.items refl
+
+pub returns-clause-grew : goal.returns-clause-grew
+returns-clause-grew g c = grown_one c.args.self.now.journal.items c.record.new.journal.items (Turn c.args.line c.args.step c.in-Ok.answer) c.record.ensures.items

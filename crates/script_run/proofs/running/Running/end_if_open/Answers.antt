@@ -1,6 +1,7 @@
-use Rattle.std.proofs.Common.{◌∙◌, ◌+◌, inl, sym}
+use Rattle.std.proofs.Common.{◌∙◌, ◌+◌, inl, sym, refl}
 use Rattle.script_run.specs.UnderWay.{standing}
 use Rattle.script_run.proofs.Ending.{below_then, ended_below, ended_is_outside, ended_none, none_then, outside_by, passed, works_before}
+use Rattle.script_run.proofs.Growing.{ended_grown, grown_gained, grown_same, grown_then}
 use Rattle.script_run.proofs.running.Running.end_if_open.Goals as goal
 
 pub returns-then-self-clause-ends : goal.returns-then-self-clause-ends
@@ -42,3 +43,17 @@ returns-clause-ends g c = λ p under calm ends.
 
 pub returns-clause-works : goal.returns-clause-works
 returns-clause-works g c = works_before c.args.session c.args.self.now c.end_session.new.self c.resume_ready.new.self c.end_session.ensures.ended c.resume_ready.ensures.gone_on
+
+pub returns-then-self-clause-grew : goal.returns-then-self-clause-grew
+returns-then-self-clause-grew g c = (let x = c.args.self.now.recorded.journal.items in grown_same 0 x x refl)
+
+pub returns-then-not-has_transaction-clause-grew : goal.returns-then-not-has_transaction-clause-grew
+returns-then-not-has_transaction-clause-grew g c = (let x = c.args.self.now.recorded.journal.items in grown_same 0 x x refl)
+
+pub returns-clause-grew : goal.returns-clause-grew
+returns-clause-grew g c =
+    let x = c.args.self.now in
+    let m = c.end_session.new.self in
+    let y = c.resume_ready.new.self in
+    grown_then 0 0 0 x.recorded.journal.items m.recorded.journal.items y.recorded.journal.items refl (ended_grown c.args.session x m c.end_session.ensures.ended)
+    (grown_gained y.stopped m.recorded.journal.items y.recorded.journal.items c.resume_ready.ensures.gone_on.gained)

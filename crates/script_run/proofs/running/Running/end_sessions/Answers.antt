@@ -1,8 +1,9 @@
-use Rattle.std.proofs.Common.{arith}
+use Rattle.std.proofs.Common.{arith, refl}
 use Rattle.script_run.specs.UnderWay.{standing}
 use Rattle.script_run.proofs.Ending.{ended_up_to}
 use Rattle.script_run.proofs.EndLaws.{below_first}
 use Rattle.script_run.proofs.SessionLaws.{none_left}
+use Rattle.script_run.proofs.Growing.{grown_same, grown_then}
 use Rattle.script_run.proofs.running.Running.end_sessions.Goals as goal
 
 pub loop-session-init : goal.loop-session-init
@@ -12,6 +13,7 @@ loop-session-init g c = record {
   calm = λ p under calm. calm;
   ended = λ p under calm works session less. absurd (omega (arith, less));
   ends = λ p under calm ends. below_first c.args.self.now.stopped p.st c.args.self.now.recorded.journal.items 0 ends;
+  grew = (let x = c.args.self.now.recorded.journal.items in grown_same 0 x x refl);
   given = λ lines has. has;
 }
 
@@ -32,6 +34,7 @@ loop-session-preserved g c =
           (c.end_if_open.ensures.begins_none p (inv.goes_on p under calm) (inv.calm p under calm)) (inv.ended p under calm (c.end_if_open.ensures.works works))
           (c.end_if_open.ensures.ended p (inv.goes_on p under calm) (inv.calm p under calm) works);
       ends = λ p under calm ends. c.end_if_open.ensures.ends p (inv.goes_on p under calm) (inv.calm p under calm) (inv.ends p under calm ends);
+      grew = grown_then 0 0 0 c.args.self.now.recorded.journal.items c.loop-session.self.recorded.journal.items c.end_if_open.new.self.recorded.journal.items refl inv.grew c.end_if_open.ensures.grew;
       given = λ lines has. c.end_if_open.ensures.given lines (inv.given lines has);
     }
 
@@ -60,3 +63,7 @@ pub returns-2-clause-ends : goal.returns-2-clause-ends
 returns-2-clause-ends g c =
     let inv = c.loop-session.invariant in
     λ p under calm ends. (c.end_if_open.ensures.ends p (inv.goes_on p under calm) (inv.calm p under calm) (inv.ends p under calm ends)).in_place
+
+pub returns-2-clause-grew : goal.returns-2-clause-grew
+returns-2-clause-grew g c =
+    grown_then 0 0 0 c.args.self.now.recorded.journal.items c.loop-session.self.recorded.journal.items c.end_if_open.new.self.recorded.journal.items refl c.loop-session.invariant.grew c.end_if_open.ensures.grew

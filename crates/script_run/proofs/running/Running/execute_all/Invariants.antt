@@ -1,13 +1,14 @@
-use Rattle.std.proofs.Common.{◌≡◌, true}
-use Rattle.std.specs.List.{list_all}
+use Rattle.std.proofs.Common.{◌≡◌, true, false}
+use Rattle.std.specs.List.{list_all, list_any}
 use Rattle.std.specs.Vec.Iter.{into_iter_items}
 use Rattle.script_text.specs.Grammar.{is_line}
 use Rattle.script_run.specs.Events.Awaited.{Nothing}
 use Rattle.script_run.specs.UnderWay.{Beginning, IsUnderWay}
+use Rattle.script_run.specs.Pauses.{pauses}
 use Rattle.script_run.specs.Running.{AreFlags, EndsStopped, HasLines, IsCalmOrHalted}
 use Rattle.script_run.proofs.running.Running.execute_all.Given as goal
 
--- the run goes on, and no call may unless it was halted
+-- the run goes on and has not paused, and no call may go on unless it was halted
 abbrev pub invariant-loop-given : goal.invariant-loop-given
 invariant-loop-given g l =
     record {
@@ -17,4 +18,5 @@ invariant-loop-given g l =
       ends : EndsStopped l.initial.self → EndsStopped l.self;
       lines : list_all is_line (into_iter_items l.given-iterator) ≡ true;
       given : HasLines l.self l.yielded;
+      going : list_any (pauses l.pause) l.self.recorded.journal.items ≡ false;
     }

@@ -1,4 +1,6 @@
 use Rattle.script_run.proofs.Ending.{stopped_then}
+use Rattle.std.proofs.Common.{refl}
+use Rattle.script_run.proofs.Growing.{grown_gained, grown_then}
 use Rattle.script_run.proofs.running.Running.execute_line.Goals as goal
 
 pub resume_ready-requires-clause-here : goal.resume_ready-requires-clause-here
@@ -17,3 +19,10 @@ returns-clause-given g c = λ lines has. c.resume_ready.ensures.given _ (c.give_
 
 pub returns-clause-ends : goal.returns-clause-ends
 returns-clause-ends g c = λ ends. stopped_then c.give_line.new.self c.resume_ready.new.self c.resume_ready.ensures.gone_on (c.give_line.ensures.ends ends)
+
+pub returns-clause-grew : goal.returns-clause-grew
+returns-clause-grew g c =
+    let x = c.args.self.now.recorded.journal.items in
+    let m = c.give_line.new.self.recorded.journal.items in
+    let y = c.resume_ready.new.self in
+    grown_then 1 0 1 x m y.recorded.journal.items refl c.give_line.ensures.grew (grown_gained y.stopped m y.recorded.journal.items c.resume_ready.ensures.gone_on.gained)

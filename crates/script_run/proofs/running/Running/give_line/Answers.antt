@@ -8,6 +8,7 @@ use Rattle.script_run.proofs.GivenLaws.{given_line, given_same, given_skipped}
 use Rattle.script_run.proofs.Resting.{not_halted}
 use Rattle.script_run.proofs.Standings.{calm_same}
 use Rattle.je_answers.specs.Journal.{lines_of}
+use Rattle.script_run.proofs.Growing.{ended_grown, grown_from, grown_same, grown_then}
 use Rattle.script_run.proofs.running.Running.give_line.Goals as goal
 
 pub returns-then-self-session-clause-given : goal.returns-then-self-session-clause-given
@@ -69,3 +70,18 @@ returns-in-Err-clause-ends g c = λ ends.
     let y = c.end_session.new.self in
     let e : Running g.row.D.Denot = record { recorded = c.execute.new.self; memory_ended = x.memory_ended; stopped = x.stopped; steps_stopped = x.steps_stopped; halted = x.halted } in
     stopped_then x y (gone_on_from x e y c.in-Err.ensures.err refl refl (gone_on_then e s y c.stop.ensures.gone_on (ended_gone_on c.args.session s y c.stop.ensures.stopped c.end_session.ensures.ended))) ends
+
+pub returns-then-self-session-clause-grew : goal.returns-then-self-session-clause-grew
+returns-then-self-session-clause-grew g c = (let x = c.args.self.now.recorded.journal.items in grown_same 1 x x refl)
+
+pub returns-in-Ok-clause-grew : goal.returns-in-Ok-clause-grew
+returns-in-Ok-clause-grew g c = c.execute.ensures.grew
+
+pub returns-in-Err-clause-grew : goal.returns-in-Err-clause-grew
+returns-in-Err-clause-grew g c =
+    let x = c.args.self.now.recorded.journal.items in
+    let e = c.execute.new.self.journal.items in
+    let s = c.stop.new.self in
+    let y = c.end_session.new.self in
+    grown_then 1 0 1 x e y.recorded.journal.items refl c.execute.ensures.grew
+    (grown_from 0 e s.recorded.journal.items y.recorded.journal.items (ap (λ (r : Recorded g.row.D.Denot). r.journal.items) c.stop.ensures.recorded) (ended_grown c.args.session s y c.end_session.ensures.ended))

@@ -1,7 +1,8 @@
-use Rattle.std.proofs.Common.{List, Bool, sym, subst}
+use Rattle.std.proofs.Common.{List, Bool, sym, subst, refl}
 use Rattle.script_run.specs.declared.recorded.Recorded.{Recorded}
-use Rattle.script_run.specs.Ends.{AreEndsStopped}
+use Rattle.script_run.specs.Ends.{AreEndsStopped, HasGrown}
 use Rattle.script_run.proofs.GivenLaws.{given_same, given_step, step_skipped}
+use Rattle.script_run.proofs.Growing.{grown_same}
 use Rattle.script_run.proofs.running.Running.give_step.Goals as goal
 
 pub returns-then-self-clause-given : goal.returns-then-self-clause-given
@@ -31,3 +32,14 @@ returns-in-Err-clause-ends g c = λ ends.
     let s = c.stop_steps.new.self in
     subst (λ (l : List Bool). AreEndsStopped l s.recorded.journal.items) (sym {A = List Bool} c.stop_steps.ensures.sessions)
     (subst (λ (r : Recorded g.row.D.Denot). AreEndsStopped x.stopped r.journal.items) (sym c.stop_steps.ensures.recorded) (c.maintain.ensures.ends x.stopped ends))
+
+pub returns-then-self-clause-grew : goal.returns-then-self-clause-grew
+returns-then-self-clause-grew g c = (let x = c.args.self.now.recorded.journal.items in grown_same 1 x x refl)
+
+pub returns-in-Ok-clause-grew : goal.returns-in-Ok-clause-grew
+returns-in-Ok-clause-grew g c = c.maintain.ensures.grew
+
+pub returns-in-Err-clause-grew : goal.returns-in-Err-clause-grew
+returns-in-Err-clause-grew g c =
+    let x = c.args.self.now in
+    subst (λ (r : Recorded g.row.D.Denot). HasGrown 1 x.recorded.journal.items r.journal.items) (sym c.stop_steps.ensures.recorded) c.maintain.ensures.grew
