@@ -7,7 +7,8 @@
 
 It needs Debian's package db5.3-util (`apt-get install db5.3-util`); nothing is installed from here. For each kind of database and each
 format, 400 pairs are put with `run`, among them an empty key, empty data and bytes of all values. What `dump` prints goes through
-db5.3_load into a file, and db5.3_dump has to print the same lines for it.
+db5.3_load into a file, and db5.3_dump has to print the same lines for it; these go through `load` into another folder, from which `dump` has to
+print them again.
 """
 
 import argparse
@@ -91,8 +92,15 @@ def exchange(program, kind, printed, chance, place):
     wanted = lines_of(kind, pairs, printed)
     same(f"{what}: dump", data_lines(dump), wanted)
     run(["db5.3_load", file], dump)
-    same(f"{what}: db5.3_dump", data_lines(run(["db5.3_dump"] + ["-p"] * printed + [file])), wanted)
-    return len(wanted) // 2
+    back = run(["db5.3_dump"] + ["-p"] * printed + [file])
+    same(f"{what}: db5.3_dump", data_lines(back), wanted)
+    count, load = len(wanted) // 2, [program, "load", "--home", os.path.join(place, "other"), "--db", "t"]
+    for words, text in ((load, b"loaded %d kept 0\n" % count), (load + ["--no-overwrite"], b"loaded 0 kept %d\n" % count)):
+        said = run(words, back)
+        if said != text:
+            wrong(f"{what}: load: {said!r} for {text!r}")
+    same(f"{what}: load", data_lines(run([program, "dump", *load[2:]] + ["--print"] * printed)), wanted)
+    return count
 
 
 def main():

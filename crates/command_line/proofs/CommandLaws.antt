@@ -14,13 +14,13 @@ use Rattle.clap.specs.Faults.{built_fault, check_fault, defaults_fault, entered_
 use Rattle.clap.specs.declared.builder.value_parser.Reading.{Reading}
 use Rattle.command_line.specs.declared.command.RunSettings.{RunSettings}
 use Rattle.command_line.specs.declared.command.Command.{Command}
-use Rattle.command_line.specs.declared.command.Command.TheVariants.{Run, Soak, Dump, PrintLog}
-use Rattle.command_line.specs.Arguments.{AreSettings, HasSettings, command_of, dump_command, dump_if, home_of, is_given as is_given_flag, is_named, is_parsed, jedb, number_of, number_read, printlog_command, run_command, settings_of, soak_command}
+use Rattle.command_line.specs.declared.command.Command.TheVariants.{Run, Soak, PrintLog}
+use Rattle.command_line.specs.Arguments.{AreSettings, HasSettings, command_of, db_of, dump_command, dump_with, home_of, is_given as is_given_flag, is_named, is_parsed, jedb, load_command, load_with, name_if, number_of, number_read, printlog_command, run_command, settings_of, soak_command}
 use Rattle.command_line.proofs.WalkLaws.{neither}
 use Rattle.command_line.proofs.StopLaws.{StopsOther, walk_other}
 use Rattle.command_line.proofs.RowLaws.{AreFilled, IsNumberIf, IsValue, Number, first_there, number_there, row_there}
 use Rattle.command_line.proofs.NumberLaws.{number_spelled}
-use Rattle.command_line.proofs.LevelLaws.{AreRead, help_kept, level_read, number_kept, print_kept, text_kept, uses_kept}
+use Rattle.command_line.proofs.LevelLaws.{AreRead, flag_kept, help_kept, level_read, number_kept, text_kept, uses_kept}
 
 -- ---- options in rows that were read
 
@@ -160,33 +160,40 @@ printlog_has_line args none =
     let home = has_home [] rows read.filled (read.given.0 refl) in
     with_command (Some (rows_at s args)) home.0 PrintLog home.1 refl refl tt
 
-dump_there : (printed : Bool) (db : Option Text) → is_some (option_and_then (dump_if printed) db) ≡ option_map_or is_word db false
-dump_there printed None = refl
-dump_there printed (Some db) = by (is_word db)
+-- a command that takes a database is there exactly where the name is one of a database
+named_there : (command : Text → Command) (db : Option Text) → is_some (option_map command (option_and_then name_if db)) ≡ option_map_or is_word db false
+named_there command None = refl
+named_there command (Some db) = by (is_word db)
   where
-    by : (b : Bool) → is_some (if b then Some (Dump db printed) else None) ≡ b
+    by : (b : Bool) → is_some (option_map command (if b then Some db else None)) ≡ b
     by true = refl
     by false = refl
 
-dump_bounded : (printed : Bool) (db : Option Text) → IfSome (option_and_then (dump_if printed) db) HasSettings
-dump_bounded printed None = tt
-dump_bounded printed (Some db) = by (is_word db)
-  where
-    by : (b : Bool) → IfSome (if b then Some (Dump db printed) else None) HasSettings
-    by true = tt
-    by false = tt
+named_bounded : (command : Text → Command) (db : Option Text) → ((name : Text) → HasSettings (command name)) → IfSome (option_map command db) HasSettings
+named_bounded command None each = tt
+named_bounded command (Some db) each = each db
 
 dump_has_line : (args : List Text) → level_fault (leaf_of dump_command) [] nothing_held args false [] ≡ [] → HasLine (Some (rows_at (leaf_of dump_command) args))
 dump_has_line args none =
     let s = leaf_of dump_command in
     let rows = (rows_at s args).1 in
     let read : AreRead [] s rows = level_read [] s args
-    (uses_kept [] s.rules (text_kept [] (codes "home") (λ v. tt), (text_kept [] (codes "db") (λ v. tt), (print_kept [] tt, (help_kept [], tt)))))
+    (uses_kept [] s.rules (text_kept [] (codes "home") (λ v. tt), (text_kept [] (codes "db") (λ v. tt), (flag_kept [] (codes "print") tt, (help_kept [], tt)))))
     (inl refl, (inl refl, (inr tt, (inl refl, tt)))) none in
     let home = has_home [] rows read.filled (read.given.0 refl) in
-    let printed = is_given_flag (codes "print") rows in
-    let db = first_of (codes "db") rows in
-    record { home = home.0; home_is = home.1; command_there = dump_there printed db; bounded = dump_bounded printed db }
+    let command = dump_with (is_given_flag (codes "print") rows) in
+    record { home = home.0; home_is = home.1; command_there = named_there command (first_of (codes "db") rows); bounded = named_bounded command (db_of rows) (λ name. tt) }
+
+load_has_line : (args : List Text) → level_fault (leaf_of load_command) [] nothing_held args false [] ≡ [] → HasLine (Some (rows_at (leaf_of load_command) args))
+load_has_line args none =
+    let s = leaf_of load_command in
+    let rows = (rows_at s args).1 in
+    let read : AreRead [] s rows = level_read [] s args
+    (uses_kept [] s.rules (text_kept [] (codes "home") (λ v. tt), (text_kept [] (codes "db") (λ v. tt), (flag_kept [] (codes "no-overwrite") tt, (help_kept [], tt)))))
+    (inl refl, (inl refl, (inr tt, (inl refl, tt)))) none in
+    let home = has_home [] rows read.filled (read.given.0 refl) in
+    let command = load_with (is_given_flag (codes "no-overwrite") rows) in
+    record { home = home.0; home_is = home.1; command_there = named_there command (first_of (codes "db") rows); bounded = named_bounded command (db_of rows) (λ name. tt) }
 
 -- ---- the whole command line
 
@@ -213,20 +220,23 @@ wanted rows false none = cc
 entered_has_line : (stop : Option (Text × List Text)) → StopsOther stop → entered_fault jedb_built stop ≡ [] → is_some (entered jedb_built stop) ≡ true → HasLine (entered jedb_built stop)
 entered_has_line None other none in_one = cc
 entered_has_line (Some p) other none in_one =
-    go (answers_to p.0 (codes "run", [])) (answers_to p.0 (codes "soak", [])) (answers_to p.0 (codes "printlog", [])) (answers_to p.0 (codes "dump", [])) (answers_to p.0 (codes "help", [])) (help_apart p.0 other) none in_one
+    go (answers_to p.0 (codes "run", [])) (answers_to p.0 (codes "soak", [])) (answers_to p.0 (codes "printlog", [])) (answers_to p.0 (codes "dump", [])) (answers_to p.0 (codes "load", []))
+    (answers_to p.0 (codes "help", [])) (help_apart p.0 other) none in_one
   where
-    chosen : Bool → Bool → Bool → Bool → Bool → Option Shape
-    chosen b₁ b₂ b₃ b₄ b₅ =
-        cond b₁ (Some (leaf_of run_command)) (cond b₂ (Some (leaf_of soak_command)) (cond b₃ (Some (leaf_of printlog_command)) (cond b₄ (Some (leaf_of dump_command)) (cond b₅ (Some help_built) None))))
+    chosen : Bool → Bool → Bool → Bool → Bool → Bool → Option Shape
+    chosen b₁ b₂ b₃ b₄ b₅ b₆ =
+        cond b₁ (Some (leaf_of run_command)) (cond b₂ (Some (leaf_of soak_command)) (cond b₃ (Some (leaf_of printlog_command)) (cond b₄ (Some (leaf_of dump_command))
+        (cond b₅ (Some (leaf_of load_command)) (cond b₆ (Some help_built) None)))))
 
-    go : (b₁ b₂ b₃ b₄ b₅ : Bool) → b₅ ≡ false → option_map_or (λ s. level_fault s [] nothing_held p.1 false []) (chosen b₁ b₂ b₃ b₄ b₅) [] ≡ [] →
-        is_some (option_map (λ s. rows_at s p.1) (chosen b₁ b₂ b₃ b₄ b₅)) ≡ true → HasLine (option_map (λ s. rows_at s p.1) (chosen b₁ b₂ b₃ b₄ b₅))
-    go true b₂ b₃ b₄ b₅ apart none in_one = run_has_line p.1 none
-    go false true b₃ b₄ b₅ apart none in_one = soak_has_line p.1 none
-    go false false true b₄ b₅ apart none in_one = printlog_has_line p.1 none
-    go false false false true b₅ apart none in_one = dump_has_line p.1 none
-    go false false false false true apart none in_one = absurd (true≢false apart)
-    go false false false false false apart none in_one = cc
+    go : (b₁ b₂ b₃ b₄ b₅ b₆ : Bool) → b₆ ≡ false → option_map_or (λ s. level_fault s [] nothing_held p.1 false []) (chosen b₁ b₂ b₃ b₄ b₅ b₆) [] ≡ [] →
+        is_some (option_map (λ s. rows_at s p.1) (chosen b₁ b₂ b₃ b₄ b₅ b₆)) ≡ true → HasLine (option_map (λ s. rows_at s p.1) (chosen b₁ b₂ b₃ b₄ b₅ b₆))
+    go true b₂ b₃ b₄ b₅ b₆ apart none in_one = run_has_line p.1 none
+    go false true b₃ b₄ b₅ b₆ apart none in_one = soak_has_line p.1 none
+    go false false true b₄ b₅ b₆ apart none in_one = printlog_has_line p.1 none
+    go false false false true b₅ b₆ apart none in_one = dump_has_line p.1 none
+    go false false false false true b₆ apart none in_one = load_has_line p.1 none
+    go false false false false false true apart none in_one = absurd (true≢false apart)
+    go false false false false false false apart none in_one = cc
 
 faultless_has_line : (args : List Text) → built_fault jedb_built nothing_held args ≡ [] → HasLine (entered jedb_built (walk jedb_built.top.rules (names_of jedb_built) nothing_held args).stopped)
 faultless_has_line args none =

@@ -17,7 +17,7 @@ use Rattle.clap.specs.declared.builder.action.ArgAction.TheVariants.{Set, SetTru
 use Rattle.clap.specs.declared.builder.value_parser.Reading.TheVariants.{WithoutMinus}
 use Rattle.clap.specs.declared.error.kind.ErrorKind.{ErrorKind}
 use Rattle.clap.specs.declared.error.kind.ErrorKind.TheVariants.{DisplayHelp, WrongNumberOfValues}
-use Rattle.command_line.specs.Arguments.{number_option, print_option, text_option}
+use Rattle.command_line.specs.Arguments.{flag_option, number_option, text_option}
 use Rattle.command_line.proofs.WalkLaws.{UseKeeps, neither, settled_keeps, walk_keeps}
 use Rattle.command_line.proofs.RowLaws.{AreFilled, AreValues, IsNumber, IsValue, Number, default_filled, default_stays, default_there, no_default, set_filled}
 
@@ -60,10 +60,10 @@ module _ (table : List Number) where
   text_kept name any [] rows none held = cc
   text_kept name any (v ∷ vs) rows none held = set_filled table name (reading_by (filled (text_option name))) (v ∷ vs) rows (any v) held
 
-  pub print_kept : IsValue table (codes "print") (reading_by (filled print_option)) (codes "true") → Kept (filled print_option)
-  print_kept is [] rows none held = set_filled table (codes "print") (reading_by (filled print_option)) (codes "true" ∷ []) rows is held
-  print_kept is (v ∷ vs) rows none held =
-      absurd (some_values v vs (neither (range_kinds 0 0 (length (v ∷ vs))) (action_fault SetTrue false (filled print_option) (v ∷ vs) rows) none).0)
+  pub flag_kept : (name : Text) → IsValue table name (reading_by (filled (flag_option name))) (codes "true") → Kept (filled (flag_option name))
+  flag_kept name is [] rows none held = set_filled table name (reading_by (filled (flag_option name))) (codes "true" ∷ []) rows is held
+  flag_kept name is (v ∷ vs) rows none held =
+      absurd (some_values v vs (neither (range_kinds 0 0 (length (v ∷ vs))) (action_fault SetTrue false (filled (flag_option name)) (v ∷ vs) rows) none).0)
 
   pub number_kept : (name : Text) (low high : ℕ) (defaults : List Text) (required : Bool) → ((v : Text) → IsNumber low high v → IsValue table name WithoutMinus v) →
       Kept (filled (number_option name low high defaults required))

@@ -1,5 +1,5 @@
 -- The command line of `jedb`, as the command parser takes it.
-use Rattle.std.specs.Prelude.{ℕ, ◌≤◌, ◌&&◌, List, [], ◌∷◌, Bool, true, false, codes, pos, Option, Some, None, option_and_then, option_map, IfSome, if◌then◌else◌}
+use Rattle.std.specs.Prelude.{ℕ, ◌≤◌, ◌&&◌, ◌||◌, List, [], ◌∷◌, Bool, true, false, codes, pos, Option, Some, None, option_and_then, option_map, IfSome, if◌then◌else◌}
 use Rattle.std.specs.Option.{option_map_or}
 use Rattle.std.specs.Str.{bytes_eq}
 use Rattle.std.specs.Str.Parse.{digits_value, without_leading_plus}
@@ -12,7 +12,7 @@ use Rattle.clap.specs.declared.builder.value_parser.ValueParser.TheVariants as p
 use Rattle.je_order.specs.Words.{is_word}
 use Rattle.command_line.specs.declared.command.RunSettings.{RunSettings}
 use Rattle.command_line.specs.declared.command.Command.{Command}
-use Rattle.command_line.specs.declared.command.Command.TheVariants.{Run, Soak, Dump, PrintLog}
+use Rattle.command_line.specs.declared.command.Command.TheVariants.{Run, Soak, Dump, Load, PrintLog}
 
 -- ---- the rules
 
@@ -28,9 +28,17 @@ home_option = text_option (codes "home")
 abbrev pub db_option : Rule
 db_option = text_option (codes "db")
 
--- the option that asks for bytes as themselves where they can be printed; it takes no value
+-- an option of this name that takes no value
+abbrev pub flag_option : Text → Rule
+flag_option name = record (new_rule name) { long = Some name; action = Some SetTrue }
+
+-- the option that asks for bytes as themselves where they can be printed
 abbrev pub print_option : Rule
-print_option = record (new_rule (codes "print")) { long = Some (codes "print"); action = Some SetTrue }
+print_option = flag_option (codes "print")
+
+-- the option that asks that records which are there stay
+abbrev pub no_overwrite_option : Rule
+no_overwrite_option = flag_option (codes "no-overwrite")
 
 -- an option of this name that is one number in these bounds; it has these defaults, at most one, or is required
 abbrev pub number_option : Text → ℕ → ℕ → List Text → Bool → Rule
@@ -73,11 +81,15 @@ printlog_command = with_rule (new_app (codes "printlog")) home_option
 abbrev pub dump_command : App
 dump_command = with_rule (with_rule (with_rule (new_app (codes "dump")) home_option) db_option) print_option
 
+-- `load`, which takes the folder, a database and whether its records stay
+abbrev pub load_command : App
+load_command = with_rule (with_rule (with_rule (new_app (codes "load")) home_option) db_option) no_overwrite_option
+
 -- `jedb`, which takes one of its commands; no program's name is before the arguments
 abbrev pub jedb : App
-jedb = with_subcommand (with_subcommand (with_subcommand (with_subcommand
+jedb = with_subcommand (with_subcommand (with_subcommand (with_subcommand (with_subcommand
     (on_top (λ s. record s { no_binary_name = true; subcommand_required = true }) (new_app (codes "jedb")))
-    run_command.top) soak_command.top) printlog_command.top) dump_command.top
+    run_command.top) soak_command.top) printlog_command.top) dump_command.top) load_command.top
 
 -- ---- what is read
 
@@ -85,9 +97,13 @@ jedb = with_subcommand (with_subcommand (with_subcommand (with_subcommand
 unfoldable pub is_parsed : List Text → Bool
 is_parsed args = is_empty (fault_of jedb args)
 
+-- whether the command of this name takes a database
+abbrev pub takes_database : Text → Bool
+takes_database name = bytes_eq name (codes "dump") || bytes_eq name (codes "load")
+
 -- whether the value of `--db` is a database's name, in what a parse finds for a command that has this option
 abbrev pub has_name : Text × List Row → Bool
-has_name given = if bytes_eq given.0 (codes "dump") then option_map_or is_word (first_of (codes "db") given.1) false else true
+has_name given = if takes_database given.0 then option_map_or is_word (first_of (codes "db") given.1) false else true
 
 -- the same, in what a parse finds
 abbrev pub is_named : Option (Text × List Row) → Bool
@@ -133,13 +149,29 @@ soak_from rows = option_and_then (λ seed. option_map (Soak seed) (settings_of r
 abbrev pub is_given : Text → List Row → Bool
 is_given name rows = option_map_or (λ value. bytes_eq value (codes "true")) (first_of name rows) false
 
--- `dump` of a database, if that is the name of one
-abbrev pub dump_if : Bool → Text → Option Command
-dump_if printed db = if is_word db then Some (Dump db printed) else None
+-- a text, if it is the name of a database
+abbrev pub name_if : Text → Option Text
+name_if db = if is_word db then Some db else None
+
+-- the database that `--db` names, if its value is the name of one
+abbrev pub db_of : List Row → Option Text
+db_of rows = option_and_then name_if (first_of (codes "db") rows)
+
+-- `dump` of a database
+abbrev pub dump_with : Bool → Text → Command
+dump_with printed db = Dump db printed
 
 -- `dump` with its options
 abbrev pub dump_named : List Row → Option Command
-dump_named rows = option_and_then (dump_if (is_given (codes "print") rows)) (first_of (codes "db") rows)
+dump_named rows = option_map (dump_with (is_given (codes "print") rows)) (db_of rows)
+
+-- `load` into a database
+abbrev pub load_with : Bool → Text → Command
+load_with no_overwrite db = Load db no_overwrite
+
+-- `load` with its options
+abbrev pub load_named : List Row → Option Command
+load_named rows = option_map (load_with (is_given (codes "no-overwrite") rows)) (db_of rows)
 
 -- the command of this name with its options
 abbrev pub command_of : Text × List Row → Option Command
@@ -147,6 +179,7 @@ command_of given =
     if bytes_eq given.0 (codes "run") then run_of given.1
     else if bytes_eq given.0 (codes "soak") then soak_from given.1
     else if bytes_eq given.0 (codes "dump") then dump_named given.1
+    else if bytes_eq given.0 (codes "load") then load_named given.1
     else Some PrintLog
 
 -- what is found when the folder and the command are there
@@ -175,6 +208,7 @@ abbrev pub settings_in : Command → Option RunSettings
 settings_in (Run settings) = Some settings
 settings_in (Soak seed settings) = Some settings
 settings_in (Dump db printed) = None
+settings_in (Load db no_overwrite) = None
 settings_in PrintLog = None
 
 -- the settings of a command are in their bounds, if it has some

@@ -4,7 +4,7 @@ ghost use Rattle.clap.specs.declared.builder.command.Command.TheViews.{out-Comma
 ghost use Rattle.clap.specs.Matches.{found_of};
 ghost use Rattle.clap.specs.Simple.{app_of, subcommand_of, subcommand_rows_of};
 ghost use Rattle.clap.specs.Walk.{first_of, rows_of, rule_of};
-ghost use Rattle.command_line.specs.Arguments.{HasSettings, command_in, command_of as command_named, db_option, dump_command, dump_named, fanout_option, file_max_option, home_in, home_of, home_option, is_given, is_parsed, is_taken, jedb, parsed_line, number_of, print_option, printlog_command, run_command, run_of, seed_option, settings_of, soak_command, soak_from};
+ghost use Rattle.command_line.specs.Arguments.{HasSettings, command_in, command_of as command_named, db_of, db_option, dump_command, dump_named, fanout_option, file_max_option, home_in, home_of, home_option, is_given, is_parsed, is_taken, jedb, load_command, load_named, no_overwrite_option, parsed_line, number_of, print_option, printlog_command, run_command, run_of, seed_option, settings_of, soak_command, soak_from};
 
 use crate::command::{Command, CommandLine, RunSettings};
 use clap::error::ErrorKind;
@@ -35,6 +35,16 @@ fn print<'a>(alloc: Global) -> Arg<'a>
 {
     Arg::new(alloc, "print")
         .long("print")
+        .action(ArgAction::SetTrue)
+}
+
+// `--no-overwrite`.
+fn no_overwrite<'a>(alloc: Global) -> Arg<'a>
+    ensures rule { rule_of result ≡ no_overwrite_option }
+    ensures local { result.global ≡ false }
+{
+    Arg::new(alloc, "no-overwrite")
+        .long("no-overwrite")
         .action(ArgAction::SetTrue)
 }
 
@@ -113,6 +123,17 @@ fn dump_command<'a>(alloc: Global) -> Result<clap::Command<'a>, AllocError>
         .arg(print(alloc))
 }
 
+// `load`.
+fn load_command<'a>(alloc: Global) -> Result<clap::Command<'a>, AllocError>
+    ensures app { IfOk result (λ command. app_of command ≡ load_command) }
+    ensures local { IfOk result (λ command. (out-Command command).has_globals ≡ false) }
+{
+    clap::Command::new(alloc, "load")
+        .arg(home(alloc))?
+        .arg(db(alloc))?
+        .arg(no_overwrite(alloc))
+}
+
 // The command line that the program has.
 fn jedb_command<'a>(alloc: Global) -> Result<clap::Command<'a>, AllocError>
     ensures { IfOk result (λ command. app_of command ≡ jedb) }
@@ -123,7 +144,8 @@ fn jedb_command<'a>(alloc: Global) -> Result<clap::Command<'a>, AllocError>
     jedb.subcommand(run_command(alloc)?)?
         .subcommand(soak_command(alloc)?)?
         .subcommand(printlog_command(alloc)?)?
-        .subcommand(dump_command(alloc)?)
+        .subcommand(dump_command(alloc)?)?
+        .subcommand(load_command(alloc)?)
 }
 
 // What a parse of the arguments finds, and None where it refuses them.
@@ -202,9 +224,9 @@ fn is_given<'a>(given: &ArgMatches<'a>, name: &str) -> bool
     }
 }
 
-// `dump` with its options.
-fn dump_given<'a>(alloc: Global, given: &ArgMatches<'a>) -> Result<Option<Command>, AllocError>
-    ensures { IfOk result (λ command. command ≡ dump_named (rows_of (found_of given.now))) }
+// The database that is named, if the name is one of a database.
+fn db_given<'a>(alloc: Global, given: &ArgMatches<'a>) -> Result<Option<Word>, AllocError>
+    ensures { IfOk result (λ db. db ≡ db_of (rows_of (found_of given.now))) }
 {
     let Some(db) = text_given(given, "db") else {
         return Ok(None);
@@ -212,9 +234,29 @@ fn dump_given<'a>(alloc: Global, given: &ArgMatches<'a>) -> Result<Option<Comman
     if !Word::is_word(db.as_bytes()) {
         return Ok(None);
     }
-    let db = Word::from_slice(alloc, db.as_bytes())?;
+    Ok(Some(Word::from_slice(alloc, db.as_bytes())?))
+}
+
+// `dump` with its options.
+fn dump_given<'a>(alloc: Global, given: &ArgMatches<'a>) -> Result<Option<Command>, AllocError>
+    ensures { IfOk result (λ command. command ≡ dump_named (rows_of (found_of given.now))) }
+{
+    let Some(db) = db_given(alloc, given)? else {
+        return Ok(None);
+    };
     let printed = is_given(given, "print");
     Ok(Some(Command::Dump { db, printed }))
+}
+
+// `load` with its options.
+fn load_given<'a>(alloc: Global, given: &ArgMatches<'a>) -> Result<Option<Command>, AllocError>
+    ensures { IfOk result (λ command. command ≡ load_named (rows_of (found_of given.now))) }
+{
+    let Some(db) = db_given(alloc, given)? else {
+        return Ok(None);
+    };
+    let no_overwrite = is_given(given, "no-overwrite");
+    Ok(Some(Command::Load { db, no_overwrite }))
 }
 
 // The command of this name with its options.
@@ -233,6 +275,9 @@ fn command_named<'a>(
     }
     if name == "dump" {
         return dump_given(alloc, given);
+    }
+    if name == "load" {
+        return load_given(alloc, given);
     }
     Ok(Some(Command::PrintLog))
 }
@@ -263,7 +308,8 @@ fn line_given<'a>(alloc: Global, found: &ArgMatches<'a>) -> Result<Option<Comman
 
 /// The folder and the command that the arguments after the program's name give, and None where these are invalid.
 /// Right are `run --home DIR`, with or without `--file-max N` and `--fanout N`; the same with `soak` and `--seed N`;
-/// `dump --home DIR --db NAME`, with or without `--print`, where NAME is a database's name; and `printlog --home DIR`.
+/// `dump --home DIR --db NAME`, with or without `--print`, where NAME is a database's name; `load --home DIR --db NAME`,
+/// with or without `--no-overwrite`; and `printlog --home DIR`.
 /// The options come in any order, with `--name=VALUE` for `--name VALUE`, and `--` may end the arguments. A value that begins with `-` and is not `-` itself needs the `=`. A number is decimal, with `+` or
 /// zeros before it or not: `--file-max` is from 4,096 to 1,073,741,824, and 10,000,000 where it is not given; `--fanout`
 /// from 4 to 128, and 128 where it is not given; `--seed` from 0 to 4,294,967,295. Other arguments, an option given

@@ -19,6 +19,8 @@ pub enum Command {
     Soak { seed: u32, settings: RunSettings },
     /// Prints a database as a dump; with `printed`, the bytes that can be printed are shown as themselves.
     Dump { db: Word, printed: bool },
+    /// Reads a dump, and puts its pairs into a database; with `no_overwrite`, records that are there stay.
+    Load { db: Word, no_overwrite: bool },
     /// Prints the entries of the log.
     PrintLog,
 }

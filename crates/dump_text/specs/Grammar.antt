@@ -57,6 +57,7 @@ abbrev pub header_cut : DumpHeader → ℕ → List ℕ → Option ℕ → Optio
 header_cut header line text None = None
 header_cut header line text (Some at) = header_with header line (take at text) (drop (at + 1) text)
 
+-- the header after one line more, if that may stand there
 abbrev pub header_after : DumpHeader → ℕ → List ℕ → Option DumpHeader
 header_after header line text = header_cut header line text (position (λ c. c == 61) text)
 
@@ -66,6 +67,7 @@ header_after header line text = header_cut header line text (position (λ c. c =
 abbrev pub DumpOrLine : Type 0
 DumpOrLine = Result Dump ℕ
 
+-- the dump of a header and its pairs
 abbrev pub dump_with : DumpHeader → List DumpPair → Dump
 dump_with header pairs = record { dup = header.dup; dup_line = header.dup_line; pairs = pairs }
 
@@ -86,6 +88,7 @@ abbrev pub pairs_after : List DumpPair → Option PendingKey → List ℕ → Li
 pairs_after pairs None bytes = pairs
 pairs_after pairs (Some key) bytes = pairs ++ record { line = key.line; key = key.key; value = bytes } ∷ []
 
+-- the key whose data is to come, behind one line more
 abbrev pub pending_after : ℕ → Option PendingKey → List ℕ → Option PendingKey
 pending_after line None bytes = Some (record { line = line; key = bytes })
 pending_after line (Some key) bytes = None

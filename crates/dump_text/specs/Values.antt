@@ -17,9 +17,11 @@ byte_of_digits high low = None
 abbrev pub is_printable : ℕ → Bool
 is_printable c = nat_le 32 c && nat_le c 126
 
+-- a printed text goes on so, behind a byte that it shows or none
 abbrev pub escape_gives : Escape → Option ℕ → Option Unescaped
 escape_gives escape byte = Some (record { escape = escape; byte = byte })
 
+-- it goes on behind the byte of two digits, if they were digits
 abbrev pub digits_give : Option ℕ → Option Unescaped
 digits_give (Some byte) = escape_gives Text (Some byte)
 digits_give None = None
@@ -36,6 +38,7 @@ escape_step Slash c =
     else None
 escape_step (Digit high) c = digits_give (byte_of_digits (hex_digit_value high) (hex_digit_value c))
 
+-- bytes, and one behind them, if there is one
 abbrev pub with_byte : List ℕ → Option ℕ → List ℕ
 with_byte bytes None = bytes
 with_byte bytes (Some byte) = bytes ++ byte ∷ []
@@ -46,6 +49,7 @@ whole_unprinted Text bytes = Some bytes
 whole_unprinted Slash bytes = None
 whole_unprinted (Digit high) bytes = None
 
+-- what the rest shows behind a step, if that was right
 abbrev pub unprinted_behind : Option Unescaped → List ℕ → (Escape → List ℕ → Option (List ℕ)) → Option (List ℕ)
 unprinted_behind None bytes rest = None
 unprinted_behind (Some u) bytes rest = rest u.escape (with_byte bytes u.byte)
@@ -68,6 +72,7 @@ printed_byte c =
 
 -- ---- a line
 
+-- the bytes that digits spell, if they are such
 abbrev pub if_decoded : Result (List ℕ) FromHexError → Option (List ℕ)
 if_decoded (Ok bytes) = Some bytes
 if_decoded (Err e) = None

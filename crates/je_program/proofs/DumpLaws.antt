@@ -34,7 +34,7 @@ use Rattle.environment.specs.Databases.{IsFoundIn}
 use Rattle.command_line.specs.declared.command.Command.TheVariants.{Dump}
 use Rattle.database_dump.specs.Text.{database_text, records_text}
 use Rattle.je_program.specs.declared.cause.Cause.{Cause}
-use Rattle.je_program.specs.declared.cause.Cause.TheVariants.{Done, Usage, BadScript, Disk, Unreadable, WrongIndex, Memory, NoEnvironment, NoDatabase, Input, InputTooLong, IdsEnded}
+use Rattle.je_program.specs.declared.cause.Cause.TheVariants.{Done, Usage, BadScript, BadDump, Disk, Unreadable, WrongIndex, Memory, NoEnvironment, NoDatabase, Input, InputTooLong, IdsEnded}
 use Rattle.je_program.specs.declared.run_result.RunResult.{RunResult}
 use Rattle.je_program.specs.declared.text.Text.{Text}
 use Rattle.je_program.specs.declared.text.Text.TheVariants.{Nothing}
@@ -56,6 +56,7 @@ dump_stopped : (left : Option (List ℕ)) (before after : ℕ) (cause : Cause) �
 dump_stopped left before after Input may = cc
 dump_stopped left before after InputTooLong may = cc
 dump_stopped left before after (BadScript line) may = cc
+dump_stopped left before after (BadDump line) may = cc
 dump_stopped left before after cause may = tt
 
 dump_after : (cause : Cause) → ends_dump cause ≡ true → is_before_disk cause ≡ false
@@ -63,6 +64,7 @@ dump_after Usage may = absurd (true≢false (sym may))
 dump_after Input may = absurd (true≢false (sym may))
 dump_after InputTooLong may = absurd (true≢false (sym may))
 dump_after (BadScript line) may = absurd (true≢false (sym may))
+dump_after (BadDump line) may = absurd (true≢false (sym may))
 dump_after cause may = refl
 
 -- a run that was closed ended so, and a dump of a database that was found or not
@@ -80,7 +82,7 @@ pub record DumpEnd (end cause : Cause) (database : Option Database) : Type 0 whe
   pub through : is_run_through cause ≡ true → is_run_through end ≡ true
   pub no_memory : end ≢ Memory
 
-no_memory_closing : (end : Cause) → (end ≡ Done) ⊎ (end ≡ Disk) → end ≢ Memory
+pub no_memory_closing : (end : Cause) → (end ≡ Done) ⊎ (end ≡ Disk) → end ≢ Memory
 no_memory_closing end (inl is) = λ e. cc
 no_memory_closing end (inr is) = λ e. cc
 
@@ -160,7 +162,7 @@ closed_end journal cause none ends = subst (λ (j : List Event). EndsBy j cause)
 -- ---- a run under another cause, and since an earlier moment
 
 module _ (most : ℕ) (observable : Bool) (old new : History) (before after : ℕ) (opening : Store) (counted : Totals) (journal : List Event) (st : Standing) where
-  run_with_cause : (end cause : Cause) → IsRunOf most observable old new before after opening counted journal end st → end ≢ Memory → (is_run_through cause ≡ true → is_run_through end ≡ true) →
+  pub run_with_cause : (end cause : Cause) → IsRunOf most observable old new before after opening counted journal end st → (cause ≢ Memory → end ≢ Memory) → (is_run_through cause ≡ true → is_run_through end ≡ true) →
       IsRunOf most observable old new before after opening counted journal cause st
   run_with_cause end cause run other through =
       let safe : observable ≡ true → IsSafeProgram old new st journal cause = λ observed. (let s = run.safe observed in record {
@@ -184,9 +186,9 @@ module _ (most : ℕ) (observable : Bool) (old new : History) (before after : �
         steps = run.steps;
         stopped = run.stopped;
         in_place = run.in_place;
-        none_stopped = λ e. run.none_stopped other;
-        ended = λ e. run.ended other;
-        rests = λ e. run.rests other;
+        none_stopped = λ e. run.none_stopped (other e);
+        ended = λ e. run.ended (other e);
+        rests = λ e. run.rests (other e);
         acknowledged = λ done. run.acknowledged (through done);
         safe = safe;
         files = λ done. run.files (through done);
@@ -366,13 +368,12 @@ module _ {D : Type 0} (meaning : DiskMeaning D) where
       (subst (λ (j : List Event). IsRunOf most meaning.observable old (meaning.history first.disk) before (meaning.faults first.disk) first.opening first.totals j end st) (sym same.journal) run)))
 
   module _ (db : List ℕ) (printed : Bool) (left : Option (List ℕ)) (before after : ℕ) (later : before ≤ after) where
-    given_none : (journal : List Event) (cause : Cause) → journal ≡ [] → IsGivenTo (Some (Dump db printed)) left left journal cause
-    given_none journal cause none = subst (λ (j : List Event). IsGivenTo (Some (Dump db printed)) left left j cause) (sym none) (record {
+    given_none : (opening : Store) (journal : List Event) (cause : Cause) → journal ≡ [] → IsGivenTo (Some (Dump db printed)) left left opening journal cause
+    given_none opening journal cause none = subst (λ (j : List Event). IsGivenTo (Some (Dump db printed)) left left opening j cause) (sym none) (record {
       lines = [];
       are = refl;
       all = λ other. refl;
-      front = λ session. ([], refl);
-      front_steps = ([], refl);
+      front = record { each = λ session. ([], refl); steps = ([], refl) };
       none = λ other. refl;
     })
 
@@ -390,14 +391,15 @@ module _ {D : Type 0} (meaning : DiskMeaning D) where
           may = e.may;
           stopped = dump_stopped left before after r.cause e.may;
           read = λ after_input other. refl;
-          given = λ o. given_none r.journal.items r.cause empty;
+          given = λ o. given_none r.opening r.journal.items r.cause empty;
           untouched = λ before_disk. absurd (true≢false (sym before_disk ∙ dump_after r.cause e.may));
           runs = subst (λ (b : Bool). RunsIf r.cause b) (sym opened) e.runs;
           run = λ o. (
             usual_file_max,
             st,
             refl,
-            run_with_cause usual_file_max meaning.observable (meaning.history disk) (meaning.history r.disk) (meaning.faults disk) (meaning.faults r.disk) r.opening r.totals r.journal.items st end r.cause run e.no_memory e.through,
+            run_with_cause usual_file_max meaning.observable (meaning.history disk) (meaning.history r.disk) (meaning.faults disk) (meaning.faults r.disk) r.opening r.totals r.journal.items st end r.cause run (λ more. e.no_memory) e.through,
+            tt,
           );
           unopened = λ shut. absurd (true≢false (sym opened ∙ shut));
           unreadable = λ corruption is. absurd (e.not_unreadable corruption is);
@@ -408,6 +410,7 @@ module _ {D : Type 0} (meaning : DiskMeaning D) where
           some_file = λ needs file observed. there observed;
           no_database = e.lacks;
           has_database = e.has;
+          placed = λ o. tt;
           ends = λ o other. subst (λ (j : List Event). EndsWith j r.cause) (sym empty) e.ends;
           caused = record { never_falls = caused.never_falls; fault = caused.fault; failed = λ is. caused.failed (e.failed is) };
           left_alone = λ observed. e.untouched (meaning.history disk) (meaning.history r.disk);
@@ -447,6 +450,7 @@ module _ {D : Type 0} (meaning : DiskMeaning D) where
           some_file = λ needs file. absurd (look_needs r.cause is file);
           no_database = λ e. absurd (look_is r.cause NoDatabase is e);
           has_database = λ e. absurd (look_is r.cause Done is e);
+          placed = λ opened. tt;
           ends = λ opened. absurd (true≢false (sym opened ∙ shut));
           caused = unrun (meaning.faults disk) (meaning.faults r.disk) r.journal.items r.cause (subst (λ (d : D). meaning.faults disk ≤ meaning.faults d) (sym disk_is) never_falls) empty (λ e. at Disk e);
           left_alone = λ observed. left_alone r.cause (meaning.history disk) (meaning.history r.disk) (still observed);
@@ -482,6 +486,7 @@ module _ {D : Type 0} (meaning : DiskMeaning D) where
           some_file = λ needs file observed. there observed;
           no_database = λ is. absurd (stopped_other error NoDatabase (sym cause_is ∙ is));
           has_database = λ is. absurd (stopped_other error Done (sym cause_is ∙ is));
+          placed = λ opened. tt;
           ends = λ opened. absurd (true≢false (sym opened ∙ shut));
           caused = unrun (meaning.faults disk) (meaning.faults r.disk) r.journal.items r.cause (subst (λ (d : D). meaning.faults disk ≤ meaning.faults d) (sym disk_is) never_falls) empty
               (λ is. stopped_failed meaning.observable files (meaning.faults disk) (meaning.faults r.disk) error stops (sym cause_is ∙ is));
@@ -510,6 +515,7 @@ module _ {D : Type 0} (meaning : DiskMeaning D) where
             x.1,
             x.2,
             run_later x.0 meaning.observable (meaning.history mid) (meaning.history r.disk) (meaning.faults mid) (meaning.faults r.disk) r.opening r.totals r.journal.items x.1 (meaning.history disk) (meaning.faults disk) r.cause still less c.caused.never_falls x.3,
+            x.4,
           ));
           unopened = c.unopened;
           unreadable = λ corruption is observed. subst (λ (f : Files). HasCorruption f corruption) (reads observed) (c.unreadable corruption is observed);
@@ -520,6 +526,7 @@ module _ {D : Type 0} (meaning : DiskMeaning D) where
           some_file = λ needs file observed. subst (λ (f : Files). HasNoFile f → ⊥) (reads observed) (c.some_file needs file observed);
           no_database = c.no_database;
           has_database = c.has_database;
+          placed = c.placed;
           ends = c.ends;
           caused = record {
             never_falls = (let next = c.caused.never_falls in omega (arith, less, next));

@@ -15,21 +15,25 @@ use Rattle.log_meaning.specs.Checkpoint.{no_checkpoint}
 use Rattle.log_meaning.specs.Meaning.{Meaning, meaning_of}
 use Rattle.log_meaning.specs.Reading.{reading_of}
 use Rattle.script_text.specs.Grammar.{plan_of}
+use Rattle.dump_text.specs.declared.dump.Dump.{Dump as DumpRead}
+use Rattle.dump_text.specs.Grammar.{dump_of}
+use Rattle.store_model.specs.declared.store.Store.{Store}
+use Rattle.store_model.specs.Store.{database_of}
 use Rattle.je_program.specs.declared.cause.Cause.{Cause}
-use Rattle.je_program.specs.declared.cause.Cause.TheVariants.{Done, Usage, BadScript, Disk, Unreadable, WrongIndex, Memory, NoEnvironment, NoDatabase, Input, InputTooLong, LogFull, IdsEnded}
+use Rattle.je_program.specs.declared.cause.Cause.TheVariants.{Done, Usage, BadScript, BadDump, Disk, Unreadable, WrongIndex, Memory, NoEnvironment, NoDatabase, OtherKind, RefusedPair, Input, InputTooLong, LogFull, IdsEnded}
 use Rattle.je_program.specs.declared.reading.TheConstants.{MOST_INPUT}
 use Rattle.engine.specs.Files.{HasCorruption, HasWrongIndex, Means}
 use Rattle.engine.specs.Opening.{HasNoNumbers}
 use Rattle.log_replay.specs.Indexed.{wrong_index}
 use Rattle.environment.proofs.RightStores.{none_wrong}
 use Rattle.command_line.specs.declared.command.Command.{Command}
-use Rattle.command_line.specs.declared.command.Command.TheVariants.{Run, Soak, Dump, PrintLog}
+use Rattle.command_line.specs.declared.command.Command.TheVariants.{Run, Soak, Dump, Load, PrintLog}
 use Rattle.log_file.specs.Log.{AreFiles}
 use Rattle.log_replay.specs.Reading.{corruption_in}
 use Rattle.log_printer.specs.Reading.{HasNoFile}
-use Rattle.je_program.specs.Commands.{AreSound, CanBeOpened, EndsDump, EndsRun, HasDamage, HasInput, cause_of_found, ends_dump, ends_reading, ends_script, ends_soak, may_end, needs_environment, opens}
+use Rattle.je_program.specs.Commands.{AreSound, CanBeOpened, EndsByPlace, EndsDump, EndsLoad, EndsRun, HasDamage, HasDump, HasInput, cause_of_found, ends_dump, ends_load, ends_reading, ends_script, ends_soak, is_place, keeps_otherwise, load_end, may_end, needs_environment, opens}
 use Rattle.je_program.specs.Program.{EndsBy, EndsWith, IsStopped, RunsIf}
-use Rattle.je_program.specs.Run.{cause_of_journal, cause_of_room}
+use Rattle.je_program.specs.Run.{cause_of_journal, cause_of_load, cause_of_refusal, cause_of_room, first_refused}
 use Rattle.je_program.specs.Unprinted.{needs_file}
 
 -- ---- one reading of the files
@@ -99,6 +103,7 @@ not_long left plan script long =
 abbrev pub IsPast : ℕ → ℕ → Cause → Type 0
 IsPast s0 s1 Usage = ⊥
 IsPast s0 s1 (BadScript line) = ⊥
+IsPast s0 s1 (BadDump line) = ⊥
 IsPast s0 s1 InputTooLong = ⊥
 IsPast s0 s1 NoEnvironment = ⊥
 IsPast s0 s1 Input = HasRisen s0 s1
@@ -108,6 +113,9 @@ script_past : (left : Option (List ℕ)) (plan : RunPlan) (s0 s1 : ℕ) (cause :
 script_past left plan s0 s1 Usage script may stopped = cc
 script_past left plan s0 s1 NoEnvironment script may stopped = cc
 script_past left plan s0 s1 NoDatabase script may stopped = cc
+script_past left plan s0 s1 (OtherKind line) script may stopped = cc
+script_past left plan s0 s1 (RefusedPair line) script may stopped = cc
+script_past left plan s0 s1 (BadDump line) script may stopped = cc
 script_past left plan s0 s1 (BadScript line) script may stopped = absurd (not_bad left plan line script stopped)
 script_past left plan s0 s1 InputTooLong script may stopped = absurd (not_long left plan script stopped)
 script_past left plan s0 s1 Input script may stopped = stopped
@@ -122,6 +130,9 @@ script_past left plan s0 s1 IdsEnded script may stopped = tt
 soak_past : (s0 s1 : ℕ) (cause : Cause) → ends_soak cause ≡ true → IsPast s0 s1 cause
 soak_past s0 s1 Usage may = cc
 soak_past s0 s1 (BadScript line) may = cc
+soak_past s0 s1 (BadDump line) may = cc
+soak_past s0 s1 (OtherKind line) may = cc
+soak_past s0 s1 (RefusedPair line) may = cc
 soak_past s0 s1 Input may = cc
 soak_past s0 s1 InputTooLong may = cc
 soak_past s0 s1 NoEnvironment may = cc
@@ -137,10 +148,30 @@ soak_past s0 s1 IdsEnded may = tt
 dump_past : (s0 s1 : ℕ) (cause : Cause) → ends_dump cause ≡ true → cause ≢ NoEnvironment → IsPast s0 s1 cause
 dump_past s0 s1 Usage may there = cc
 dump_past s0 s1 (BadScript line) may there = cc
+dump_past s0 s1 (BadDump line) may there = cc
 dump_past s0 s1 Input may there = cc
 dump_past s0 s1 InputTooLong may there = cc
 dump_past s0 s1 NoEnvironment may there = absurd (there refl)
 dump_past s0 s1 cause may there = tt
+
+not_bad_dump : (left : Option (List ℕ)) (dump : DumpRead) (line : ℕ) → HasDump left dump → IfSome left (λ bytes. (length bytes ≤ MOST_INPUT) × (dump_of bytes ≡ Err line)) → ⊥
+not_bad_dump left dump line has bad =
+    let here = subst (λ (o : Option (List ℕ)). IfSome o (λ bytes. (length bytes ≤ MOST_INPUT) × (dump_of bytes ≡ Err line))) has.1 bad in
+    let e : Ok dump ≡ Err line = sym has.3 ∙ here.1 in cc
+
+not_long_dump : (left : Option (List ℕ)) (dump : DumpRead) → HasDump left dump → IfSome left (λ bytes. MOST_INPUT < length bytes) → ⊥
+not_long_dump left dump has long =
+    let here = subst (λ (o : Option (List ℕ)). IfSome o (λ bytes. MOST_INPUT < length bytes)) has.1 long in
+    let short = has.2 in omega (arith, here, short)
+
+load_past : (left : Option (List ℕ)) (dump : DumpRead) (s0 s1 : ℕ) (cause : Cause) → HasDump left dump → ends_load cause ≡ true → IsStopped left s0 s1 cause → IsPast s0 s1 cause
+load_past left dump s0 s1 Usage has may stopped = cc
+load_past left dump s0 s1 (BadScript line) has may stopped = cc
+load_past left dump s0 s1 NoEnvironment has may stopped = cc
+load_past left dump s0 s1 (BadDump line) has may stopped = absurd (not_bad_dump left dump line has stopped)
+load_past left dump s0 s1 InputTooLong has may stopped = absurd (not_long_dump left dump has stopped)
+load_past left dump s0 s1 Input has may stopped = stopped
+load_past left dump s0 s1 cause has may stopped = tt
 
 pub past_input : (command : Option Command) (left : Option (List ℕ)) (s0 s1 : ℕ) (cause : Cause) → opens command ≡ true → HasInput command left → may_end command cause ≡ true →
     IsStopped left s0 s1 cause → (needs_environment command ≡ true → cause ≢ NoEnvironment) → IsPast s0 s1 cause
@@ -149,6 +180,7 @@ past_input (Some (Run settings)) left s0 s1 cause opened input may stopped there
     script_past left input.1 s0 s1 cause (record { bytes = input.0; is = input.2; short = input.3; plans = input.4 }) may stopped
 past_input (Some (Soak seed settings)) left s0 s1 cause opened input may stopped there = soak_past s0 s1 cause may
 past_input (Some (Dump db printed)) left s0 s1 cause opened input may stopped there = dump_past s0 s1 cause may (there refl)
+past_input (Some (Load db no_overwrite)) left s0 s1 cause opened input may stopped there = load_past left input.0 s0 s1 cause input.1 may stopped
 past_input (Some PrintLog) left s0 s1 cause opened input may stopped there = cc
 
 -- ---- the end
@@ -167,26 +199,29 @@ in_room journal cause other ends =
 -- files with a meaning end so: a run as its journal's room says; one that has not begun may lack node numbers; or memory ran out or a count rose
 pub completes : (files : Files) (s0 s1 d0 d1 : ℕ) (cause : Cause) (opened : Bool) (journal : List Event) → CanBeOpened files → IsPast s0 s1 cause → RunsIf cause opened →
     ((corruption : Corruption) → cause ≡ Unreadable corruption → HasCorruption files corruption) → ((name : List ℕ) → cause ≡ WrongIndex name → HasWrongIndex files name) →
-    (opened ≡ true → cause ≢ Memory → EndsWith journal cause) → (cause ≡ Disk → HasRisen d0 d1) → cause ≢ NoDatabase →
+    (opened ≡ true → cause ≢ Memory → EndsWith journal cause) → (cause ≡ Disk → HasRisen d0 d1) → ends_script cause ≡ true →
     EndsRun cause opened journal ⊎ (cause ≡ Memory) ⊎ Failing s0 s1 ⊎ HasRisen d0 d1
-completes files s0 s1 d0 d1 Done opened journal can past runs unreadable wrong ends failed other = inl (inl (runs, in_room journal Done (λ e. cc) (ends runs (λ e. cc))))
-completes files s0 s1 d0 d1 LogFull opened journal can past runs unreadable wrong ends failed other = inl (inl (runs, in_room journal LogFull (λ e. cc) (ends runs (λ e. cc))))
-completes files s0 s1 d0 d1 IdsEnded opened journal can past runs unreadable wrong ends failed other =
+completes files s0 s1 d0 d1 Done opened journal can past runs unreadable wrong ends failed may = inl (inl (runs, in_room journal Done (λ e. cc) (ends runs (λ e. cc))))
+completes files s0 s1 d0 d1 LogFull opened journal can past runs unreadable wrong ends failed may = inl (inl (runs, in_room journal LogFull (λ e. cc) (ends runs (λ e. cc))))
+completes files s0 s1 d0 d1 IdsEnded opened journal can past runs unreadable wrong ends failed may =
     ⊎_elim
     (λ (is_opened : opened ≡ true). inl (inl (is_opened, in_room journal IdsEnded (λ e. cc) (ends is_opened (λ e. cc)))))
     (λ (none : opened ≡ false). inl (inr (none, refl)))
     (cases_Bool opened)
-completes files s0 s1 d0 d1 Disk opened journal can past runs unreadable wrong ends failed other = inr (inr (inr (failed refl)))
-completes files s0 s1 d0 d1 Memory opened journal can past runs unreadable wrong ends failed other = inr (inl refl)
-completes files s0 s1 d0 d1 Input opened journal can past runs unreadable wrong ends failed other = inr (inr (inl past))
-completes files s0 s1 d0 d1 Usage opened journal can past runs unreadable wrong ends failed other = absurd past
-completes files s0 s1 d0 d1 (BadScript line) opened journal can past runs unreadable wrong ends failed other = absurd past
-completes files s0 s1 d0 d1 InputTooLong opened journal can past runs unreadable wrong ends failed other = absurd past
-completes files s0 s1 d0 d1 NoEnvironment opened journal can past runs unreadable wrong ends failed other = absurd past
-completes files s0 s1 d0 d1 NoDatabase opened journal can past runs unreadable wrong ends failed other = absurd (other refl)
-completes files s0 s1 d0 d1 (Unreadable corruption) opened journal can past runs unreadable wrong ends failed other =
+completes files s0 s1 d0 d1 Disk opened journal can past runs unreadable wrong ends failed may = inr (inr (inr (failed refl)))
+completes files s0 s1 d0 d1 Memory opened journal can past runs unreadable wrong ends failed may = inr (inl refl)
+completes files s0 s1 d0 d1 Input opened journal can past runs unreadable wrong ends failed may = inr (inr (inl past))
+completes files s0 s1 d0 d1 Usage opened journal can past runs unreadable wrong ends failed may = absurd past
+completes files s0 s1 d0 d1 (BadScript line) opened journal can past runs unreadable wrong ends failed may = absurd past
+completes files s0 s1 d0 d1 InputTooLong opened journal can past runs unreadable wrong ends failed may = absurd past
+completes files s0 s1 d0 d1 NoEnvironment opened journal can past runs unreadable wrong ends failed may = absurd past
+completes files s0 s1 d0 d1 (BadDump line) opened journal can past runs unreadable wrong ends failed may = cc
+completes files s0 s1 d0 d1 NoDatabase opened journal can past runs unreadable wrong ends failed may = cc
+completes files s0 s1 d0 d1 (OtherKind line) opened journal can past runs unreadable wrong ends failed may = cc
+completes files s0 s1 d0 d1 (RefusedPair line) opened journal can past runs unreadable wrong ends failed may = cc
+completes files s0 s1 d0 d1 (Unreadable corruption) opened journal can past runs unreadable wrong ends failed may =
     absurd (no_corruption_beside files corruption can.meaning (unreadable corruption refl) can.means)
-completes files s0 s1 d0 d1 (WrongIndex name) opened journal can past runs unreadable wrong ends failed other =
+completes files s0 s1 d0 d1 (WrongIndex name) opened journal can past runs unreadable wrong ends failed may =
     absurd (no_wrong_beside files name can.meaning (wrong name refl) can.means (none_wrong can.means.held can.meaning can.means.reads can.indexed))
 
 -- where the files have a corruption, the program ends by it, unless memory ran out or a count rose
@@ -214,9 +249,12 @@ finds files s0 s1 d0 d1 cause opened corruption has past runs unreadable wrong m
     by_cause Input past runs unreadable wrong numbers failed = inr (inr (inl past))
     by_cause Usage past runs unreadable wrong numbers failed = absurd past
     by_cause (BadScript line) past runs unreadable wrong numbers failed = absurd past
+    by_cause (BadDump line) past runs unreadable wrong numbers failed = absurd past
     by_cause InputTooLong past runs unreadable wrong numbers failed = absurd past
     by_cause NoEnvironment past runs unreadable wrong numbers failed = absurd past
     by_cause NoDatabase past runs unreadable wrong numbers failed = absurd (closed runs)
+    by_cause (OtherKind line) past runs unreadable wrong numbers failed = absurd (closed runs)
+    by_cause (RefusedPair line) past runs unreadable wrong numbers failed = absurd (closed runs)
     by_cause (Unreadable f) past runs unreadable wrong numbers failed = inl (ap Unreadable (one_corruption files f corruption (unreadable f refl) has))
     by_cause (WrongIndex name) past runs unreadable wrong numbers failed =
         let has_wrong = wrong name refl in absurd (no_corruption_beside files corruption has_wrong.meaning has (meant_where_wrong files name has_wrong))
@@ -246,9 +284,12 @@ finds_wrong files s0 s1 d0 d1 cause opened name has past runs unreadable wrong m
     by_cause Input past runs unreadable wrong numbers failed = inr (inr (inl past))
     by_cause Usage past runs unreadable wrong numbers failed = absurd past
     by_cause (BadScript line) past runs unreadable wrong numbers failed = absurd past
+    by_cause (BadDump line) past runs unreadable wrong numbers failed = absurd past
     by_cause InputTooLong past runs unreadable wrong numbers failed = absurd past
     by_cause NoEnvironment past runs unreadable wrong numbers failed = absurd past
     by_cause NoDatabase past runs unreadable wrong numbers failed = absurd (closed runs)
+    by_cause (OtherKind line) past runs unreadable wrong numbers failed = absurd (closed runs)
+    by_cause (RefusedPair line) past runs unreadable wrong numbers failed = absurd (closed runs)
     by_cause (Unreadable f) past runs unreadable wrong numbers failed = absurd (no_corruption_beside files f has.meaning (unreadable f refl) (meant_where_wrong files name has))
     by_cause (WrongIndex other) past runs unreadable wrong numbers failed = inl (ap WrongIndex (one_wrong files other name (wrong other refl) has))
 
@@ -366,3 +407,70 @@ dump_nothing files d0 d1 (WrongIndex name) none may some failed = absurd (some r
 dump_nothing files d0 d1 NoDatabase none may some failed = absurd (some refl none)
 dump_nothing files d0 d1 IdsEnded none may some failed = absurd (some refl none)
 dump_nothing files d0 d1 cause none may some failed = cc
+
+-- ---- a load
+
+lacks_place : (kept : Bool) (line : ℕ) (place otherwise : Bool) (journal : List Event) → place ≡ false → NoDatabase ≡ load_end kept line place otherwise journal
+lacks_place kept line true otherwise journal none = cc
+lacks_place kept line false otherwise journal none = refl
+
+is_otherwise : (kept : Bool) (at line : ℕ) (place otherwise : Bool) (journal : List Event) → place ≡ true → otherwise ≡ true → at ≡ line → OtherKind at ≡ load_end kept line place otherwise journal
+is_otherwise kept at line true true journal there other same = ap OtherKind same
+is_otherwise kept at line true false journal there other same = cc
+is_otherwise kept at line false otherwise journal there other same = cc
+
+takes_lines : (kept : Bool) (line : ℕ) (place otherwise : Bool) (journal : List Event) (cause : Cause) → place ≡ true → otherwise ≡ false → cause ≡ cause_of_load kept (cause_of_room journal) journal →
+    cause ≡ load_end kept line place otherwise journal
+takes_lines kept line true false journal cause there same is = is
+takes_lines kept line true true journal cause there same is = cc
+takes_lines kept line false otherwise journal cause there same is = cc
+
+-- a load of files with a meaning ends for want of a place, by the kind of its database, or as its journal says; it may lack node numbers before; or memory ran out or a count rose
+pub load_completes : (files : Files) (db : List ℕ) (kept : Bool) (left : Option (List ℕ)) (s0 s1 d0 d1 : ℕ) (cause : Cause) (opened : Bool) (opening : Store) (journal : List Event) → CanBeOpened files → IsPast s0 s1 cause → RunsIf cause opened →
+    ((corruption : Corruption) → cause ≡ Unreadable corruption → HasCorruption files corruption) → ((name : List ℕ) → cause ≡ WrongIndex name → HasWrongIndex files name) →
+    (opened ≡ true → (dump : DumpRead) × HasDump left dump × EndsByPlace cause (is_place db opening) (keeps_otherwise dump.dup (database_of db opening)) dump.dup_line) →
+    (opened ≡ true → (cause ≡ Done → first_refused kept journal ≡ None) × ((line : ℕ) → cause ≡ RefusedPair line → first_refused kept journal ≡ Some line)) →
+    (opened ≡ true → cause ≢ Memory → EndsWith journal cause) → (cause ≡ Disk → HasRisen d0 d1) →
+    EndsLoad db kept left cause opened opening journal ⊎ (cause ≡ Memory) ⊎ Failing s0 s1 ⊎ HasRisen d0 d1
+load_completes files db kept left s0 s1 d0 d1 cause opened opening journal can past runs unreadable wrong placed refused ends failed = by_cause cause past runs unreadable wrong placed refused ends failed
+  where
+    place : Bool
+    place = is_place db opening
+
+    otherwise : DumpRead → Bool
+    otherwise dump = keeps_otherwise dump.dup (database_of db opening)
+
+    given : (cause : Cause) → opened ≡ true → (dump : DumpRead) × HasDump left dump × EndsByPlace Done place (otherwise dump) dump.dup_line → cause ≡ cause_of_load kept (cause_of_room journal) journal → EndsLoad db kept left cause opened opening journal
+    given cause is p by = inl (p.0, p.1, is, takes_lines kept p.0.dup_line place (otherwise p.0) journal cause p.2.0 p.2.1 by)
+
+    by_cause : (cause : Cause) → IsPast s0 s1 cause → RunsIf cause opened → ((corruption : Corruption) → cause ≡ Unreadable corruption → HasCorruption files corruption) → ((name : List ℕ) → cause ≡ WrongIndex name → HasWrongIndex files name) →
+        (opened ≡ true → (dump : DumpRead) × HasDump left dump × EndsByPlace cause place (otherwise dump) dump.dup_line) →
+        (opened ≡ true → (cause ≡ Done → first_refused kept journal ≡ None) × ((line : ℕ) → cause ≡ RefusedPair line → first_refused kept journal ≡ Some line)) →
+        (opened ≡ true → cause ≢ Memory → EndsWith journal cause) → (cause ≡ Disk → HasRisen d0 d1) → EndsLoad db kept left cause opened opening journal ⊎ (cause ≡ Memory) ⊎ Failing s0 s1 ⊎ HasRisen d0 d1
+    by_cause Done past runs unreadable wrong placed refused ends failed =
+        let room : Done ≡ cause_of_room journal = in_room journal Done (λ e. cc) (ends runs (λ e. cc)) in
+        inl (given Done runs (placed runs) (sym (ap cause_of_refusal ((refused runs).0 refl)) ∙ ap (λ (c : Cause). cause_of_load kept c journal) room))
+    by_cause LogFull past runs unreadable wrong placed refused ends failed =
+        let room : LogFull ≡ cause_of_room journal = in_room journal LogFull (λ e. cc) (ends runs (λ e. cc)) in
+        inl (given LogFull runs (placed runs) (ap (λ (c : Cause). cause_of_load kept c journal) room))
+    by_cause IdsEnded past runs unreadable wrong placed refused ends failed =
+        ⊎_elim
+        (λ (is : opened ≡ true).
+        inl (given IdsEnded is (placed is) (ap (λ (c : Cause). cause_of_load kept c journal) (in_room journal IdsEnded (λ e. cc) (ends is (λ e. cc))))))
+        (λ (none : opened ≡ false). inl (inr (none, refl)))
+        (cases_Bool opened)
+    by_cause (RefusedPair line) past runs unreadable wrong placed refused ends failed =
+        let well : cause_of_journal journal ≡ Done = ends runs (λ e. cc) in
+        let room : Done ≡ cause_of_room journal = in_room journal Done (λ e. cc) (inl (sym well)) in
+        inl (given (RefusedPair line) runs (placed runs) (sym (ap cause_of_refusal ((refused runs).1 line refl)) ∙ ap (λ (c : Cause). cause_of_load kept c journal) room))
+    by_cause NoDatabase past runs unreadable wrong placed refused ends failed =
+        let p = placed runs in inl (inl (p.0, p.1, runs, lacks_place kept p.0.dup_line place (otherwise p.0) journal p.2))
+    by_cause (OtherKind at) past runs unreadable wrong placed refused ends failed =
+        let p = placed runs in inl (inl (p.0, p.1, runs, is_otherwise kept at p.0.dup_line place (otherwise p.0) journal p.2.0 p.2.1 p.2.2))
+    by_cause Disk past runs unreadable wrong placed refused ends failed = inr (inr (inr (failed refl)))
+    by_cause Memory past runs unreadable wrong placed refused ends failed = inr (inl refl)
+    by_cause Input past runs unreadable wrong placed refused ends failed = inr (inr (inl past))
+    by_cause (Unreadable corruption) past runs unreadable wrong placed refused ends failed = absurd (no_corruption_beside files corruption can.meaning (unreadable corruption refl) can.means)
+    by_cause (WrongIndex name) past runs unreadable wrong placed refused ends failed =
+        absurd (no_wrong_beside files name can.meaning (wrong name refl) can.means (none_wrong can.means.held can.meaning can.means.reads can.indexed))
+    by_cause cause past runs unreadable wrong placed refused ends failed = absurd past

@@ -26,3 +26,7 @@ pub mod PrintLaws
 pub mod RequestLaws
 -- What a dump comes to.
 pub mod DumpLaws
+-- The place of a dump's pairs.
+pub mod PlaceLaws
+-- What a load comes to.
+pub mod LoadLaws

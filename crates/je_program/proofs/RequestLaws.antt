@@ -1,26 +1,30 @@
 -- What a program is to do.
-use Rattle.std.proofs.Common.{◌≡◌, ℕ, List, Option, Some, Result, Ok, Err, refl, sym, subst}
+use Rattle.std.proofs.Common.{◌≡◌, ℕ, true, List, Option, Some, Result, Ok, Err, sym, subst}
 use Rattle.std.specs.Prelude.{IfErr, IsErrAnd}
 use Rattle.command_line.specs.declared.command.RunSettings.{RunSettings}
 use Rattle.command_line.specs.declared.command.Command.{Command}
-use Rattle.command_line.specs.declared.command.Command.TheVariants.{Run, Soak}
+use Rattle.command_line.specs.declared.command.Command.TheVariants.{Soak}
 use Rattle.je_program.specs.declared.cause.Cause.{Cause}
-use Rattle.je_program.specs.declared.cause.Cause.TheVariants.{Usage, BadScript, Memory, Input, InputTooLong}
+use Rattle.je_program.specs.declared.cause.Cause.TheVariants.{Usage, BadScript, BadDump, Memory, Input, InputTooLong}
+use Rattle.je_program.specs.Commands.{may_end, reads_input}
 use Rattle.je_program.specs.Program.{IsNoRequest, StopsReading}
 use Rattle.je_program.specs.Request.{IsNoCommand}
 
--- why a script was not read is why `run` has nothing to do
-unread_script : (settings : RunSettings) (left : Option (List ℕ)) (before after : ℕ) (cause : Cause) → StopsReading left before after cause → IsNoRequest (Some (Run settings)) left before after cause
-unread_script settings left before after Usage stops = absurd stops
-unread_script settings left before after Memory stops = tt
-unread_script settings left before after Input stops = (refl, stops)
-unread_script settings left before after InputTooLong stops = (refl, stops)
-unread_script settings left before after (BadScript line) stops = (refl, stops)
-unread_script settings left before after cause stops = absurd stops
+-- why the input was not what a command reads is why the command has nothing to do
+unread : (command : Option Command) (left : Option (List ℕ)) (before after : ℕ) (cause : Cause) → reads_input command ≡ true → may_end command cause ≡ true → StopsReading left before after cause →
+    IsNoRequest command left before after cause
+unread command left before after Usage reads may stops = absurd stops
+unread command left before after Memory reads may stops = tt
+unread command left before after Input reads may stops = (reads, may, stops)
+unread command left before after InputTooLong reads may stops = (reads, may, stops)
+unread command left before after (BadScript line) reads may stops = (reads, may, stops)
+unread command left before after (BadDump line) reads may stops = (reads, may, stops)
+unread command left before after cause reads may stops = absurd stops
 
-pub no_script : {T : Type 0} (settings : RunSettings) (left : Option (List ℕ)) (before after : ℕ) (r : Result T Cause) → IfErr r (StopsReading left before after) → IfErr r (IsNoRequest (Some (Run settings)) left before after)
-no_script settings left before after (Ok v) stops = tt
-no_script settings left before after (Err cause) stops = unread_script settings left before after cause stops
+pub no_reading : {T : Type 0} (command : Option Command) (left : Option (List ℕ)) (before after : ℕ) (r : Result T Cause) → reads_input command ≡ true → IfErr r (λ cause. may_end command cause ≡ true) →
+    IfErr r (StopsReading left before after) → IfErr r (IsNoRequest command left before after)
+no_reading command left before after (Ok v) reads may stops = tt
+no_reading command left before after (Err cause) reads may stops = unread command left before after cause reads may stops
 
 pub no_soak : {T : Type 0} (seed : ℕ) (settings : RunSettings) (left : Option (List ℕ)) (before after : ℕ) (r : Result T Cause) → IfErr r (λ cause. cause ≡ Memory) → IfErr r (IsNoRequest (Some (Soak seed settings)) left before after)
 no_soak seed settings left before after (Ok v) is = tt

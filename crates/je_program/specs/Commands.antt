@@ -1,21 +1,34 @@
 -- What differs by command: what is read, which lines a run is given, how it may end, and what is written.
-use Rattle.std.specs.Prelude.{ℕ, ◌≡◌, ◌≢◌, ◌≤◌, ◌++◌, ◌⊎◌, [], List, Option, Some, None, Bool, true, false, Ok, length, codes, decimal}
+use Rattle.std.specs.Prelude.{ℕ, ◌≡◌, ◌≢◌, ◌≤◌, ◌++◌, ◌⊎◌, [], List, Option, Some, None, Bool, true, false, Ok, filter, length, codes, decimal, nat_lt, not, if◌then◌else◌}
+use Rattle.std.specs.Option.{is_some}
 use Rattle.std.specs.List.{flat_map}
 use Rattle.je_disk.specs.States.{Files}
+use Rattle.store_model.specs.declared.answer.Answer.TheVariants.{Done as IsDone, KeyExist}
+use Rattle.store_model.specs.declared.call.Call.TheVariants.{Put}
 use Rattle.store_model.specs.declared.event.Event.{Event}
+use Rattle.store_model.specs.declared.event.Event.TheVariants.{Call as Called}
 use Rattle.store_model.specs.declared.plan.RunPlan.{RunPlan}
 use Rattle.store_model.specs.declared.plan.ScriptLine.{ScriptLine}
 use Rattle.store_model.specs.declared.totals.Totals.{Totals}
 use Rattle.store_model.specs.declared.store.Store.{Store}
 use Rattle.store_model.specs.declared.store.Database.{Database}
+use Rattle.store_model.specs.declared.store.TheConstants.{MOST_DATABASES}
 use Rattle.store_model.specs.Indexes.{AreIndexed}
-use Rattle.store_model.specs.Store.{database_of}
-use Rattle.je_answers.specs.Journal.{lines_of}
+use Rattle.store_model.specs.Store.{database_of, store_after}
+use Rattle.je_answers.specs.Standing.{Standing}
+use Rattle.je_answers.specs.Journal.{attempts_of, lines_of}
 use Rattle.command_line.specs.declared.command.Command.{Command}
-use Rattle.command_line.specs.declared.command.Command.TheVariants.{Run, Soak, Dump, PrintLog}
+use Rattle.command_line.specs.declared.command.Command.TheVariants.{Run, Soak, Dump, Load, PrintLog}
 use Rattle.script_text.specs.Grammar.{plan_of}
 use Rattle.script_text.specs.Report.{commits_in, end_line, report_text}
 use Rattle.soak_plan.specs.Rounds.{soak_of}
+use Rattle.dump_text.specs.declared.dump.Dump.{Dump as DumpRead}
+use Rattle.dump_text.specs.Grammar.{dump_of}
+use Rattle.load_run.specs.Lines.{kind_of_dump, load_lines}
+use Rattle.load_laws.specs.Given.{StopsAtRefusal}
+use Rattle.load_laws.specs.Images.{ComesWhole, made_store}
+use Rattle.load_laws.specs.Stored.{HasLoaded}
+use Rattle.script_run.specs.Events.{final_store}
 use Rattle.script_run.specs.Lines.{AreFirstLines, of_maintenance, of_session}
 use Rattle.log_file.specs.Log.{AreFiles}
 use Rattle.log_replay.specs.declared.corruption.Corruption.{Corruption}
@@ -23,15 +36,15 @@ use Rattle.log_replay.specs.Reading.{corruption_in}
 use Rattle.log_meaning.specs.Meaning.{Meaning}
 use Rattle.log_printer.specs.LogLines.{lines_text, log_text}
 use Rattle.log_printer.specs.Reading.{HasNoFile}
-use Rattle.database_dump.specs.Text.{database_text, records_text}
+use Rattle.database_dump.specs.Text.{database_text, is_dup, records_text}
 use Rattle.environment.specs.Databases.{rows_kept}
 use Rattle.engine.specs.Files.{HasCorruption, Means}
 use Rattle.je_program.specs.declared.reading.TheConstants.{MOST_INPUT}
 use Rattle.je_program.specs.declared.cause.Cause.{Cause}
-use Rattle.je_program.specs.declared.cause.Cause.TheVariants.{Done, Usage, BadScript, Disk, Unreadable, WrongIndex, Memory, NoEnvironment, NoDatabase, Input, InputTooLong, IdsEnded}
+use Rattle.je_program.specs.declared.cause.Cause.TheVariants.{Done, Usage, BadScript, BadDump, Disk, Unreadable, WrongIndex, Memory, NoEnvironment, NoDatabase, OtherKind, RefusedPair, Input, InputTooLong, IdsEnded}
 use Rattle.je_program.specs.declared.text.Text.{Text}
-use Rattle.je_program.specs.declared.text.Text.TheVariants.{Nothing, Report, SoakEnd, Dump as DumpText, Log}
-use Rattle.je_program.specs.Run.{cause_of_room}
+use Rattle.je_program.specs.declared.text.Text.TheVariants.{Nothing, Report, SoakEnd, Dump as DumpText, Loaded, Log}
+use Rattle.je_program.specs.Run.{cause_of_load, cause_of_room, first_refused}
 
 -- ---- what a command does
 
@@ -41,6 +54,7 @@ reads_input None = false
 reads_input (Some (Run settings)) = true
 reads_input (Some (Soak seed settings)) = false
 reads_input (Some (Dump db printed)) = false
+reads_input (Some (Load db no_overwrite)) = true
 reads_input (Some PrintLog) = false
 
 -- whether it opens the environment
@@ -49,6 +63,7 @@ opens None = false
 opens (Some (Run settings)) = true
 opens (Some (Soak seed settings)) = true
 opens (Some (Dump db printed)) = true
+opens (Some (Load db no_overwrite)) = true
 opens (Some PrintLog) = false
 
 -- whether it needs an environment that is there, since it makes none
@@ -57,6 +72,7 @@ needs_environment None = false
 needs_environment (Some (Run settings)) = false
 needs_environment (Some (Soak seed settings)) = false
 needs_environment (Some (Dump db printed)) = true
+needs_environment (Some (Load db no_overwrite)) = false
 needs_environment (Some PrintLog) = true
 
 -- whether it gives the environment lines
@@ -65,7 +81,17 @@ gives_lines None = false
 gives_lines (Some (Run settings)) = true
 gives_lines (Some (Soak seed settings)) = true
 gives_lines (Some (Dump db printed)) = false
+gives_lines (Some (Load db no_overwrite)) = true
 gives_lines (Some PrintLog) = false
+
+-- whether it runs a script, and reports on that
+abbrev pub is_script : Option Command → Bool
+is_script None = false
+is_script (Some (Run settings)) = true
+is_script (Some (Soak seed settings)) = true
+is_script (Some (Dump db printed)) = false
+is_script (Some (Load db no_overwrite)) = false
+is_script (Some PrintLog) = false
 
 -- how many bytes a log file has at most where no option says so
 abbrev pub usual_file_max : ℕ
@@ -77,6 +103,7 @@ file_max_of None = None
 file_max_of (Some (Run settings)) = Some settings.file_max
 file_max_of (Some (Soak seed settings)) = Some settings.file_max
 file_max_of (Some (Dump db printed)) = Some usual_file_max
+file_max_of (Some (Load db no_overwrite)) = Some usual_file_max
 file_max_of (Some PrintLog) = None
 
 -- ---- how it may end
@@ -90,18 +117,24 @@ ends_unparsed cause = false
 -- of a script that is read
 abbrev pub ends_script : Cause → Bool
 ends_script Usage = false
+ends_script (BadDump line) = false
 ends_script NoEnvironment = false
 ends_script NoDatabase = false
+ends_script (OtherKind line) = false
+ends_script (RefusedPair line) = false
 ends_script cause = true
 
 -- of a script that is made
 abbrev pub ends_soak : Cause → Bool
 ends_soak Usage = false
 ends_soak (BadScript line) = false
+ends_soak (BadDump line) = false
 ends_soak Input = false
 ends_soak InputTooLong = false
 ends_soak NoEnvironment = false
 ends_soak NoDatabase = false
+ends_soak (OtherKind line) = false
+ends_soak (RefusedPair line) = false
 ends_soak cause = true
 
 -- of a dump
@@ -115,6 +148,13 @@ ends_dump NoEnvironment = true
 ends_dump NoDatabase = true
 ends_dump IdsEnded = true
 ends_dump cause = false
+
+-- of a dump that is loaded
+abbrev pub ends_load : Cause → Bool
+ends_load Usage = false
+ends_load (BadScript line) = false
+ends_load NoEnvironment = false
+ends_load cause = true
 
 -- of files that are only read
 abbrev pub ends_reading : Cause → Bool
@@ -131,6 +171,7 @@ may_end None cause = ends_unparsed cause
 may_end (Some (Run settings)) cause = ends_script cause
 may_end (Some (Soak seed settings)) cause = ends_soak cause
 may_end (Some (Dump db printed)) cause = ends_dump cause
+may_end (Some (Load db no_overwrite)) cause = ends_load cause
 may_end (Some PrintLog) cause = ends_reading cause
 
 -- ---- what is read
@@ -142,13 +183,25 @@ ReadsPlan (Some left) None plan = ⊥
 ReadsPlan None (Some rest) plan = ⊥
 ReadsPlan None None plan = Unit {0}
 
+-- the input was a dump, and was read to its end
+abbrev pub ReadsDump : Option (List ℕ) → Option (List ℕ) → DumpRead → Type 0
+ReadsDump (Some left) (Some rest) dump = (length left ≤ MOST_INPUT) × (dump_of left ≡ Ok dump) × (rest ≡ [])
+ReadsDump (Some left) None dump = ⊥
+ReadsDump None (Some rest) dump = ⊥
+ReadsDump None None dump = Unit {0}
+
 -- what a command has read of its input, where neither this nor memory ended it
 abbrev pub ReadsInput : Option Command → Option (List ℕ) → Option (List ℕ) → Type 0
 ReadsInput None left rest = rest ≡ left
 ReadsInput (Some (Run settings)) left rest = (plan : RunPlan) × ReadsPlan left rest plan
 ReadsInput (Some (Soak seed settings)) left rest = rest ≡ left
 ReadsInput (Some (Dump db printed)) left rest = rest ≡ left
+ReadsInput (Some (Load db no_overwrite)) left rest = (dump : DumpRead) × ReadsDump left rest dump
 ReadsInput (Some PrintLog) left rest = rest ≡ left
+
+-- the input is a dump
+abbrev pub HasDump : Option (List ℕ) → DumpRead → Type 0
+HasDump left dump = (bytes : List ℕ) × (left ≡ Some bytes) × (length bytes ≤ MOST_INPUT) × (dump_of bytes ≡ Ok dump)
 
 -- the input is what a command needs
 abbrev pub HasInput : Option Command → Option (List ℕ) → Type 0
@@ -156,27 +209,110 @@ HasInput None left = ⊥
 HasInput (Some (Run settings)) left = (bytes : List ℕ) × (plan : RunPlan) × (left ≡ Some bytes) × (length bytes ≤ MOST_INPUT) × (plan_of bytes ≡ Ok plan)
 HasInput (Some (Soak seed settings)) left = Unit {0}
 HasInput (Some (Dump db printed)) left = Unit {0}
+HasInput (Some (Load db no_overwrite)) left = (dump : DumpRead) × HasDump left dump
 HasInput (Some PrintLog) left = Unit {0}
+
+-- ---- the database that a command names
+
+-- whether a load makes its database
+abbrev pub is_made : List ℕ → Store → Bool
+is_made db opening = not (is_some (database_of db opening))
+
+-- whether pairs may be loaded into a database: it is there and no index, or one more may be made
+abbrev pub takes_pairs : ℕ → Option Database → Bool
+takes_pairs count None = nat_lt count MOST_DATABASES
+takes_pairs count (Some database) = not (is_some database.index)
+
+-- the same of the store at entry and the database of that name
+abbrev pub is_place : List ℕ → Store → Bool
+is_place db opening = takes_pairs (length opening.databases) (database_of db opening)
+
+-- whether a database is there that keeps its records otherwise than a dump says
+abbrev pub keeps_otherwise : Bool → Option Database → Bool
+keeps_otherwise dup None = false
+keeps_otherwise dup (Some database) = if dup then not (is_dup database.kind) else is_dup database.kind
+
+-- how a load ends by what the store has under its name: for want of a place, or by the dump's line on duplicates where the database keeps its
+-- records otherwise; in any other way only where the pairs were given to it
+abbrev pub EndsByPlace : Cause → Bool → Bool → ℕ → Type 0
+EndsByPlace NoDatabase place otherwise line = place ≡ false
+EndsByPlace (OtherKind at) place otherwise line = (place ≡ true) × (otherwise ≡ true) × (at ≡ line)
+EndsByPlace cause place otherwise line = (place ≡ true) × (otherwise ≡ false)
+
+-- the same of any command, over this store
+abbrev pub IsPlaced : Option Command → Option (List ℕ) → Option (List ℕ) → Store → Cause → Type 0
+IsPlaced (Some (Load db no_overwrite)) left rest opening cause =
+    (dump : DumpRead) × ReadsDump left rest dump × EndsByPlace cause (is_place db opening) (keeps_otherwise dump.dup (database_of db opening)) dump.dup_line
+IsPlaced command left rest opening cause = Unit {0}
+
+-- the store has not the database that a command needs
+abbrev pub LacksDatabase : Option Command → Store → Type 0
+LacksDatabase (Some (Dump db printed)) opening = database_of db opening ≡ None
+LacksDatabase (Some (Load db no_overwrite)) opening = is_place db opening ≡ false
+LacksDatabase command opening = ⊥
+
+-- the store has it, or the command needs none
+abbrev pub HasDatabase : Option Command → Store → Type 0
+HasDatabase (Some (Dump db printed)) opening = database_of db opening ≢ None
+HasDatabase (Some (Load db no_overwrite)) opening = is_place db opening ≡ true
+HasDatabase command opening = Unit {0}
 
 -- ---- the lines of a run
 
--- the lines that a command gives: those of the script that it read, those of its seed, or none
-abbrev pub AreLines : Option Command → Option (List ℕ) → Option (List ℕ) → List ScriptLine → Type 0
-AreLines None left rest lines = ⊥
-AreLines (Some (Run settings)) left rest lines = (plan : RunPlan) × ReadsPlan left rest plan × (lines ≡ plan.lines)
-AreLines (Some (Soak seed settings)) left rest lines = lines ≡ soak_of seed
-AreLines (Some (Dump db printed)) left rest lines = lines ≡ []
-AreLines (Some PrintLog) left rest lines = ⊥
+-- the lines that a command gives over this store: those of the script that it read, those of its seed, those that load the dump that it read, or none
+abbrev pub AreLines : Option Command → Option (List ℕ) → Option (List ℕ) → Store → List ScriptLine → Type 0
+AreLines None left rest opening lines = ⊥
+AreLines (Some (Run settings)) left rest opening lines = (plan : RunPlan) × ReadsPlan left rest plan × (lines ≡ plan.lines)
+AreLines (Some (Soak seed settings)) left rest opening lines = lines ≡ soak_of seed
+AreLines (Some (Dump db printed)) left rest opening lines = lines ≡ []
+AreLines (Some (Load db no_overwrite)) left rest opening lines = (dump : DumpRead) × ReadsDump left rest dump × (lines ≡ load_lines (is_made db opening) db no_overwrite dump)
+AreLines (Some PrintLog) left rest opening lines = ⊥
+
+-- whether a command that ends so has given all its lines, if it ran: one that loads a dump only where all was done, any other unless memory ran out
+abbrev pub GaveAll : Option Command → Cause → Type 0
+GaveAll (Some (Load db no_overwrite)) cause = cause ≡ Done
+GaveAll command cause = cause ≢ Memory
+
+-- a journal holds of each session the first of its lines, and of the steps of maintenance the first
+pub record HasFirstLines (lines : List ScriptLine) (journal : List Event) : Type 0 where
+  pub each : (session : ℕ) → AreFirstLines (of_session session (lines_of journal)) (of_session session lines)
+  pub steps : AreFirstLines (of_maintenance (lines_of journal)) (of_maintenance lines)
+
+-- a journal holds the first lines of a load, and none behind a call that was refused; where all was done none was, and a refused pair is the cause only where
+-- the line of its key was the first that was refused
+pub record HasLoadLines (kept : Bool) (lines : List ScriptLine) (journal : List Event) (cause : Cause) : Type 0 where
+  pub first : AreFirstLines (lines_of journal) lines
+  pub stops : StopsAtRefusal kept journal
+  pub done : cause ≡ Done → first_refused kept journal ≡ None
+  pub refused : (line : ℕ) → cause ≡ RefusedPair line → first_refused kept journal ≡ Some line
+
+-- which lines a journal holds at least that its command gives
+abbrev pub HasFront : Option Command → List ScriptLine → List Event → Cause → Type 0
+HasFront (Some (Load db no_overwrite)) lines journal cause = HasLoadLines no_overwrite lines journal cause
+HasFront command lines journal cause = HasFirstLines lines journal
 
 -- a journal holds a command's lines: all, in order; or where a line found no memory, of each session the
--- first of its lines, and of the steps of maintenance the first. Of a command that gives none it is empty
-pub record IsGivenTo (command : Option Command) (left rest : Option (List ℕ)) (journal : List Event) (cause : Cause) : Type 0 where
+-- first of its lines, and of the steps of maintenance the first; of a load up to the first that is refused. Of a command that gives none it is empty
+pub record IsGivenTo (command : Option Command) (left rest : Option (List ℕ)) (opening : Store) (journal : List Event) (cause : Cause) : Type 0 where
   pub lines : List ScriptLine
-  pub are : AreLines command left rest lines
-  pub all : cause ≢ Memory → lines_of journal ≡ lines
-  pub front : (session : ℕ) → AreFirstLines (of_session session (lines_of journal)) (of_session session lines)
-  pub front_steps : AreFirstLines (of_maintenance (lines_of journal)) (of_maintenance lines)
+  pub are : AreLines command left rest opening lines
+  pub all : GaveAll command cause → lines_of journal ≡ lines
+  pub front : HasFront command lines journal cause
   pub none : gives_lines command ≡ false → journal ≡ []
+
+-- What a load stores: its database, which it made or found, has the pairs of the dump put among its records, one after another. Whatever first of its
+-- attempted commits a crash leaves, there is nothing of it, its database without a pair, or all that was attempted, and this is all pairs, or the database
+-- alone where it did not commit. Where all was done the final store has all pairs.
+pub record StoresDump (make : Bool) (db : List ℕ) (kept : Bool) (dump : DumpRead) (st : Standing) (journal : List Event) (cause : Cause) : Type 0 where
+  pub whole : ComesWhole make db kept dump st journal
+  pub attempted : lines_of journal ≡ load_lines make db kept dump → (d : Database) → database_of db (made_store make db (kind_of_dump dump.dup) st.store) ≡ Some d →
+      (store_after st.store (attempts_of st journal) ≡ made_store make db (kind_of_dump dump.dup) st.store) ⊎ HasLoaded db kept dump d (store_after st.store (attempts_of st journal))
+  pub stored : cause ≡ Done → (d : Database) → database_of db (made_store make db (kind_of_dump dump.dup) st.store) ≡ Some d → HasLoaded db kept dump d (final_store st journal)
+
+-- what a command's run stores, beside what its journal says
+abbrev pub IsStored : Option Command → Option (List ℕ) → Option (List ℕ) → Store → Standing → List Event → Cause → Type 0
+IsStored (Some (Load db no_overwrite)) left rest opening st journal cause = (dump : DumpRead) × ReadsDump left rest dump × StoresDump (is_made db opening) db no_overwrite dump st journal cause
+IsStored command left rest opening st journal cause = Unit {0}
 
 -- ---- the files
 
@@ -205,6 +341,7 @@ IsFound None files corruption = HasCorruption files corruption
 IsFound (Some (Run settings)) files corruption = HasCorruption files corruption
 IsFound (Some (Soak seed settings)) files corruption = HasCorruption files corruption
 IsFound (Some (Dump db printed)) files corruption = HasCorruption files corruption
+IsFound (Some (Load db no_overwrite)) files corruption = HasCorruption files corruption
 IsFound (Some PrintLog) files corruption = HasDamage files corruption
 
 -- the files at entry are what a command needs
@@ -213,6 +350,7 @@ AreReady None files = ⊥
 AreReady (Some (Run settings)) files = CanBeOpened files
 AreReady (Some (Soak seed settings)) files = CanBeOpened files
 AreReady (Some (Dump db printed)) files = (HasNoFile files → ⊥) × CanBeOpened files
+AreReady (Some (Load db no_overwrite)) files = CanBeOpened files
 AreReady (Some PrintLog) files = AreSound files
 
 -- a run ends so that had its input, and files that can be opened: as its journal's room says; or it has not begun, since no number of a
@@ -229,25 +367,26 @@ cause_of_found (Some database) = Done
 abbrev pub EndsDump : Cause → Bool → Option Database → Type 0
 EndsDump cause opened found = ((opened ≡ true) × (cause ≡ cause_of_found found)) ⊎ ((opened ≡ false) × (cause ≡ IdsEnded))
 
+-- how a load ends in a run: for want of a place, by the kind of the database, or as its journal says
+abbrev pub load_end : Bool → ℕ → Bool → Bool → List Event → Cause
+load_end kept line false otherwise journal = NoDatabase
+load_end kept line true true journal = OtherKind line
+load_end kept line true false journal = cause_of_load kept (cause_of_room journal) journal
+
+-- how a load ends that has all that it needs: so, or at the opening, for want of numbers of nodes
+abbrev pub EndsLoad : List ℕ → Bool → Option (List ℕ) → Cause → Bool → Store → List Event → Type 0
+EndsLoad db kept left cause opened opening journal =
+    ((dump : DumpRead) × HasDump left dump × (opened ≡ true) × (cause ≡ load_end kept dump.dup_line (is_place db opening) (keeps_otherwise dump.dup (database_of db opening)) journal))
+    ⊎ ((opened ≡ false) × (cause ≡ IdsEnded))
+
 -- how a command ends that has all that it needs, over this store
-abbrev pub EndsWell : Option Command → Cause → Bool → Store → List Event → Type 0
-EndsWell None cause opened opening journal = ⊥
-EndsWell (Some (Run settings)) cause opened opening journal = EndsRun cause opened journal
-EndsWell (Some (Soak seed settings)) cause opened opening journal = EndsRun cause opened journal
-EndsWell (Some (Dump db printed)) cause opened opening journal = EndsDump cause opened (database_of db opening)
-EndsWell (Some PrintLog) cause opened opening journal = cause ≡ Done
-
--- ---- the database that a command names
-
--- the store has not the database that a command needs
-abbrev pub LacksDatabase : Option Command → Store → Type 0
-LacksDatabase (Some (Dump db printed)) opening = database_of db opening ≡ None
-LacksDatabase command opening = ⊥
-
--- the store has it, or the command needs none
-abbrev pub HasDatabase : Option Command → Store → Type 0
-HasDatabase (Some (Dump db printed)) opening = database_of db opening ≢ None
-HasDatabase command opening = Unit {0}
+abbrev pub EndsWell : Option Command → Option (List ℕ) → Cause → Bool → Store → List Event → Type 0
+EndsWell None left cause opened opening journal = ⊥
+EndsWell (Some (Run settings)) left cause opened opening journal = EndsRun cause opened journal
+EndsWell (Some (Soak seed settings)) left cause opened opening journal = EndsRun cause opened journal
+EndsWell (Some (Dump db printed)) left cause opened opening journal = EndsDump cause opened (database_of db opening)
+EndsWell (Some (Load db no_overwrite)) left cause opened opening journal = EndsLoad db no_overwrite left cause opened opening journal
+EndsWell (Some PrintLog) left cause opened opening journal = cause ≡ Done
 
 -- ---- what is written
 
@@ -266,12 +405,27 @@ abbrev pub soak_end_of : ℕ → Bool → List Event → Totals → List ℕ
 soak_end_of seed true journal totals = soak_text seed journal totals
 soak_end_of seed false journal totals = []
 
+-- whether an event is a put that was done
+unfoldable pub is_loaded : Event → Bool
+is_loaded (Called session line (Put db key value mode) IsDone victims) = true
+is_loaded event = false
+
+-- whether it is one whose record was there and stays
+unfoldable pub is_kept : Event → Bool
+is_kept (Called session line (Put db key value mode) KeyExist victims) = true
+is_kept event = false
+
+-- what is written of a load: how many pairs were put, and how many were there and stay
+abbrev pub loaded_line : List Event → List ℕ
+loaded_line journal = codes "loaded " ++ decimal (length (filter is_loaded journal)) ++ codes " kept " ++ decimal (length (filter is_kept journal)) ++ codes "\n"
+
 -- what a program has to write before its fault line
 abbrev pub text_of : Text → Bool → List Event → Totals → List ℕ
 text_of Nothing opened journal totals = []
 text_of Report opened journal totals = report_of opened journal totals
 text_of (SoakEnd seed) opened journal totals = soak_end_of seed opened journal totals
 text_of (DumpText records number kind printed) opened journal totals = records_text printed kind (rows_kept records number)
+text_of Loaded opened journal totals = loaded_line journal
 text_of (Log files) opened journal totals = flat_map lines_text files.items
 
 -- what a program's work was: whether the disk is observable, and its files at entry; whether a script was run, the store at entry, the journal
@@ -295,10 +449,16 @@ abbrev pub dump_at : Cause → Bool → Option Database → List ℕ
 dump_at Done printed database = database_text printed database
 dump_at cause printed database = []
 
+-- what is written of a load: where all was done, its line
+abbrev pub loaded_at : Cause → List Event → List ℕ
+loaded_at Done journal = loaded_line journal
+loaded_at cause journal = []
+
 -- what a command writes before its fault line
 abbrev pub IsTextOf : Option Command → Work → List ℕ → Type 0
 IsTextOf None w text = text ≡ []
 IsTextOf (Some (Run settings)) w text = text ≡ report_of w.opened w.journal w.totals
 IsTextOf (Some (Soak seed settings)) w text = text ≡ soak_end_of seed w.opened w.journal w.totals
 IsTextOf (Some (Dump db printed)) w text = text ≡ dump_at w.cause printed (database_of db w.opening)
+IsTextOf (Some (Load db no_overwrite)) w text = text ≡ loaded_at w.cause w.journal
 IsTextOf (Some PrintLog) w text = IsLogText w.cause w.observable w.files text

@@ -8,4 +8,5 @@ pub mod Printing
 pub mod Request
 pub mod Dumping
 pub mod Ran
+pub mod Loading
 pub mod Unprinted

@@ -13,9 +13,10 @@ use Rattle.je_answers.specs.Standing.{Standing}
 use Rattle.je_answers.specs.After.{AnswersAsModel, after_events}
 use Rattle.je_answers.specs.Journal.{AllAcknowledged, AreResumedInOrder, AreSyncedAtOnce, first_ready, has_answer}
 use Rattle.script_text.specs.Grammar.{plan_of}
+use Rattle.dump_text.specs.Grammar.{dump_of}
 use Rattle.je_program.specs.declared.reading.TheConstants.{MOST_INPUT}
 use Rattle.je_program.specs.declared.cause.Cause.{Cause}
-use Rattle.je_program.specs.declared.cause.Cause.TheVariants.{Done, Usage, BadScript, Disk, Unreadable, WrongIndex, Memory, NoEnvironment, NoDatabase, Input, InputTooLong, LogFull, IdsEnded}
+use Rattle.je_program.specs.declared.cause.Cause.TheVariants.{Done, Usage, BadScript, BadDump, Disk, Unreadable, WrongIndex, Memory, NoEnvironment, NoDatabase, OtherKind, RefusedPair, Input, InputTooLong, LogFull, IdsEnded}
 use Rattle.text_out.specs.Lsn.{lsn_text}
 use Rattle.je_lsn.specs.Naming.{name_of}
 use Rattle.log_replay.specs.declared.corruption.Corruption.{Corruption}
@@ -34,34 +35,37 @@ use Rattle.serial_replay.specs.Cycles.{NeverWaitInCycle}
 use Rattle.serial_replay.specs.Laws.{StaysIndexed}
 use Rattle.script_run.specs.Events.{final_store}
 use Rattle.script_run.specs.Maintenance.{AreStepsInPlace}
-use Rattle.je_program.specs.Commands.{reads_input}
+use Rattle.je_program.specs.Commands.{may_end, reads_input}
 use Rattle.je_program.specs.Run.{cause_of_journal, is_run_through, status_of, unwritten_status_of}
 
--- why the input was not a plan: the source failed, it has too many bytes, its first bad line, or there was no memory
+-- why the input was not a script or not a dump: the source failed, it has too many bytes, its first bad line, or there was no memory
 abbrev pub StopsReading : Option (List ℕ) → ℕ → ℕ → Cause → Type 0
 StopsReading left before after Input = HasRisen before after
 StopsReading left before after InputTooLong = IfSome left (λ bytes. MOST_INPUT < length bytes)
 StopsReading left before after (BadScript line) = IfSome left (λ bytes. (length bytes ≤ MOST_INPUT) × (plan_of bytes ≡ Err line))
+StopsReading left before after (BadDump line) = IfSome left (λ bytes. (length bytes ≤ MOST_INPUT) × (dump_of bytes ≡ Err line))
 StopsReading left before after Memory = Unit {0}
 StopsReading left before after cause = ⊥
 
--- why the arguments and the input give nothing to do: invalid arguments, no memory, or an input that was not a plan
+-- why the arguments and the input give nothing to do: invalid arguments, no memory, or an input that was not what the command reads
 abbrev pub IsNoRequest : Option Command → Option (List ℕ) → ℕ → ℕ → Cause → Type 0
 IsNoRequest command left before after Usage = command ≡ None
 IsNoRequest command left before after Memory = Unit {0}
-IsNoRequest command left before after cause = (reads_input command ≡ true) × StopsReading left before after cause
+IsNoRequest command left before after cause = (reads_input command ≡ true) × (may_end command cause ≡ true) × StopsReading left before after cause
 
 -- a cause that is one of reading came by reading; of the others this says nothing
 abbrev pub IsStopped : Option (List ℕ) → ℕ → ℕ → Cause → Type 0
 IsStopped left before after Input = HasRisen before after
 IsStopped left before after InputTooLong = IfSome left (λ bytes. MOST_INPUT < length bytes)
 IsStopped left before after (BadScript line) = IfSome left (λ bytes. (length bytes ≤ MOST_INPUT) × (plan_of bytes ≡ Err line))
+IsStopped left before after (BadDump line) = IfSome left (λ bytes. (length bytes ≤ MOST_INPUT) × (dump_of bytes ≡ Err line))
 IsStopped left before after cause = Unit {0}
 
 -- whether the program ended before it came to its disk
 abbrev pub is_before_disk : Cause → Bool
 is_before_disk Usage = true
 is_before_disk (BadScript line) = true
+is_before_disk (BadDump line) = true
 is_before_disk Input = true
 is_before_disk InputTooLong = true
 is_before_disk cause = false
@@ -71,6 +75,8 @@ abbrev pub RunsIf : Cause → Bool → Type 0
 RunsIf Done opened = opened ≡ true
 RunsIf LogFull opened = opened ≡ true
 RunsIf NoDatabase opened = opened ≡ true
+RunsIf (OtherKind line) opened = opened ≡ true
+RunsIf (RefusedPair line) opened = opened ≡ true
 RunsIf IdsEnded opened = Unit {0}
 RunsIf Disk opened = Unit {0}
 RunsIf Memory opened = Unit {0}
@@ -85,9 +91,12 @@ RunsBy false cause opened = opened ≡ false
 abbrev pub EndsBy : List Event → Cause → Type 0
 EndsBy journal cause = (cause ≡ cause_of_journal journal) ⊎ (cause ≡ Disk)
 
--- the same of a run that may have ended before a line was given, since the database that the command names was not there
+-- the same of a run that may have ended before a line was given, since the database that the command names was not there or is of another kind; or
+-- behind a pair that was refused, where the journal gives no other cause
 abbrev pub EndsWith : List Event → Cause → Type 0
 EndsWith journal NoDatabase = journal ≡ []
+EndsWith journal (OtherKind line) = journal ≡ []
+EndsWith journal (RefusedPair line) = cause_of_journal journal ≡ Done
 EndsWith journal cause = EndsBy journal cause
 
 -- A run from one history of the disk to another, and from one count of its faults to another, with log files of at most so many bytes. It begins where the files at entry are opened: each event
@@ -128,17 +137,24 @@ corruption_text (Missing lsn) = codes "fault missing " ++ lsn_text lsn ++ codes 
 corruption_text (Tree lsn) = codes "fault tree " ++ lsn_text lsn ++ codes "\n"
 corruption_text (VersionUnknown file version) = codes "fault version " ++ name_of file.0 ++ codes " " ++ decimal version ++ codes "\n"
 
+-- the line that tells which line of a dump was not taken
+abbrev pub dump_fault : ℕ → List ℕ
+dump_fault line = codes "fault dump line " ++ decimal line ++ codes "\n"
+
 -- the line that tells why a program ended, none where all was done
 abbrev pub fault_text : Cause → List ℕ
 fault_text Done = []
 fault_text Usage = codes "fault usage\n"
 fault_text (BadScript line) = codes "fault script line " ++ decimal line ++ codes "\n"
+fault_text (BadDump line) = dump_fault line
 fault_text Disk = codes "fault disk\n"
 fault_text (Unreadable corruption) = corruption_text corruption
 fault_text (WrongIndex name) = codes "fault index " ++ name ++ codes "\n"
 fault_text Memory = codes "fault memory\n"
 fault_text NoEnvironment = codes "fault no environment\n"
 fault_text NoDatabase = codes "fault no database\n"
+fault_text (OtherKind line) = dump_fault line
+fault_text (RefusedPair line) = dump_fault line
 fault_text Input = codes "fault input\n"
 fault_text InputTooLong = codes "fault input too long\n"
 fault_text LogFull = codes "fault log full\n"

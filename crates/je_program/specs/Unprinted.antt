@@ -17,7 +17,7 @@ use Rattle.je_program.specs.declared.cause.Cause.{Cause}
 use Rattle.je_program.specs.declared.cause.Cause.TheVariants.{Done, Unreadable, WrongIndex, Memory, NoEnvironment, NoDatabase, IdsEnded}
 use Rattle.je_program.specs.declared.run_result.RunResult.{RunResult}
 use Rattle.je_program.specs.declared.text.Text.{Text}
-use Rattle.je_program.specs.Commands.{AreSound, HasDatabase, IsFound, IsGivenTo, IsTextOf, LacksDatabase, ReadsInput, Work, file_max_of, may_end, needs_environment, opens, text_of}
+use Rattle.je_program.specs.Commands.{AreSound, HasDatabase, IsFound, IsGivenTo, IsPlaced, IsStored, IsTextOf, LacksDatabase, ReadsInput, Work, file_max_of, may_end, needs_environment, opens, text_of}
 use Rattle.je_program.specs.Program.{ClosesRun, EndsWith, IsRunOf, IsStopped, RunsBy, is_before_disk}
 use Rattle.je_program.specs.Untouched.{LeavesUnreadable}
 
@@ -39,10 +39,10 @@ pub record ComesTo {D : Type 0} (command : Option Command) (meaning : DiskMeanin
   pub may : may_end command r.cause ≡ true
   pub stopped : IsStopped left before after r.cause
   pub read : is_before_disk r.cause ≡ false → r.cause ≢ Memory → ReadsInput command left rest
-  pub given : r.opened ≡ true → IsGivenTo command left rest r.journal.items r.cause
+  pub given : r.opened ≡ true → IsGivenTo command left rest r.opening r.journal.items r.cause
   pub untouched : is_before_disk r.cause ≡ true → r.disk ≡ disk
   pub runs : RunsBy (opens command) r.cause r.opened
-  pub run : r.opened ≡ true → (file_max : ℕ) × (st : Standing) × (file_max_of command ≡ Some file_max) × IsRunOf file_max meaning.observable (meaning.history disk) (meaning.history r.disk) (meaning.faults disk) (meaning.faults r.disk) r.opening r.totals r.journal.items r.cause st
+  pub run : r.opened ≡ true → (file_max : ℕ) × (st : Standing) × (file_max_of command ≡ Some file_max) × IsRunOf file_max meaning.observable (meaning.history disk) (meaning.history r.disk) (meaning.faults disk) (meaning.faults r.disk) r.opening r.totals r.journal.items r.cause st × IsStored command left rest r.opening st r.journal.items r.cause
   pub unopened : r.opened ≡ false → (r.opening ≡ no_databases) × (r.journal.items ≡ [])
   pub unreadable : (corruption : Corruption) → r.cause ≡ Unreadable corruption → meaning.observable ≡ true → IsFound command (now (meaning.history disk)).reads corruption
   pub sound : command ≡ Some PrintLog → r.cause ≡ Done → meaning.observable ≡ true → AreSound (now (meaning.history disk)).reads
@@ -52,6 +52,7 @@ pub record ComesTo {D : Type 0} (command : Option Command) (meaning : DiskMeanin
   pub some_file : needs_environment command ≡ true → needs_file r.cause ≡ true → meaning.observable ≡ true → HasNoFile (now (meaning.history disk)).reads → ⊥
   pub no_database : r.cause ≡ NoDatabase → LacksDatabase command r.opening
   pub has_database : r.cause ≡ Done → HasDatabase command r.opening
+  pub placed : r.opened ≡ true → IsPlaced command left rest r.opening r.cause
   pub ends : r.opened ≡ true → r.cause ≢ Memory → EndsWith r.journal.items r.cause
   pub caused : ClosesRun (meaning.faults disk) (meaning.faults r.disk) r.journal.items r.cause
   pub left_alone : meaning.observable ≡ true → LeavesUnreadable r.cause (meaning.history disk) (meaning.history r.disk)

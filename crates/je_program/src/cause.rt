@@ -16,6 +16,8 @@ pub enum Cause {
     Usage,
     /// This line of the script is the first that is outside the grammar: 3.
     BadScript { line: u32 },
+    /// This line of the dump is the first that is outside the grammar: 3.
+    BadDump { line: u32 },
     /// The disk failed: 4.
     Disk,
     /// The files at entry cannot be opened; this is the first corruption in the order of reading:
@@ -28,8 +30,14 @@ pub enum Cause {
     Memory,
     /// No environment is there, and the command makes none: 10.
     NoEnvironment,
-    /// The environment has no database of the name that the command was given: 10.
+    /// The environment has no database of the name that the command was given; or, of a dump that is loaded, it is an
+    /// index, or it is not there and no more may be made: 10.
     NoDatabase,
+    /// The database into which a dump is loaded has sorted duplicates and the dump says that it has none, or the other
+    /// way round; this line of the dump says so: 3.
+    OtherKind { line: u32 },
+    /// The pair of the dump whose key stands in this line was refused, and not for want of room, memory or a disk: 3.
+    RefusedPair { line: u32 },
     /// The input failed: 7.
     Input,
     /// The input has more bytes than an input may have: 11.
@@ -48,7 +56,8 @@ impl Cause {
         match self {
             Cause::Done => 0,
             Cause::Usage => 2,
-            Cause::BadScript { .. } => 3,
+            Cause::BadScript { .. } | Cause::BadDump { .. } => 3,
+            Cause::OtherKind { .. } | Cause::RefusedPair { .. } => 3,
             Cause::Disk => 4,
             Cause::Unreadable(_) | Cause::WrongIndex(_) => 5,
             Cause::Memory => 6,

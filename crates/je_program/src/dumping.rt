@@ -26,8 +26,8 @@ use je_order::Word;
 use script_run::{Recorded, Running};
 use std::alloc::Global;
 
-// How an environment is opened where no option says how.
-fn usual_config() -> Config
+/// How an environment is opened where no option says how.
+pub fn usual_config() -> Config
     ensures is { IsConfig result }
     ensures file_max { result.file_max ≡ usual_file_max }
 {
@@ -67,11 +67,15 @@ fn look<D: Disk>(alloc: Global, disk: &mut D) -> Option<Cause>
     }
 }
 
-// A run that is given no line.
-fn at_rest<D: Disk>(alloc: Global, environment: Environment<D>) -> Running<D>
+/// A run that is given no line; there may have been no memory for the lines.
+pub fn at_rest<D: Disk>(
+    alloc: Global,
+    environment: Environment<D>,
+    memory_ended: bool,
+) -> Running<D>
     ensures environment { result.recorded.environment ≡ environment }
     ensures journal { result.recorded.journal.items ≡ [] }
-    ensures memory { result.memory_ended ≡ false }
+    ensures memory { result.memory_ended ≡ memory_ended }
     ensures stopped { (session : ℕ) → slice_index_or result.stopped session false ≡ false }
 {
     Running {
@@ -79,7 +83,7 @@ fn at_rest<D: Disk>(alloc: Global, environment: Environment<D>) -> Running<D>
             environment,
             journal: Vec::new(alloc),
         },
-        memory_ended: false,
+        memory_ended,
         stopped: [false; 256],
         steps_stopped: false,
         halted: false,
@@ -188,7 +192,7 @@ fn dump_opened<D: Disk>(alloc: Global, disk: D, db: &Word, printed: bool) -> Unp
                 opening,
             } = opened;
             let found = environment.find_database(db);
-            let running = at_rest(alloc, environment);
+            let running = at_rest(alloc, environment, false);
             let run = finish(running, opening);
             dumped(run, found, printed)
         }

@@ -2,9 +2,10 @@
 ghost use Rattle.std.specs.Prelude.{◌≡◌, option_map};
 ghost use Rattle.store_model.specs.Journal.{answer_of, answers_some, is_disk_fault};
 ghost use Rattle.je_answers.specs.Journal.{has_answer};
-ghost use Rattle.je_program.specs.Run.{cause_of_answer, cause_of_journal, cause_of_room, ends_otherwise};
+ghost use Rattle.je_program.specs.Run.{cause_of_answer, cause_of_journal, cause_of_load, cause_of_room, ends_otherwise, first_refused, refused_line};
 
 use crate::cause::Cause;
+use script_run::is_refused;
 use store_model::{Answer, Event};
 
 // What an event answers, if it answers.
@@ -75,5 +76,46 @@ pub fn journal_cause(journal: &[Event]) -> Cause
         Cause::Disk
     } else {
         room_cause(journal)
+    }
+}
+
+// The line of an event, where that is a call that was refused.
+fn refused_line(kept: bool, event: &Event) -> Option<u32>
+    ensures { result ≡ refused_line kept event.now }
+{
+    match event {
+        Event::Call { line, .. } => {
+            if is_refused(kept, event) {
+                Some(*line)
+            } else {
+                None
+            }
+        }
+        _ => None,
+    }
+}
+
+// The line of the first call that was refused.
+fn first_refused(kept: bool, journal: &[Event]) -> Option<u32>
+    ensures { result ≡ first_refused kept journal.now }
+{
+    for event in journal {
+        if let Some(line) = refused_line(kept, event) {
+            return Some(line);
+        }
+    }
+    None
+}
+
+/// How a load ends whose run ended so: by a call that was refused, if no other cause ended it. It takes no memory.
+pub fn load_cause(kept: bool, cause: Cause, journal: &[Event]) -> Cause
+    ensures { result ≡ cause_of_load kept cause journal.now }
+{
+    match cause {
+        Cause::Done => match first_refused(kept, journal) {
+            Some(line) => Cause::RefusedPair { line },
+            None => Cause::Done,
+        },
+        cause => cause,
     }
 }

@@ -3,7 +3,7 @@ ghost use Rattle.std.specs.Prelude.{◌≡◌, ◌+◌, ◌++◌, ◌≤◌, cod
 ghost use Rattle.std.specs.Fmt.{digits};
 ghost use Rattle.arrayvec.specs.ArrayVec.{array_vec_len};
 ghost use Rattle.text_out.specs.Lsn.{lsn_text};
-ghost use Rattle.je_program.specs.Program.{fault_text, corruption_text};
+ghost use Rattle.je_program.specs.Program.{corruption_text, dump_fault, fault_text};
 
 use crate::cause::Cause;
 use arrayvec::ArrayVec;
@@ -103,6 +103,17 @@ fn line_of_bad_line(number: u32) -> ArrayVec<u8, 80>
     line
 }
 
+// The line of a dump's line that was not taken.
+fn line_of_dump(number: u32) -> ArrayVec<u8, 80>
+    ensures { result.items ≡ dump_fault number }
+{
+    let mut line = ArrayVec::new();
+    put(&mut line, b"fault dump line ");
+    put_decimal(&mut line, number);
+    put(&mut line, b"\n");
+    line
+}
+
 // The line of an index that has not the pairs of its primary's records.
 fn line_of_index(name: &Word) -> ArrayVec<u8, 80>
     ensures { result.items ≡ fault_text (Cause.WrongIndex name.now) }
@@ -132,12 +143,15 @@ pub fn fault_line(cause: &Cause) -> ArrayVec<u8, 80>
         Cause::Done => plain_line(b""),
         Cause::Usage => plain_line(b"fault usage\n"),
         Cause::BadScript { line } => line_of_bad_line(*line),
+        Cause::BadDump { line } => line_of_dump(*line),
         Cause::Disk => plain_line(b"fault disk\n"),
         Cause::Unreadable(corruption) => line_of_corruption(corruption),
         Cause::WrongIndex(name) => line_of_index(name),
         Cause::Memory => plain_line(b"fault memory\n"),
         Cause::NoEnvironment => plain_line(b"fault no environment\n"),
         Cause::NoDatabase => plain_line(b"fault no database\n"),
+        Cause::OtherKind { line } => line_of_dump(*line),
+        Cause::RefusedPair { line } => line_of_dump(*line),
         Cause::Input => plain_line(b"fault input\n"),
         Cause::InputTooLong => plain_line(b"fault input too long\n"),
         Cause::LogFull => plain_line(b"fault log full\n"),

@@ -1,8 +1,8 @@
 //! The program: it reads its arguments and does what their command asks for: it opens the environment over a disk, runs
 //! a script's lines in order, and writes the report; it does so with the script of a seed; it opens the environment and
-//! writes a database as a dump; or it prints the log. `run_je` is the public top call; its contract is the store's theorem.
+//! writes a database as a dump, or puts the pairs of a dump that it read into one; or it prints the log. `run_je` is the public top call; its contract is the store's theorem.
 //! It stands on `environment`, and on `script_run` for the run of the lines, on `command_line`, `script_text`, `soak_plan`,
-//! `database_dump` and `log_printer` for what it reads and writes, and `jedb` only hands it the real disk, input and output.
+//! `database_dump`, `dump_text`, `load_run` and `log_printer` for what it reads and writes, and `jedb` only hands it the real disk, input and output.
 #![tactic(auto)]
 
 mod cause;
@@ -10,6 +10,7 @@ mod dumping;
 mod ending;
 mod fault_line;
 mod home_folder;
+mod loading;
 mod output;
 mod print_log;
 mod program;

@@ -1,5 +1,5 @@
 // What a program writes.
-ghost use Rattle.std.specs.Prelude.{◌≡◌, ◌≤◌, ◌++◌, ℕ, List, Option, OnOk, OnErr};
+ghost use Rattle.std.specs.Prelude.{◌≡◌, ◌≤◌, ◌++◌, ℕ, List, Option, OnOk, OnErr, filter, length};
 ghost use Rattle.std.specs.List.{flat_map};
 ghost use Rattle.je_order.specs.Counts.{HasRisen};
 ghost use Rattle.je_io.specs.Sink.{Gains, GainsPart};
@@ -7,7 +7,7 @@ ghost use Rattle.text_out.specs.OutBuffer.{Adds, Sends, point};
 ghost use Rattle.log_printer.specs.LogLines.{lines_text};
 ghost use Rattle.database_dump.specs.Text.{records_text};
 ghost use Rattle.environment.specs.Databases.{rows_kept};
-ghost use Rattle.je_program.specs.Commands.{report_of, soak_end_of, soak_text, text_of};
+ghost use Rattle.je_program.specs.Commands.{is_kept, is_loaded, loaded_line, report_of, soak_end_of, soak_text, text_of};
 ghost use Rattle.je_program.specs.Program.{fault_text, IsOutputWritten};
 
 use crate::cause::Cause;
@@ -19,7 +19,7 @@ use je_io::{Failed, Sink, write_all};
 use log_printer::{FileLines, put_log};
 use script_text::{put_last_line, report};
 use soak_plan::SOAK_LINES;
-use store_model::{Event, Kind, Totals};
+use store_model::{Answer, Call, Event, Kind, Totals};
 use text_out::{OutBuffer, put_number};
 
 // Writes the fault line of a cause, and nothing where all was done.
@@ -158,6 +158,85 @@ fn write_dump<K: Sink>(
     finish_text(buffer, output)
 }
 
+// Whether an event is a put that was done.
+#[tactic(auto, unfolding(crate::specs::Commands::is_loaded))]
+fn is_loaded(event: &Event) -> bool
+    ensures { result ≡ is_loaded event.now }
+{
+    match event {
+        Event::Call {
+            call: Call::Put { .. },
+            answer,
+            ..
+        } => matches!(answer, Answer::Done),
+        _ => false,
+    }
+}
+
+// Whether an event is a put whose record was there and stays.
+#[tactic(auto, unfolding(crate::specs::Commands::is_kept))]
+fn is_kept(event: &Event) -> bool
+    ensures { result ≡ is_kept event.now }
+{
+    match event {
+        Event::Call {
+            call: Call::Put { .. },
+            answer,
+            ..
+        } => matches!(answer, Answer::KeyExist),
+        _ => false,
+    }
+}
+
+fn loaded_in(journal: &[Event]) -> usize
+    ensures { result ≡ length (filter is_loaded journal.now) }
+{
+    let mut count = 0;
+    for event in journal {
+        if is_loaded(event) {
+            count += 1;
+        }
+    }
+    count
+}
+
+fn kept_in(journal: &[Event]) -> usize
+    ensures { result ≡ length (filter is_kept journal.now) }
+{
+    let mut count = 0;
+    for event in journal {
+        if is_kept(event) {
+            count += 1;
+        }
+    }
+    count
+}
+
+// Sends the line of a load.
+fn put_loaded<K: Sink>(buffer: &mut OutBuffer, out: &mut K, journal: &[Event])
+    ensures { Adds (point (K.written out.old) (K.faults out.old) buffer.old)
+        (point (K.written out.new) (K.faults out.new) buffer.new)
+        (loaded_line journal.now) }
+{
+    buffer.put(out, b"loaded ");
+    put_number(buffer, out, loaded_in(journal) as u64);
+    buffer.put(out, b" kept ");
+    put_number(buffer, out, kept_in(journal) as u64);
+    buffer.put(out, b"\n");
+}
+
+// Writes how many pairs of a dump were put.
+fn write_loaded<K: Sink>(journal: &[Event], output: &mut K) -> Result<(), Failed>
+    ensures observed { OnOk result (Gains (K.written output.old) (K.written output.new) (loaded_line journal.now)) }
+    ensures part { OnErr result (GainsPart (K.written output.old) (K.written output.new) (loaded_line journal.now)) }
+    ensures never_falls { K.faults output.old ≤ K.faults output.new }
+    ensures cause { OnErr result (HasRisen (K.faults output.old) (K.faults output.new)) }
+{
+    let mut buffer = OutBuffer::new();
+    put_loaded(&mut buffer, output, journal);
+    finish_text(buffer, output)
+}
+
 // Writes what comes before the fault line.
 fn write_body<K: Sink>(
     text: &Text,
@@ -181,6 +260,7 @@ fn write_body<K: Sink>(
             kind,
             printed,
         } => write_dump(records, *number, *kind, *printed, output),
+        Text::Loaded => write_loaded(journal, output),
         Text::Log(files) => write_log(files, output),
     }
 }

@@ -1,5 +1,5 @@
 // The top call.
-ghost use Rattle.std.specs.Prelude.{◌≡◌, ◌≢◌, ◌≤◌, ◌<◌, ◌++◌, ◌⊎◌, [], ℕ, List, Some, Err, IfSome, true, false, length, map, string_bytes};
+ghost use Rattle.std.specs.Prelude.{◌≡◌, ◌≢◌, ◌≤◌, ◌<◌, ◌++◌, ◌⊎◌, [], ℕ, Bool, List, Some, Err, IfSome, true, false, length, map, string_bytes};
 ghost use Rattle.je_order.specs.Counts.{HasRisen, HasRisen as Failing};
 ghost use Rattle.je_disk.specs.Moments.{now};
 ghost use Rattle.store_model.specs.Journal.{is_disk_fault};
@@ -9,16 +9,17 @@ ghost use Rattle.je_answers.specs.Journal.{has_answer};
 ghost use Rattle.log_replay.specs.declared.corruption.Corruption.{Corruption as Wrong};
 ghost use Rattle.log_printer.specs.Reading.{HasNoFile};
 ghost use Rattle.script_text.specs.Grammar.{plan_of};
+ghost use Rattle.dump_text.specs.Grammar.{dump_of};
 ghost use Rattle.engine.specs.Crash.{KeepsEntry};
 ghost use Rattle.engine.specs.Untouched.{IsUntouched};
 ghost use Rattle.engine.specs.Files.{HasWrongIndex};
 ghost use Rattle.engine.specs.Opening.{HasNoNumbers};
 ghost use Rattle.command_line.specs.declared.command.RunSettings.{RunSettings};
-ghost use Rattle.command_line.specs.declared.command.Command.TheVariants.{Run};
+ghost use Rattle.command_line.specs.declared.command.Command.TheVariants.{Load, Run};
 ghost use Rattle.command_line.specs.Arguments.{command_in, is_taken};
 ghost use Rattle.je_program.specs.declared.cause.Cause.{Cause as Why};
 ghost use Rattle.je_program.specs.declared.reading.TheConstants.{MOST_INPUT};
-ghost use Rattle.je_program.specs.Commands.{AreReady, EndsWell, HasDatabase, HasInput, IsFound, IsGivenTo, IsTextOf, LacksDatabase, ReadsInput, file_max_of, may_end, needs_environment, opens, reads_input};
+ghost use Rattle.je_program.specs.Commands.{AreReady, EndsWell, HasDatabase, HasInput, IsFound, IsGivenTo, IsPlaced, IsStored, IsTextOf, LacksDatabase, ReadsInput, file_max_of, may_end, needs_environment, opens, reads_input};
 ghost use Rattle.je_program.specs.Program.{EndsWith, IsOutputWritten, IsRunOf, RunsBy, fault_text, is_before_disk};
 
 use crate::cause::Cause;
@@ -63,8 +64,9 @@ fn records_left(text: Text, records: Option<Records>) -> Option<Records> {
 /// Runs the program: does what the arguments' command asks for. For `run` it reads a script from the input, opens the
 /// environment over the disk, gives the script's lines in order, and writes the report; for `soak` it does so with the
 /// script of a seed, and writes how that ended; for `dump` it opens the environment and writes a database's pairs; for
-/// `printlog` it reads the disk's files and writes a line for each entry of the log. Or it writes the one line that tells
-/// why there is none of these.
+/// `load` it reads a dump from the input, opens the environment, puts the pairs into a database, all or none of them, and
+/// writes how many; for `printlog` it reads the disk's files and writes a line for each entry of the log. Or it writes the
+/// one line that tells why there is none of these.
 pub fn run_je<D: Disk, S: Source, K: Sink>(
     alloc: Global,
     args: &[String],
@@ -82,10 +84,13 @@ pub fn run_je<D: Disk, S: Source, K: Sink>(
     ensures input_failed { result.cause ≡ Why.Input → Failing (S.faults input.old) (S.faults input.new) }
     ensures input_too_long { result.cause ≡ Why.InputTooLong → IfSome (S.left input.old) (λ bytes. MOST_INPUT < length bytes) }
     ensures bad_script { (line : ℕ) → result.cause ≡ Why.BadScript line → IfSome (S.left input.old) (λ bytes. (length bytes ≤ MOST_INPUT) × (plan_of bytes ≡ Err line)) }
+    ensures bad_dump { (line : ℕ) → result.cause ≡ Why.BadDump line → IfSome (S.left input.old) (λ bytes. (length bytes ≤ MOST_INPUT) × (dump_of bytes ≡ Err line)) }
     ensures too_long_found { (bytes : List ℕ) → reads_input (command_in (map string_bytes args.now)) ≡ true → S.left input.old ≡ Some bytes → MOST_INPUT < length bytes
         → (result.cause ≡ Why.InputTooLong) ⊎ (result.cause ≡ Why.Memory) ⊎ Failing (S.faults input.old) (S.faults input.new) }
     ensures bad_line_found { (settings : RunSettings) (bytes : List ℕ) (line : ℕ) → command_in (map string_bytes args.now) ≡ Some (Run settings) → S.left input.old ≡ Some bytes → length bytes ≤ MOST_INPUT
         → plan_of bytes ≡ Err line → (result.cause ≡ Why.BadScript line) ⊎ (result.cause ≡ Why.Memory) ⊎ Failing (S.faults input.old) (S.faults input.new) }
+    ensures bad_dump_found { (db : List ℕ) (no_overwrite : Bool) (bytes : List ℕ) (line : ℕ) → command_in (map string_bytes args.now) ≡ Some (Load db no_overwrite) → S.left input.old ≡ Some bytes → length bytes ≤ MOST_INPUT
+        → dump_of bytes ≡ Err line → (result.cause ≡ Why.BadDump line) ⊎ (result.cause ≡ Why.Memory) ⊎ Failing (S.faults input.old) (S.faults input.new) }
 
     // Before the input was read, no call was made on the disk. Otherwise it was read to its end, if the command reads
     // it; one that does not makes no call on it.
@@ -97,13 +102,16 @@ pub fn run_je<D: Disk, S: Source, K: Sink>(
     // corruption first, or this index the first whose pairs are not those of its primary's records, exactly where
     // that is the cause of the end; a command that only reads files finds what is wrong with them alone. No file is
     // there, and the command needs an environment, exactly where that is the cause. Nor has the store the database
-    // that the command names, where that is the cause; and it has it, where all was done.
+    // that the command names, where that is the cause; and it has it, where all was done. A dump is loaded exactly where
+    // the store takes its pairs: into a database that is no index and keeps its records as the dump says, or into a new
+    // one; else the cause says which of these it is not.
     ensures disk_failed { result.cause ≡ Why.Disk → HasRisen (D.meaning.faults disk) (D.meaning.faults result.disk) }
     ensures unreadable { (corruption : Wrong) → result.cause ≡ Why.Unreadable corruption → D.meaning.observable ≡ true → IsFound (command_in (map string_bytes args.now)) (now (D.meaning.history disk)).reads corruption }
     ensures wrong_index { (name : List ℕ) → result.cause ≡ Why.WrongIndex name → D.meaning.observable ≡ true → HasWrongIndex (now (D.meaning.history disk)).reads name }
     ensures no_environment { result.cause ≡ Why.NoEnvironment → D.meaning.observable ≡ true → HasNoFile (now (D.meaning.history disk)).reads }
     ensures no_database { result.cause ≡ Why.NoDatabase → LacksDatabase (command_in (map string_bytes args.now)) result.opening }
     ensures has_database { result.cause ≡ Why.Done → HasDatabase (command_in (map string_bytes args.now)) result.opening }
+    ensures placed { result.opened ≡ true → IsPlaced (command_in (map string_bytes args.now)) (S.left input.old) (S.left input.new) result.opening result.cause }
 
     // Where no script was run, no number is left only if those of the files' nodes may pass the last one.
     ensures ids_ended { result.cause ≡ Why.IdsEnded → result.opened ≡ false → D.meaning.observable ≡ true → HasNoNumbers (now (D.meaning.history disk)).reads }
@@ -115,7 +123,10 @@ pub fn run_je<D: Disk, S: Source, K: Sink>(
     ensures no_environment_untouched { result.cause ≡ Why.NoEnvironment → D.meaning.observable ≡ true → IsUntouched (D.meaning.history disk) (D.meaning.history result.disk) }
     ensures reads_only { opens (command_in (map string_bytes args.now)) ≡ false → D.meaning.observable ≡ true → IsUntouched (D.meaning.history disk) (D.meaning.history result.disk) }
 
-    // A run: its journal holds the script's lines, or those of the seed; that of a dump is empty. Each answer is the model's, from what the files at entry mean on;
+    // A run: its journal holds the script's lines, or those of the seed; that of `dump` is empty; that of `load` holds the
+    // lines that make the database, if it is not there, and put all pairs in one transaction, up to the first that is
+    // refused; where all was done the final store has all pairs in the database, put there one after another; and whatever
+    // first of its commits a crash leaves, the database is there without a pair, or with all, or nothing of this. Each answer is the model's, from what the files at entry mean on;
     // each commit is followed at once by its sync or its write-out, as its durability asks; the calls that waited go on
     // in the order in which they began to wait, before the next line; a step of maintenance is taken where a line asks
     // for it, and a sync among them has made all commits so far durable; each index has the pairs of its primary's
@@ -127,8 +138,9 @@ pub fn run_je<D: Disk, S: Source, K: Sink>(
     // Where the script was run through, each image at the end means the final store. There, and at any end if the disk
     // met no fault, each file is as long as its bound lets it be, or one entry behind a header, or no longer than at entry.
     ensures runs { RunsBy (opens (command_in (map string_bytes args.now))) result.cause result.opened }
-    ensures given { result.opened ≡ true → IsGivenTo (command_in (map string_bytes args.now)) (S.left input.old) (S.left input.new) result.journal.items result.cause }
-    ensures run { result.opened ≡ true → (file_max : ℕ) × (st : Standing) × (file_max_of (command_in (map string_bytes args.now)) ≡ Some file_max) × IsRunOf file_max D.meaning.observable (D.meaning.history disk) (D.meaning.history result.disk) (D.meaning.faults disk) (D.meaning.faults result.disk) result.opening result.totals result.journal.items result.cause st }
+    ensures given { result.opened ≡ true → IsGivenTo (command_in (map string_bytes args.now)) (S.left input.old) (S.left input.new) result.opening result.journal.items result.cause }
+    ensures run { result.opened ≡ true → (file_max : ℕ) × (st : Standing) × (file_max_of (command_in (map string_bytes args.now)) ≡ Some file_max) × IsRunOf file_max D.meaning.observable (D.meaning.history disk) (D.meaning.history result.disk) (D.meaning.faults disk) (D.meaning.faults result.disk) result.opening result.totals result.journal.items result.cause st
+        × IsStored (command_in (map string_bytes args.now)) (S.left input.old) (S.left input.new) result.opening st result.journal.items result.cause }
     ensures unopened { result.opened ≡ false → (result.opening ≡ no_databases) × (result.journal.items ≡ []) }
     ensures ends { result.opened ≡ true → result.cause ≢ Why.Memory → EndsWith result.journal.items result.cause }
     ensures faults { has_answer is_disk_fault result.journal.items ≡ true → HasRisen (D.meaning.faults disk) (D.meaning.faults result.disk) }
@@ -140,10 +152,11 @@ pub fn run_je<D: Disk, S: Source, K: Sink>(
 
     // A command that has its input, and the files that it needs, ends well, unless memory ran out or a count rose: `run`
     // and `soak` in a run, with files that mean a store in which each index has the pairs of its primary's records;
-    // `dump` as the database is there or not; `printlog` with all files printed. Where the files are not such, that is
+    // `dump` as the database is there or not; `load` as its journal says, or for want of a place for the pairs; `printlog`
+    // with all files printed. Where the files are not such, that is
     // the cause.
     ensures complete { HasInput (command_in (map string_bytes args.now)) (S.left input.old) → D.meaning.observable ≡ true → AreReady (command_in (map string_bytes args.now)) (now (D.meaning.history disk)).reads
-        → EndsWell (command_in (map string_bytes args.now)) result.cause result.opened result.opening result.journal.items ⊎ (result.cause ≡ Why.Memory)
+        → EndsWell (command_in (map string_bytes args.now)) (S.left input.old) result.cause result.opened result.opening result.journal.items ⊎ (result.cause ≡ Why.Memory)
         ⊎ Failing (S.faults input.old) (S.faults input.new) ⊎ HasRisen (D.meaning.faults disk) (D.meaning.faults result.disk) }
     ensures unreadable_found { (corruption : Wrong) → HasInput (command_in (map string_bytes args.now)) (S.left input.old) → D.meaning.observable ≡ true
         → IsFound (command_in (map string_bytes args.now)) (now (D.meaning.history disk)).reads corruption

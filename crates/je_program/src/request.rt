@@ -1,16 +1,17 @@
 // What a program is to do.
-ghost use Rattle.std.specs.Prelude.{◌≡◌, ◌≤◌, ℕ, List, Option, Some, false, map, string_bytes, IfErr, IfOk};
+ghost use Rattle.std.specs.Prelude.{◌≡◌, ◌≤◌, ℕ, List, Option, Some, false, true, map, string_bytes, IfErr, IfOk};
 ghost use Rattle.command_line.specs.Arguments.{AreSettings, HasSettings, command_in};
-ghost use Rattle.command_line.specs.declared.command.Command.TheVariants.{Run, Soak};
+ghost use Rattle.command_line.specs.declared.command.Command.TheVariants.{Load, Run, Soak};
 ghost use Rattle.je_program.specs.declared.cause.Cause.{Cause as Why};
-ghost use Rattle.je_program.specs.Commands.{reads_input};
+ghost use Rattle.je_program.specs.Commands.{ends_load, ends_script, reads_input};
 ghost use Rattle.je_program.specs.Program.{IsNoRequest, StopsReading};
 ghost use Rattle.je_program.specs.Request.{IsConfig, IsNoCommand, IsRequestOf};
 
 use crate::cause::Cause;
-use crate::reading::read_script;
+use crate::reading::{read_dump, read_script};
 use crate::text::Text;
 use command_line::{Command, CommandLine, RunSettings, parse};
+use dump_text::Dump;
 use environment::Config;
 use je_io::Source;
 use je_order::Word;
@@ -19,7 +20,7 @@ use std::alloc::Global;
 use store_model::RunPlan;
 
 /// What a program is to do: to run a plan over an environment that is opened so, and then to write this; to dump a
-/// database; or to print the log.
+/// database; to load a dump into one; or to print the log.
 pub enum Request {
     Life {
         config: Config,
@@ -29,6 +30,11 @@ pub enum Request {
     Dump {
         db: Word,
         printed: bool,
+    },
+    Load {
+        db: Word,
+        no_overwrite: bool,
+        dump: Dump,
     },
     PrintLog,
 }
@@ -54,6 +60,7 @@ fn run_request<S: Source>(
     requires { AreSettings settings }
     ensures is { IfOk result (IsRequestOf (Some (Run settings)) (S.left input.old) (S.left input.new)) }
     ensures none { IfErr result (λ cause. StopsReading (S.left input.old) (S.faults input.old) (S.faults input.new) cause) }
+    ensures no_dump { IfErr result (λ cause. ends_script cause ≡ true) }
     ensures never_falls { S.faults input.old ≤ S.faults input.new }
 {
     let plan = read_script(alloc, input)?;
@@ -75,6 +82,26 @@ fn soak_request(alloc: Global, seed: u32, settings: RunSettings) -> Result<Reque
         config: config_of(settings),
         plan,
         text: Text::SoakEnd { seed },
+    })
+}
+
+// What `load` is to do.
+fn load_request<S: Source>(
+    alloc: Global,
+    db: Word,
+    no_overwrite: bool,
+    input: &mut S,
+) -> Result<Request, Cause>
+    ensures is { IfOk result (IsRequestOf (Some (Load db no_overwrite)) (S.left input.old) (S.left input.new)) }
+    ensures none { IfErr result (λ cause. StopsReading (S.left input.old) (S.faults input.old) (S.faults input.new) cause) }
+    ensures no_script { IfErr result (λ cause. ends_load cause ≡ true) }
+    ensures never_falls { S.faults input.old ≤ S.faults input.new }
+{
+    let dump = read_dump(alloc, input)?;
+    Ok(Request::Load {
+        db,
+        no_overwrite,
+        dump,
     })
 }
 
@@ -105,6 +132,7 @@ fn request_of<S: Source>(alloc: Global, command: Command, input: &mut S) -> Resu
         Command::Run(settings) => run_request(alloc, settings, input),
         Command::Soak { seed, settings } => soak_request(alloc, seed, settings),
         Command::Dump { db, printed } => Ok(Request::Dump { db, printed }),
+        Command::Load { db, no_overwrite } => load_request(alloc, db, no_overwrite, input),
         Command::PrintLog => Ok(Request::PrintLog),
     }
 }

@@ -21,6 +21,8 @@ pub enum Text {
         kind: Kind,
         printed: bool,
     },
+    /// How many pairs of a dump were put, and how many were there and stay.
+    Loaded,
     /// The lines of a log.
     Log(Vec<FileLines>),
 }

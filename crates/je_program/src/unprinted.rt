@@ -5,6 +5,7 @@ ghost use Rattle.je_program.specs.Commands.{reads_input};
 ghost use Rattle.je_program.specs.Unprinted.{ComesTo};
 
 use crate::dumping::dump;
+use crate::loading::load;
 use crate::print_log::print_log;
 use crate::request::{Request, read_request};
 use crate::run_result::{RunResult, run_plan, unopened};
@@ -36,6 +37,13 @@ pub fn run_unprinted<D: Disk, S: Source>(
             text,
         },
         Ok(Request::Dump { db, printed }) => dump(alloc, disk, &db, printed),
+        Ok(
+            Request::Load {
+                db,
+                no_overwrite,
+                dump,
+            },
+        ) => load(alloc, disk, &db, no_overwrite, dump),
         Ok(Request::PrintLog) => print_log(alloc, disk),
         Err(cause) => Unprinted {
             run: unopened(alloc, cause, disk),

@@ -5,7 +5,7 @@ mod OwnLocks
 -- Where a load stands: before its transaction, in it, and behind its last line.
 mod Phases
 -- What a load attempts to commit, event after event.
-mod LoadImages
+pub mod LoadImages
 -- What a store has once changes of one database and its indexes were made.
 mod PutStores
 -- What refuses a call of a load is a refusal.
@@ -19,4 +19,4 @@ mod CommitStores
 -- What a load stores from its transaction on.
 mod InLoadStores
 -- What a load stores, event after event.
-mod LoadStores
+pub mod LoadStores

@@ -41,7 +41,7 @@ static RIGHT: [(&str, &str, u32, u32); 20] = [
 ];
 
 // Lines whose arguments are invalid.
-static WRONG: [&str; 74] = [
+static WRONG: [&str; 81] = [
     "run",
     "run --home",
     "--home d",
@@ -116,6 +116,13 @@ static WRONG: [&str; 74] = [
     "dump --home d --db t --print=1",
     "dump --home d --db t --file-max 4096",
     "dump --home d --db abcdefghijklmnopqrstuvwxyz_0123456789_abcdefghijklmnopqrstuvwxyz_0",
+    "dump --home d --db t --no-overwrite",
+    "load --home d",
+    "load --db t",
+    "load --home d --db T",
+    "load --home d --db t --print",
+    "load --home d --db t --no-overwrite --no-overwrite",
+    "load --home d --db t --no-overwrite=1",
 ];
 
 // Lines of a dump that are valid, with the database that they name, and whether its bytes are shown as themselves.
@@ -129,6 +136,13 @@ static DUMPS: [(&str, &str, bool); 5] = [
         "abcdefghijklmnopqrstuvwxyz_0123456789_abcdefghijklmnopqrstuvwxyz",
         false,
     ),
+];
+
+// Lines of a load that are valid, with the database that they name, and whether records that are there stay.
+static LOADS: [(&str, &str, bool); 3] = [
+    ("load --home d --db t", "t", false),
+    ("load --no-overwrite --db=_0 --home=d --", "_0", true),
+    ("load --home d --db load --no-overwrite", "load", true),
 ];
 
 // Lines of a soak that are valid, with the seed, the file length and the number of slots that they give.
@@ -202,6 +216,19 @@ fn dumps(alloc: Global, line: &str, name: &str, wanted: bool) -> Result<bool, Al
     })
 }
 
+fn loads(alloc: Global, line: &str, name: &str, wanted: bool) -> Result<bool, AllocError> {
+    let args = split(alloc, line)?;
+    let Some(found) = parse(alloc, args.as_slice())? else {
+        return Ok(false);
+    };
+    Ok(match &found.command {
+        Command::Load { db, no_overwrite } => {
+            db.as_slice() == name.as_bytes() && *no_overwrite == wanted
+        }
+        _ => false,
+    })
+}
+
 fn prints(alloc: Global, line: &str, home: &str) -> Result<bool, AllocError> {
     let args = split(alloc, line)?;
     let Some(found) = parse(alloc, args.as_slice())? else {
@@ -246,6 +273,16 @@ fn right_words_dump_a_database(rt: HostRuntime) {
     for &(line, name, printed) in &DUMPS {
         assert!(rt;
             dumps(rt.alloc(), line, name, printed) == Ok(true),
+            "{line}"
+        );
+    }
+}
+
+#[test]
+fn right_words_load_a_dump(rt: HostRuntime) {
+    for &(line, name, no_overwrite) in &LOADS {
+        assert!(rt;
+            loads(rt.alloc(), line, name, no_overwrite) == Ok(true),
             "{line}"
         );
     }

@@ -11,6 +11,6 @@ mod pause;
 mod recorded;
 mod running;
 
-pub use pause::Pause;
+pub use pause::{Pause, is_refused};
 pub use recorded::Recorded;
 pub use running::{Running, run, run_until};

@@ -27,8 +27,8 @@ fn is_refusal(kept: bool, answer: &Answer) -> bool
     }
 }
 
-// Whether an event is a call that was refused.
-fn is_refused(kept: bool, event: &Event) -> bool
+/// Whether an event is a call that was refused, or waits.
+pub fn is_refused(kept: bool, event: &Event) -> bool
     ensures { result ≡ is_refused kept event.now }
 {
     match event {

@@ -29,6 +29,8 @@ mod index_locks;
 #[cfg(test)]
 mod indexes;
 #[cfg(test)]
+mod loads;
+#[cfg(test)]
 mod log_lines;
 #[cfg(test)]
 mod phantoms;

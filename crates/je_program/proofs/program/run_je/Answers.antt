@@ -2,7 +2,7 @@ use Rattle.std.proofs.Common.{◌∙◌, sym, map, string_bytes, subst}
 use Rattle.command_line.specs.Arguments.{command_in}
 use Rattle.command_line.proofs.ValueLaws.{command_named}
 use Rattle.je_program.specs.Untouched.{LeavesUnreadable}
-use Rattle.je_program.proofs.CommandLaws.{came_bad, came_found, came_nothing, came_stopped, came_too_long, came_unparsed, came_usage, came_well, came_wrong}
+use Rattle.je_program.proofs.CommandLaws.{came_bad, came_bad_dump, came_found, came_nothing, came_stopped, came_too_long, came_unparsed, came_usage, came_well, came_wrong}
 use Rattle.je_program.proofs.program.run_je.Goals as goal
 
 pub returns-clause-usage : goal.returns-clause-usage
@@ -19,6 +19,9 @@ returns-clause-too_long_found g c = came_too_long (command_in (map string_bytes 
 
 pub returns-clause-bad_line_found : goal.returns-clause-bad_line_found
 returns-clause-bad_line_found g c = came_bad (command_in (map string_bytes c.args.args.now)) c.run_unprinted-run.ensures.comes
+
+pub returns-clause-bad_dump_found : goal.returns-clause-bad_dump_found
+returns-clause-bad_dump_found g c = came_bad_dump (command_in (map string_bytes c.args.args.now)) c.run_unprinted-run.ensures.comes
 
 pub returns-clause-unreadable_untouched : goal.returns-clause-unreadable_untouched
 returns-clause-unreadable_untouched g c = λ corruption is observed.
@@ -87,6 +90,9 @@ returns-clause-no_environment g c = c.run_unprinted-run.ensures.comes.no_environ
 pub returns-clause-no_database : goal.returns-clause-no_database
 returns-clause-no_database g c = c.run_unprinted-run.ensures.comes.no_database
 
+pub returns-clause-placed : goal.returns-clause-placed
+returns-clause-placed g c = c.run_unprinted-run.ensures.comes.placed
+
 pub returns-clause-has_database : goal.returns-clause-has_database
 returns-clause-has_database g c = c.run_unprinted-run.ensures.comes.has_database
 
@@ -106,6 +112,9 @@ returns-clause-input_too_long g c = λ is. came_stopped c.run_unprinted-run.ensu
 
 pub returns-clause-bad_script : goal.returns-clause-bad_script
 returns-clause-bad_script g c = λ line is. came_stopped c.run_unprinted-run.ensures.comes is
+
+pub returns-clause-bad_dump : goal.returns-clause-bad_dump
+returns-clause-bad_dump g c = λ line is. came_stopped c.run_unprinted-run.ensures.comes is
 
 pub returns-clause-disk_faults : goal.returns-clause-disk_faults
 returns-clause-disk_faults g c = c.run_unprinted-run.ensures.comes.caused.never_falls

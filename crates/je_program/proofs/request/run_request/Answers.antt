@@ -6,11 +6,11 @@ pub returns-clause-is : goal.returns-clause-is
 returns-clause-is g c =
     let p = c.in_ok-plan.ensures in
     record {
-      gives = refl;
+      runs = refl;
       file_max = ap (λ n. Some n) (sym c.config_of.ensures.file_max);
       config_is = c.config_of.ensures.is;
       read = (c.in_ok-plan.plan, p.read);
-      are = (c.in_ok-plan.plan, p.read, refl);
+      are = λ opening. (c.in_ok-plan.plan, p.read, refl);
       each = p.lines;
       text_is = λ w. refl;
     }

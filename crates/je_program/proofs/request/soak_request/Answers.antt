@@ -9,11 +9,11 @@ pub returns-clause-is : goal.returns-clause-is
 returns-clause-is c = λ left.
     let plan_is = c.in_ok-plan.ensures in
     record {
-      gives = refl;
+      runs = refl;
       file_max = ap (λ n. Some n) (sym c.config_of.ensures.file_max);
       config_is = c.config_of.ensures.is;
       read = refl;
-      are = plan_is;
+      are = λ opening. plan_is;
       each = ap (list_all is_line) plan_is ∙ soak_lines c.args.seed;
       text_is = λ w. refl;
     }
