@@ -15,7 +15,7 @@ use Rattle.clap.specs.declared.builder.value_parser.Reading.{Reading}
 use Rattle.command_line.specs.declared.command.RunSettings.{RunSettings}
 use Rattle.command_line.specs.declared.command.Command.{Command}
 use Rattle.command_line.specs.declared.command.Command.TheVariants.{Run, Soak, PrintLog}
-use Rattle.command_line.specs.Arguments.{AreSettings, HasSettings, command_of, db_of, dump_command, dump_with, home_of, is_given as is_given_flag, is_named, is_parsed, jedb, load_command, load_with, name_if, number_of, number_read, printlog_command, run_command, settings_of, soak_command}
+use Rattle.command_line.specs.Arguments.{AreSettings, HasSettings, command_of, db_of, dump_command, dump_asked, home_of, is_given as is_given_flag, is_named, is_parsed, jedb, load_command, load_with, name_if, number_of, number_read, printlog_command, run_command, settings_of, soak_command}
 use Rattle.command_line.proofs.WalkLaws.{neither}
 use Rattle.command_line.proofs.StopLaws.{StopsOther, walk_other}
 use Rattle.command_line.proofs.RowLaws.{AreFilled, IsNumberIf, IsValue, Number, first_there, number_there, row_there}
@@ -181,7 +181,7 @@ dump_has_line args none =
     (uses_kept [] s.rules (text_kept [] (codes "home") (λ v. tt), (text_kept [] (codes "db") (λ v. tt), (flag_kept [] (codes "print") tt, (help_kept [], tt)))))
     (inl refl, (inl refl, (inr tt, (inl refl, tt)))) none in
     let home = has_home [] rows read.filled (read.given.0 refl) in
-    let command = dump_with (is_given_flag (codes "print") rows) in
+    let command = dump_asked (is_given_flag (codes "print") rows) in
     record { home = home.0; home_is = home.1; command_there = named_there command (first_of (codes "db") rows); bounded = named_bounded command (db_of rows) (λ name. tt) }
 
 load_has_line : (args : List Text) → level_fault (leaf_of load_command) [] nothing_held args false [] ≡ [] → HasLine (Some (rows_at (leaf_of load_command) args))

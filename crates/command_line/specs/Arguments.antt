@@ -158,12 +158,12 @@ abbrev pub db_of : List Row → Option Text
 db_of rows = option_and_then name_if (first_of (codes "db") rows)
 
 -- `dump` of a database
-abbrev pub dump_with : Bool → Text → Command
-dump_with printed db = Dump db printed
+abbrev pub dump_asked : Bool → Text → Command
+dump_asked printed db = Dump db printed
 
 -- `dump` with its options
 abbrev pub dump_named : List Row → Option Command
-dump_named rows = option_map (dump_with (is_given (codes "print") rows)) (db_of rows)
+dump_named rows = option_map (dump_asked (is_given (codes "print") rows)) (db_of rows)
 
 -- `load` into a database
 abbrev pub load_with : Bool → Text → Command

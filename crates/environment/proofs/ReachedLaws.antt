@@ -10,7 +10,7 @@ use Rattle.store_model.specs.declared.answer.Fault.{Fault}
 use Rattle.je_answers.specs.Standing.{Standing}
 use Rattle.je_answers.specs.Events.{IsSyncEnded}
 use Rattle.engine.specs.Opening.{AreNumbers, StartsAt}
-use Rattle.serial_replay.specs.Laws.{HaveNumbers}
+use Rattle.je_answers.specs.Numbers.{HaveNumbers}
 use Rattle.serial_replay.specs.Reached.{IsBeginning, IsReached}
 use Rattle.serial_replay.proofs.Attempts.{beginnings_are-reached}
 use Rattle.environment.proofs.RightStores.{meaning_right}

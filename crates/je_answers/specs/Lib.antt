@@ -8,3 +8,4 @@ pub mod Journal
 pub mod Alone
 pub mod Laws
 pub mod Written
+pub mod Numbers

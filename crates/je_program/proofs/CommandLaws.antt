@@ -35,7 +35,7 @@ use Rattle.je_program.specs.declared.reading.TheConstants.{MOST_INPUT}
 use Rattle.je_program.specs.declared.run_result.RunResult.{RunResult}
 use Rattle.je_program.specs.declared.text.Text.{Text}
 use Rattle.je_program.specs.declared.text.Text.TheVariants.{Nothing, Log}
-use Rattle.je_program.specs.Commands.{AreReady, AreSound, CanBeOpened, EndsRun, EndsWell, GaveAll, HasDatabase, HasDump, HasFirstLines, HasFront, HasInput, IsFound, IsLogText, IsPlaced, IsStored, IsTextOf, ReadsDump, ReadsPlan, dump_at, ends_dump, ends_load, ends_reading, ends_script, ends_soak, ends_unparsed, gives_lines, is_script, loaded_at, may_end, needs_environment, opens, reads_input, text_of}
+use Rattle.je_program.specs.Commands.{AreReady, AreSound, CanBeOpened, EndsRun, EndsWell, GaveAll, HasDatabase, HasDump, HasFirstLines, HasFront, HasInput, IsFound, IsLogText, EndsAsPlaced, IsStored, IsTextOf, ReadsDump, ReadsPlan, dump_at, ends_dump, ends_load, ends_reading, ends_script, ends_soak, ends_unparsed, gives_lines, is_script, loaded_at, may_end, needs_environment, opens, reads_input, text_of}
 use Rattle.je_program.specs.Printing.{IsPrinted}
 use Rattle.je_program.specs.Program.{ClosesRun, EndsBy, EndsWith, IsNoRequest, IsStopped, RunsBy, RunsIf, is_before_disk}
 use Rattle.je_program.specs.Unprinted.{ComesTo, needs_file}
@@ -101,7 +101,7 @@ life_has (Some (Dump db printed)) opening script = cc
 life_has (Some (Load db no_overwrite)) opening script = cc
 life_has (Some PrintLog) opening script = tt
 
-pub life_placed : (command : Option Command) (left rest : Option (List ℕ)) (opening : Store) (cause : Cause) → is_script command ≡ true → IsPlaced command left rest opening cause
+pub life_placed : (command : Option Command) (left rest : Option (List ℕ)) (opening : Store) (cause : Cause) → is_script command ≡ true → EndsAsPlaced command left rest opening cause
 life_placed None left rest opening cause script = tt
 life_placed (Some (Run settings)) left rest opening cause script = tt
 life_placed (Some (Soak seed settings)) left rest opening cause script = tt

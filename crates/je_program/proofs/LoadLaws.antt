@@ -23,7 +23,8 @@ use Rattle.je_answers.specs.Journal.{lines_of}
 use Rattle.load_run.specs.Lines.{commit_line, kind_of_dump, load_lines, load_mode, pair_lines, put_line}
 use Rattle.load_laws.specs.Given.{is_refusal, is_refused}
 use Rattle.load_laws.specs.Images.{IsLoadOf}
-use Rattle.load_laws.specs.Stored.{HaveNumbers, IsWholeLoad}
+use Rattle.load_laws.specs.Stored.{IsWholeLoad}
+use Rattle.je_answers.specs.Numbers.{HaveNumbers}
 use Rattle.load_laws.proofs.LoadImages.{loads_whole}
 use Rattle.load_laws.proofs.LoadStores.{pairs_stored}
 use Rattle.log_replay.specs.declared.corruption.Corruption.{Corruption}
@@ -49,7 +50,7 @@ use Rattle.je_program.specs.declared.cause.Cause.TheVariants.{Done, Usage, BadSc
 use Rattle.je_program.specs.declared.run_result.RunResult.{RunResult}
 use Rattle.je_program.specs.declared.text.Text.{Text}
 use Rattle.je_program.specs.declared.text.Text.TheVariants.{Nothing as NoText}
-use Rattle.je_program.specs.Commands.{EndsByPlace, ReadsDump, StoresDump, ends_load, ends_soak, is_made, is_place, keeps_otherwise, loaded_at, text_of, usual_file_max}
+use Rattle.je_program.specs.Commands.{EndsByPlace, ReadsDump, StoresDump, ends_load, ends_soak, makes_database, is_place, keeps_otherwise, loaded_at, text_of, usual_file_max}
 use Rattle.je_program.specs.Loading.{HasStart, IsBar, IsPlaceFor}
 use Rattle.je_program.specs.Program.{ClosesRun, EndsBy, EndsWith, IsRunOf, IsStopped, RunsIf, cause_of_opening, is_before_disk}
 use Rattle.je_program.specs.Ran.{HasRun}
@@ -409,15 +410,15 @@ module _ {D : Type 0} (meaning : DiskMeaning D) (db : List ℕ) (kept : Bool) (l
       IsRunOf usual_file_max meaning.observable (meaning.history disk) (meaning.history r.disk) (meaning.faults disk) (meaning.faults r.disk) r.opening r.totals r.journal.items end st →
       ClosesRun (meaning.faults disk) (meaning.faults r.disk) r.journal.items end →
       LoadEnd left before after end r.cause r.journal.items (is_place db r.opening) (keeps_otherwise dump.dup (database_of db r.opening)) dump.dup_line →
-      IsLoadOf (is_made db r.opening) db kept dump st r.journal.items → (r.cause ≡ Done → first_refused kept r.journal.items ≡ None) → ((line : ℕ) → r.cause ≡ RefusedPair line → first_refused kept r.journal.items ≡ Some line) →
-      (r.cause ≡ Done → lines_of r.journal.items ≡ load_lines (is_made db r.opening) db kept dump) → text_of text r.opened r.journal.items r.totals ≡ loaded_at r.cause r.journal.items →
+      IsLoadOf (makes_database db r.opening) db kept dump st r.journal.items → (r.cause ≡ Done → first_refused kept r.journal.items ≡ None) → ((line : ℕ) → r.cause ≡ RefusedPair line → first_refused kept r.journal.items ≡ Some line) →
+      (r.cause ≡ Done → lines_of r.journal.items ≡ load_lines (makes_database db r.opening) db kept dump) → text_of text r.opened r.journal.items r.totals ≡ loaded_at r.cause r.journal.items →
       ComesTo (Some (Load db kept)) meaning left rest before after disk r text
   opened_comes disk r text st end opened store run caused e load done refused all text_is = record {
     may = e.may;
     stopped = e.stopped;
     read = λ after_input other. (dump, read);
     given = λ o. record {
-      lines = load_lines (is_made db r.opening) db kept dump;
+      lines = load_lines (makes_database db r.opening) db kept dump;
       are = (dump, read, refl);
       all = all;
       front = record { first = (load.rest, load.lines); stops = load.stops; done = done; refused = refused };
@@ -430,7 +431,7 @@ module _ {D : Type 0} (meaning : DiskMeaning D) (db : List ℕ) (kept : Bool) (l
       st,
       refl,
       run_with_cause usual_file_max meaning.observable (meaning.history disk) (meaning.history r.disk) (meaning.faults disk) (meaning.faults r.disk) r.opening r.totals r.journal.items st end r.cause run e.memory e.through,
-      (dump, read, stores_dump (is_made db r.opening) db kept dump meaning.observable (now (meaning.history disk)).reads r.opening st r.journal.items r.cause run.starts load all done),
+      (dump, read, stores_dump (makes_database db r.opening) db kept dump meaning.observable (now (meaning.history disk)).reads r.opening st r.journal.items r.cause run.starts load all done),
     );
     unopened = λ shut. absurd (true≢false (sym opened ∙ shut));
     unreadable = λ corruption is. absurd (e.not_unreadable corruption is);
@@ -463,7 +464,7 @@ module _ {D : Type 0} (meaning : DiskMeaning D) (db : List ℕ) (kept : Bool) (l
       let other = keeps_otherwise dump.dup (database_of db r.opening) in
       let e : LoadEnd left before after end r.cause j (is_place db r.opening) other dump.dup_line =
       subst (λ (c : Cause). LoadEnd left before after end c j (is_place db r.opening) other dump.dup_line) (sym cause_is) (given_end left before after j (is_place db r.opening) other dump.dup_line kept end ran ends place.0 place.1) in
-      let load_is : IsLoadOf (is_made db r.opening) db kept dump st j = subst (λ (b : Bool). IsLoadOf b db kept dump st j) place.2 load in
+      let load_is : IsLoadOf (makes_database db r.opening) db kept dump st j = subst (λ (b : Bool). IsLoadOf b db kept dump st j) place.2 load in
       let at_done : r.cause ≡ Done → (end ≡ Done) × (first_refused kept j ≡ None) = λ is. load_done kept end j (sym cause_is ∙ is) in
       opened_comes disk r text st end opened store run caused e load_is (λ is. (at_done is).1) (λ at is. load_refused kept end j at ran (sym cause_is ∙ is))
       (λ is. (let d = at_done is in all d.0 d.1 ∙ ap (λ (b : Bool). load_lines b db kept dump) place.2)) text_is
@@ -477,7 +478,7 @@ module _ {D : Type 0} (meaning : DiskMeaning D) (db : List ℕ) (kept : Bool) (l
       let place = is_place db r.opening in
       let otherwise = keeps_otherwise dump.dup (database_of db r.opening) in
       opened_comes disk r NoText st end opened store run caused (barred_end left before after r.journal.items place otherwise dump.dup_line end r.cause other empty bar)
-      (none_loaded (is_made db r.opening) db kept dump st at r.journal.items is empty) (λ done. absurd (bar_not_done r.cause place otherwise dump.dup_line bar done))
+      (none_loaded (makes_database db r.opening) db kept dump st at r.journal.items is empty) (λ done. absurd (bar_not_done r.cause place otherwise dump.dup_line bar done))
       (λ line refused. absurd (bar_not_refused r.cause place otherwise dump.dup_line line bar refused)) (λ done. absurd (bar_not_done r.cause place otherwise dump.dup_line bar done))
       (no_text r.cause place otherwise dump.dup_line r.journal.items bar)
     where

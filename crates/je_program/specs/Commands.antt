@@ -27,7 +27,7 @@ use Rattle.dump_text.specs.Grammar.{dump_of}
 use Rattle.load_run.specs.Lines.{kind_of_dump, load_lines}
 use Rattle.load_laws.specs.Given.{StopsAtRefusal}
 use Rattle.load_laws.specs.Images.{ComesWhole, made_store}
-use Rattle.load_laws.specs.Stored.{HasLoaded}
+use Rattle.load_laws.specs.Stored.{HasDumpedPairs}
 use Rattle.script_run.specs.Events.{final_store}
 use Rattle.script_run.specs.Lines.{AreFirstLines, of_maintenance, of_session}
 use Rattle.log_file.specs.Log.{AreFiles}
@@ -215,8 +215,8 @@ HasInput (Some PrintLog) left = Unit {0}
 -- ---- the database that a command names
 
 -- whether a load makes its database
-abbrev pub is_made : List ℕ → Store → Bool
-is_made db opening = not (is_some (database_of db opening))
+abbrev pub makes_database : List ℕ → Store → Bool
+makes_database db opening = not (is_some (database_of db opening))
 
 -- whether pairs may be loaded into a database: it is there and no index, or one more may be made
 abbrev pub takes_pairs : ℕ → Option Database → Bool
@@ -240,10 +240,10 @@ EndsByPlace (OtherKind at) place otherwise line = (place ≡ true) × (otherwise
 EndsByPlace cause place otherwise line = (place ≡ true) × (otherwise ≡ false)
 
 -- the same of any command, over this store
-abbrev pub IsPlaced : Option Command → Option (List ℕ) → Option (List ℕ) → Store → Cause → Type 0
-IsPlaced (Some (Load db no_overwrite)) left rest opening cause =
+abbrev pub EndsAsPlaced : Option Command → Option (List ℕ) → Option (List ℕ) → Store → Cause → Type 0
+EndsAsPlaced (Some (Load db no_overwrite)) left rest opening cause =
     (dump : DumpRead) × ReadsDump left rest dump × EndsByPlace cause (is_place db opening) (keeps_otherwise dump.dup (database_of db opening)) dump.dup_line
-IsPlaced command left rest opening cause = Unit {0}
+EndsAsPlaced command left rest opening cause = Unit {0}
 
 -- the store has not the database that a command needs
 abbrev pub LacksDatabase : Option Command → Store → Type 0
@@ -265,7 +265,7 @@ AreLines None left rest opening lines = ⊥
 AreLines (Some (Run settings)) left rest opening lines = (plan : RunPlan) × ReadsPlan left rest plan × (lines ≡ plan.lines)
 AreLines (Some (Soak seed settings)) left rest opening lines = lines ≡ soak_of seed
 AreLines (Some (Dump db printed)) left rest opening lines = lines ≡ []
-AreLines (Some (Load db no_overwrite)) left rest opening lines = (dump : DumpRead) × ReadsDump left rest dump × (lines ≡ load_lines (is_made db opening) db no_overwrite dump)
+AreLines (Some (Load db no_overwrite)) left rest opening lines = (dump : DumpRead) × ReadsDump left rest dump × (lines ≡ load_lines (makes_database db opening) db no_overwrite dump)
 AreLines (Some PrintLog) left rest opening lines = ⊥
 
 -- whether a command that ends so has given all its lines, if it ran: one that loads a dump only where all was done, any other unless memory ran out
@@ -306,12 +306,12 @@ pub record IsGivenTo (command : Option Command) (left rest : Option (List ℕ)) 
 pub record StoresDump (make : Bool) (db : List ℕ) (kept : Bool) (dump : DumpRead) (st : Standing) (journal : List Event) (cause : Cause) : Type 0 where
   pub whole : ComesWhole make db kept dump st journal
   pub attempted : lines_of journal ≡ load_lines make db kept dump → (d : Database) → database_of db (made_store make db (kind_of_dump dump.dup) st.store) ≡ Some d →
-      (store_after st.store (attempts_of st journal) ≡ made_store make db (kind_of_dump dump.dup) st.store) ⊎ HasLoaded db kept dump d (store_after st.store (attempts_of st journal))
-  pub stored : cause ≡ Done → (d : Database) → database_of db (made_store make db (kind_of_dump dump.dup) st.store) ≡ Some d → HasLoaded db kept dump d (final_store st journal)
+      (store_after st.store (attempts_of st journal) ≡ made_store make db (kind_of_dump dump.dup) st.store) ⊎ HasDumpedPairs db kept dump d (store_after st.store (attempts_of st journal))
+  pub stored : cause ≡ Done → (d : Database) → database_of db (made_store make db (kind_of_dump dump.dup) st.store) ≡ Some d → HasDumpedPairs db kept dump d (final_store st journal)
 
 -- what a command's run stores, beside what its journal says
 abbrev pub IsStored : Option Command → Option (List ℕ) → Option (List ℕ) → Store → Standing → List Event → Cause → Type 0
-IsStored (Some (Load db no_overwrite)) left rest opening st journal cause = (dump : DumpRead) × ReadsDump left rest dump × StoresDump (is_made db opening) db no_overwrite dump st journal cause
+IsStored (Some (Load db no_overwrite)) left rest opening st journal cause = (dump : DumpRead) × ReadsDump left rest dump × StoresDump (makes_database db opening) db no_overwrite dump st journal cause
 IsStored command left rest opening st journal cause = Unit {0}
 
 -- ---- the files
@@ -411,13 +411,13 @@ is_loaded (Called session line (Put db key value mode) IsDone victims) = true
 is_loaded event = false
 
 -- whether it is one whose record was there and stays
-unfoldable pub is_kept : Event → Bool
-is_kept (Called session line (Put db key value mode) KeyExist victims) = true
-is_kept event = false
+unfoldable pub is_kept_pair : Event → Bool
+is_kept_pair (Called session line (Put db key value mode) KeyExist victims) = true
+is_kept_pair event = false
 
 -- what is written of a load: how many pairs were put, and how many were there and stay
 abbrev pub loaded_line : List Event → List ℕ
-loaded_line journal = codes "loaded " ++ decimal (length (filter is_loaded journal)) ++ codes " kept " ++ decimal (length (filter is_kept journal)) ++ codes "\n"
+loaded_line journal = codes "loaded " ++ decimal (length (filter is_loaded journal)) ++ codes " kept " ++ decimal (length (filter is_kept_pair journal)) ++ codes "\n"
 
 -- what a program has to write before its fault line
 abbrev pub text_of : Text → Bool → List Event → Totals → List ℕ

@@ -17,7 +17,7 @@ use Rattle.je_program.specs.declared.cause.Cause.{Cause}
 use Rattle.je_program.specs.declared.cause.Cause.TheVariants.{Done, Unreadable, WrongIndex, Memory, NoEnvironment, NoDatabase, IdsEnded}
 use Rattle.je_program.specs.declared.run_result.RunResult.{RunResult}
 use Rattle.je_program.specs.declared.text.Text.{Text}
-use Rattle.je_program.specs.Commands.{AreSound, HasDatabase, IsFound, IsGivenTo, IsPlaced, IsStored, IsTextOf, LacksDatabase, ReadsInput, Work, file_max_of, may_end, needs_environment, opens, text_of}
+use Rattle.je_program.specs.Commands.{AreSound, HasDatabase, IsFound, IsGivenTo, EndsAsPlaced, IsStored, IsTextOf, LacksDatabase, ReadsInput, Work, file_max_of, may_end, needs_environment, opens, text_of}
 use Rattle.je_program.specs.Program.{ClosesRun, EndsWith, IsRunOf, IsStopped, RunsBy, is_before_disk}
 use Rattle.je_program.specs.Untouched.{LeavesUnreadable}
 
@@ -52,7 +52,7 @@ pub record ComesTo {D : Type 0} (command : Option Command) (meaning : DiskMeanin
   pub some_file : needs_environment command ≡ true → needs_file r.cause ≡ true → meaning.observable ≡ true → HasNoFile (now (meaning.history disk)).reads → ⊥
   pub no_database : r.cause ≡ NoDatabase → LacksDatabase command r.opening
   pub has_database : r.cause ≡ Done → HasDatabase command r.opening
-  pub placed : r.opened ≡ true → IsPlaced command left rest r.opening r.cause
+  pub placed : r.opened ≡ true → EndsAsPlaced command left rest r.opening r.cause
   pub ends : r.opened ≡ true → r.cause ≢ Memory → EndsWith r.journal.items r.cause
   pub caused : ClosesRun (meaning.faults disk) (meaning.faults r.disk) r.journal.items r.cause
   pub left_alone : meaning.observable ≡ true → LeavesUnreadable r.cause (meaning.history disk) (meaning.history r.disk)

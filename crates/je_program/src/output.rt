@@ -7,7 +7,7 @@ ghost use Rattle.text_out.specs.OutBuffer.{Adds, Sends, point};
 ghost use Rattle.log_printer.specs.LogLines.{lines_text};
 ghost use Rattle.database_dump.specs.Text.{records_text};
 ghost use Rattle.environment.specs.Databases.{rows_kept};
-ghost use Rattle.je_program.specs.Commands.{is_kept, is_loaded, loaded_line, report_of, soak_end_of, soak_text, text_of};
+ghost use Rattle.je_program.specs.Commands.{is_kept_pair, is_loaded, loaded_line, report_of, soak_end_of, soak_text, text_of};
 ghost use Rattle.je_program.specs.Program.{fault_text, IsOutputWritten};
 
 use crate::cause::Cause;
@@ -174,9 +174,9 @@ fn is_loaded(event: &Event) -> bool
 }
 
 // Whether an event is a put whose record was there and stays.
-#[tactic(auto, unfolding(crate::specs::Commands::is_kept))]
-fn is_kept(event: &Event) -> bool
-    ensures { result ≡ is_kept event.now }
+#[tactic(auto, unfolding(crate::specs::Commands::is_kept_pair))]
+fn is_kept_pair(event: &Event) -> bool
+    ensures { result ≡ is_kept_pair event.now }
 {
     match event {
         Event::Call {
@@ -201,11 +201,11 @@ fn loaded_in(journal: &[Event]) -> usize
 }
 
 fn kept_in(journal: &[Event]) -> usize
-    ensures { result ≡ length (filter is_kept journal.now) }
+    ensures { result ≡ length (filter is_kept_pair journal.now) }
 {
     let mut count = 0;
     for event in journal {
-        if is_kept(event) {
+        if is_kept_pair(event) {
             count += 1;
         }
     }

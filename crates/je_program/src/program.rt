@@ -19,7 +19,7 @@ ghost use Rattle.command_line.specs.declared.command.Command.TheVariants.{Load, 
 ghost use Rattle.command_line.specs.Arguments.{command_in, is_taken};
 ghost use Rattle.je_program.specs.declared.cause.Cause.{Cause as Why};
 ghost use Rattle.je_program.specs.declared.reading.TheConstants.{MOST_INPUT};
-ghost use Rattle.je_program.specs.Commands.{AreReady, EndsWell, HasDatabase, HasInput, IsFound, IsGivenTo, IsPlaced, IsStored, IsTextOf, LacksDatabase, ReadsInput, file_max_of, may_end, needs_environment, opens, reads_input};
+ghost use Rattle.je_program.specs.Commands.{AreReady, EndsWell, HasDatabase, HasInput, IsFound, IsGivenTo, EndsAsPlaced, IsStored, IsTextOf, LacksDatabase, ReadsInput, file_max_of, may_end, needs_environment, opens, reads_input};
 ghost use Rattle.je_program.specs.Program.{EndsWith, IsOutputWritten, IsRunOf, RunsBy, fault_text, is_before_disk};
 
 use crate::cause::Cause;
@@ -111,7 +111,7 @@ pub fn run_je<D: Disk, S: Source, K: Sink>(
     ensures no_environment { result.cause ≡ Why.NoEnvironment → D.meaning.observable ≡ true → HasNoFile (now (D.meaning.history disk)).reads }
     ensures no_database { result.cause ≡ Why.NoDatabase → LacksDatabase (command_in (map string_bytes args.now)) result.opening }
     ensures has_database { result.cause ≡ Why.Done → HasDatabase (command_in (map string_bytes args.now)) result.opening }
-    ensures placed { result.opened ≡ true → IsPlaced (command_in (map string_bytes args.now)) (S.left input.old) (S.left input.new) result.opening result.cause }
+    ensures placed { result.opened ≡ true → EndsAsPlaced (command_in (map string_bytes args.now)) (S.left input.old) (S.left input.new) result.opening result.cause }
 
     // Where no script was run, no number is left only if those of the files' nodes may pass the last one.
     ensures ids_ended { result.cause ≡ Why.IdsEnded → result.opened ≡ false → D.meaning.observable ≡ true → HasNoNumbers (now (D.meaning.history disk)).reads }

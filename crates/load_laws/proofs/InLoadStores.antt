@@ -18,7 +18,7 @@ use Rattle.je_answers.specs.After.{AnswersAsModel, after_event, after_events}
 use Rattle.je_answers.specs.Journal.{attempt_of, attempts_of, lines_of}
 use Rattle.load_run.specs.Lines.{commit_line, put_line}
 use Rattle.load_laws.specs.Given.{AreEndsLast, StopsAtRefusal, is_refusal, is_refused}
-use Rattle.load_laws.specs.Stored.{loaded, put_among}
+use Rattle.load_laws.specs.Stored.{pairs_loaded, put_among}
 use Rattle.load_laws.proofs.Phases.{commit_waits_none, none_resumes}
 use Rattle.load_laws.proofs.LoadImages.{called_same, front_empty, pairs_step, put_none, stopped_none}
 use Rattle.load_laws.proofs.PutSteps.{Holds, put_holds}
@@ -28,8 +28,8 @@ use Rattle.load_laws.proofs.CommitStores.{Attempts, attempts_last, attempts_then
 
 -- Where no call was refused the database has the pairs put among the records that it had; and what is attempted leaves it so, if anything is.
 pub record Stores (kept : Bool) (db : List ℕ) (d : Database) (mode : PutMode) (pairs : List DumpPair) (held : List Pair) (st : Standing) (journal : List Event) : Type 0 where
-  pub final : list_any (is_refused kept) journal ≡ false → database_of db (after_events st journal).store ≡ Some (with_pairs d (loaded db d.kind mode pairs held))
-  pub attempts : Attempts db d (loaded db d.kind mode pairs held) (attempts_of st journal)
+  pub final : list_any (is_refused kept) journal ≡ false → database_of db (after_events st journal).store ≡ Some (with_pairs d (pairs_loaded db d.kind mode pairs held))
+  pub attempts : Attempts db d (pairs_loaded db d.kind mode pairs held) (attempts_of st journal)
 
 pub some_line : (db : List ℕ) (mode : PutMode) (pairs : List DumpPair) → map (put_line db mode) pairs ++ commit_line ∷ [] ≡ [] → ⊥
 some_line db mode [] none = cc
@@ -55,11 +55,11 @@ not_refused kept answer lines given some e stops = by (is_refusal kept answer) r
   by false is = refl
 
 -- an event that is not refused, and then the others
-pub stores_then : (kept : Bool) (db : List ℕ) (d : Database) (mode : PutMode) (pairs more : List DumpPair) (held now : List Pair) (st : Standing) (event : Event) (events : List Event) → loaded db d.kind mode pairs held ≡ loaded db d.kind mode more now →
+pub stores_then : (kept : Bool) (db : List ℕ) (d : Database) (mode : PutMode) (pairs more : List DumpPair) (held now : List Pair) (st : Standing) (event : Event) (events : List Event) → pairs_loaded db d.kind mode pairs held ≡ pairs_loaded db d.kind mode more now →
     attempt_of st event ≡ [] → Stores kept db d mode more now (after_event st event) events → Stores kept db d mode pairs held st (event ∷ events)
 stores_then kept db d mode pairs more held now st event events same none later = record {
   final = λ ok. later.final (or_parts (is_refused kept event) (list_any (is_refused kept) events) ok).1 ∙ ap (λ (ps : List Pair). Some (with_pairs d ps)) (sym same);
-  attempts = attempts_then db d (loaded db d.kind mode pairs held) (attempt_of st event) (attempts_of (after_event st event) events) none
+  attempts = attempts_then db d (pairs_loaded db d.kind mode pairs held) (attempt_of st event) (attempts_of (after_event st event) events) none
       (subst (λ (ps : List Pair). Attempts db d ps (attempts_of (after_event st event) events)) (sym same) later.attempts);
 }
 

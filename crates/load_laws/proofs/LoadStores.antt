@@ -34,7 +34,8 @@ use Rattle.je_answers.specs.Alone.{Alone, alone, committed_alone, drawn_alone, f
 use Rattle.je_answers.specs.Journal.{attempt_of, attempts_of, lines_of}
 use Rattle.load_run.specs.Lines.{begin_line, commit_line, kind_of_dump, load_mode, put_line}
 use Rattle.load_laws.specs.Given.{AreEndsLast, StopsAtRefusal, is_refusal, is_refused}
-use Rattle.load_laws.specs.Stored.{HaveNumbers, LoadsStoreTheirPairs, loaded}
+use Rattle.load_laws.specs.Stored.{LoadsStoreTheirPairs, pairs_loaded}
+use Rattle.je_answers.specs.Numbers.{HaveNumbers}
 use Rattle.load_laws.proofs.Phases.{IsCreated, none_resumes}
 use Rattle.load_laws.proofs.LoadImages.{begin_none, called_same, created_then, not_step}
 use Rattle.load_laws.proofs.LoadRefusals.{IsRefusing, begin_early_refusing, begin_late_refusing, create_early_refusing, create_late_refusing, succeeds}
@@ -229,10 +230,10 @@ created_ready kept db kind d limit st event answer victims unmade e is ok =
 
 -- The database is made first, and what is attempted behind that leaves it as a load does, if anything is. Where no call was refused it is so in the end.
 pub record StoresMade (kept : Bool) (db : List ℕ) (kind : Kind) (d : Database) (mode : PutMode) (pairs : List DumpPair) (st : Standing) (journal : List Event) : Type 0 where
-  pub final : list_any (is_refused kept) journal ≡ false → database_of db (after_events st journal).store ≡ Some (with_pairs d (loaded db d.kind mode pairs d.pairs))
+  pub final : list_any (is_refused kept) journal ≡ false → database_of db (after_events st journal).store ≡ Some (with_pairs d (pairs_loaded db d.kind mode pairs d.pairs))
   pub later : List (List Change)
   pub made : attempts_of st journal ≡ (Make db kind ∷ []) ∷ later
-  pub attempts : Attempts db d (loaded db d.kind mode pairs d.pairs) later
+  pub attempts : Attempts db d (pairs_loaded db d.kind mode pairs d.pairs) later
 
 made_later : (kept : Bool) (db : List ℕ) (kind : Kind) (d : Database) (mode : PutMode) (pairs : List DumpPair) (st : Standing) (event : Event) (events : List Event) → attempt_of st event ≡ [] →
     StoresMade kept db kind d mode pairs (after_event st event) events → StoresMade kept db kind d mode pairs st (event ∷ events)
@@ -301,7 +302,7 @@ pairs_stored true db kept dump st journal d whole there =
       final = made.final;
       attempted = ⊎_elim
           (λ (none : made.later ≡ []). inl (ap (store_after st.store) (made.made ∙ ap (λ (l : List (List Change)). (Make db kind ∷ []) ∷ l) none)))
-          (λ (all : (store : Store) → database_of db store ≡ Some d → database_of db (store_after store made.later) ≡ Some (with_pairs d (loaded db d.kind (load_mode kept dump.dup) dump.pairs d.pairs))).
+          (λ (all : (store : Store) → database_of db store ≡ Some d → database_of db (store_after store made.later) ≡ Some (with_pairs d (pairs_loaded db d.kind (load_mode kept dump.dup) dump.pairs d.pairs))).
           inr (ap (λ (l : List (List Change)). database_of db (store_after st.store l)) made.made ∙ all (changed (Make db kind) st.store) there))
           made.attempts;
     }
@@ -319,6 +320,6 @@ pairs_stored false db kept dump st journal d whole there =
       final = begun.final;
       attempted = ⊎_elim
           (λ (none : attempts_of st journal ≡ []). inl (ap (store_after st.store) none))
-          (λ (all : (store : Store) → database_of db store ≡ Some d → database_of db (store_after store (attempts_of st journal)) ≡ Some (with_pairs d (loaded db d.kind (load_mode kept dump.dup) dump.pairs d.pairs))). inr (all st.store there))
+          (λ (all : (store : Store) → database_of db store ≡ Some d → database_of db (store_after store (attempts_of st journal)) ≡ Some (with_pairs d (pairs_loaded db d.kind (load_mode kept dump.dup) dump.pairs d.pairs))). inr (all st.store there))
           begun.attempts;
     }

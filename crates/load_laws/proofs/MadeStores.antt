@@ -15,7 +15,7 @@ use Rattle.store_model.specs.declared.change.Change.TheVariants.{Make}
 use Rattle.store_model.specs.Store.{changed, database_of, new_database}
 use Rattle.store_model.proofs.IndexLaws.{bytes_are, bytes_themselves}
 use Rattle.je_answers.specs.Standing.{with_number}
-use Rattle.load_laws.specs.Stored.{HaveNumbers}
+use Rattle.je_answers.specs.Numbers.{HaveNumbers}
 
 -- ---- names that rise
 

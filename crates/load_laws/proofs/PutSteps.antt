@@ -34,7 +34,8 @@ use Rattle.je_answers.specs.After.{Fate, fate_of, after_call, after_changes, aft
 use Rattle.je_answers.specs.After.Fate.{Succeeds}
 use Rattle.je_answers.proofs.SameViews.{answered_changes}
 use Rattle.load_laws.specs.Given.{is_refusal}
-use Rattle.load_laws.specs.Stored.{HaveNumbers, put_among}
+use Rattle.load_laws.specs.Stored.{put_among}
+use Rattle.je_answers.specs.Numbers.{HaveNumbers}
 use Rattle.load_laws.proofs.OwnLocks.{none_blocks}
 use Rattle.load_laws.proofs.Phases.{IsInLoadAt, its_active, locks_after}
 use Rattle.load_laws.proofs.LoadRefusals.{IsRefusing, put_early_refusing, put_late_refusing, put_no_index, succeeds}

@@ -18,7 +18,7 @@ use Rattle.store_model.specs.Store.{Pair, all_changed, all_pairs_changed, change
 use Rattle.store_model.proofs.IndexLaws.{bytes_are, bytes_themselves}
 use Rattle.je_answers.specs.Standing.{Standing, database_at}
 use Rattle.je_answers.specs.Views.{changes_in, changes_named, of_db, with_numbers}
-use Rattle.load_laws.specs.Stored.{HaveNumbers}
+use Rattle.je_answers.specs.Numbers.{HaveNumbers}
 
 -- ---- one change
 

@@ -1,5 +1,5 @@
 -- What a load stores.
-use Rattle.std.specs.Prelude.{ℕ, ◌≡◌, ◌<◌, ◌≤◌, ◌⊎◌, ◌∷◌, [], List, Some, None, Bool, false, IsSome}
+use Rattle.std.specs.Prelude.{ℕ, ◌≡◌, ◌⊎◌, ◌∷◌, [], List, Some, None, Bool, false}
 use Rattle.std.specs.List.{list_any}
 use Rattle.dump_text.specs.declared.dump.Dump.{Dump}
 use Rattle.dump_text.specs.declared.dump_pair.DumpPair.{DumpPair}
@@ -11,6 +11,7 @@ use Rattle.store_model.specs.declared.store.Store.{Store}
 use Rattle.store_model.specs.declared.store.Database.{Database}
 use Rattle.store_model.specs.Records.{evaluation}
 use Rattle.store_model.specs.Store.{Pair, IsStore, all_pairs_changed, database_of, store_after, with_pairs}
+use Rattle.je_answers.specs.Numbers.{HaveNumbers}
 use Rattle.je_answers.specs.Standing.{Standing}
 use Rattle.je_answers.specs.After.{after_events}
 use Rattle.je_answers.specs.Journal.{attempts_of, lines_of}
@@ -23,15 +24,9 @@ abbrev pub put_among : List ℕ → Kind → PutMode → DumpPair → List Pair 
 put_among db kind mode pair pairs = all_pairs_changed kind (evaluation kind (Put db pair.key pair.value mode) None pairs).changes pairs
 
 -- and once pairs were put, one after another
-abbrev pub loaded : List ℕ → Kind → PutMode → List DumpPair → List Pair → List Pair
-loaded db kind mode [] pairs = pairs
-loaded db kind mode (pair ∷ dumped) pairs = loaded db kind mode dumped (put_among db kind mode pair pairs)
-
--- each database of a store has a number of its own, up to the one that was allocated last
-pub record HaveNumbers (store : Store) (last : ℕ) (numbers : List ℕ → ℕ) : Type 0 where
-  pub none : (name : List ℕ) → database_of name store ≡ None → numbers name ≡ 0
-  pub allocated : (name : List ℕ) → IsSome (database_of name store) → (0 < numbers name) × (numbers name ≤ last)
-  pub apart : (name other : List ℕ) → IsSome (database_of name store) → numbers name ≡ numbers other → name ≡ other
+abbrev pub pairs_loaded : List ℕ → Kind → PutMode → List DumpPair → List Pair → List Pair
+pairs_loaded db kind mode [] pairs = pairs
+pairs_loaded db kind mode (pair ∷ dumped) pairs = pairs_loaded db kind mode dumped (put_among db kind mode pair pairs)
 
 -- A load of which all lines were given. Before it the store was right, and each of its databases had a number of its own.
 pub record IsWholeLoad (make : Bool) (db : List ℕ) (kept : Bool) (dump : Dump) (st : Standing) (journal : List Event) : Type 0 where
@@ -41,13 +36,13 @@ pub record IsWholeLoad (make : Bool) (db : List ℕ) (kept : Bool) (dump : Dump)
   pub have : HaveNumbers st.store st.last_db st.numbers
 
 -- a database of a store has the pairs of a dump put among the records that it had
-abbrev pub HasLoaded : List ℕ → Bool → Dump → Database → Store → Type 0
-HasLoaded db kept dump d store = database_of db store ≡ Some (with_pairs d (loaded db d.kind (load_mode kept dump.dup) dump.pairs d.pairs))
+abbrev pub HasDumpedPairs : List ℕ → Bool → Dump → Database → Store → Type 0
+HasDumpedPairs db kept dump d store = database_of db store ≡ Some (with_pairs d (pairs_loaded db d.kind (load_mode kept dump.dup) dump.pairs d.pairs))
 
 -- Where no call was refused, the commit too, the store has the pairs in the end. What the load attempts is all of them, or none where it did not commit.
 pub record StoresPairs (make : Bool) (db : List ℕ) (kept : Bool) (dump : Dump) (st : Standing) (journal : List Event) (d : Database) : Type 0 where
-  pub final : list_any (is_refused kept) journal ≡ false → HasLoaded db kept dump d (after_events st journal).store
-  pub attempted : (store_after st.store (attempts_of st journal) ≡ made_store make db (kind_of_dump dump.dup) st.store) ⊎ HasLoaded db kept dump d (store_after st.store (attempts_of st journal))
+  pub final : list_any (is_refused kept) journal ≡ false → HasDumpedPairs db kept dump d (after_events st journal).store
+  pub attempted : (store_after st.store (attempts_of st journal) ≡ made_store make db (kind_of_dump dump.dup) st.store) ⊎ HasDumpedPairs db kept dump d (store_after st.store (attempts_of st journal))
 
 -- so does each load of which all lines were given, with the database that it made or found
 abbrev pub LoadsStoreTheirPairs : Type 0

@@ -18,7 +18,8 @@ use Rattle.je_answers.specs.Journal.{line_of, lines_of}
 use Rattle.load_run.specs.Lines.{commit_line, kind_of_dump, load_lines, load_mode, pair_lines, put_line}
 use Rattle.load_laws.specs.Given.{AreEndsLast, IsEndLast}
 use Rattle.load_laws.specs.Images.{IsLoadOf}
-use Rattle.load_laws.specs.Stored.{HaveNumbers, IsWholeLoad}
+use Rattle.load_laws.specs.Stored.{IsWholeLoad}
+use Rattle.je_answers.specs.Numbers.{HaveNumbers}
 use Rattle.je_disk.specs.States.{Files}
 use Rattle.store_model.specs.declared.store.Store.{Store}
 use Rattle.store_model.specs.Store.{IsStore}

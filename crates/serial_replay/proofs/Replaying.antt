@@ -46,7 +46,8 @@ use Rattle.standing_laws.proofs.StandingsBare.{standings_stay-bare}
 use Rattle.standing_laws.proofs.AloneRight.{alone-is_right}
 use Rattle.serial_replay.specs.Replay.{HasPair, primary_in, over_in, AnsweredCall, Positions, Reply, calls_of, is_of_cursors, cursor_of, nowhere, position_of, positions_after, comes_to, on_store, replayed, GivesAgain, IsRecordOf, StandsAgain, IsOwedTo, is_committed, IsOwedBy, IsOwedAt, told_by, with_told, ReplaysFrom}
 use Rattle.indexed_standings.specs.Indexed.{AreIndexedFor}
-use Rattle.serial_replay.specs.Laws.{HaveNumbers, JournalsReplay, IsIndexedAt, StaysIndexed, IndexesStay, NoneIsIndexed}
+use Rattle.serial_replay.specs.Laws.{JournalsReplay, IsIndexedAt, StaysIndexed, IndexesStay, NoneIsIndexed}
+use Rattle.je_answers.specs.Numbers.{HaveNumbers}
 use Rattle.serial_replay.proofs.IndexesSeen.{first_up, are_indexed, are_seen}
 use Rattle.serial_replay.proofs.Stores.{Numbers, Base, over_by, base_of, IsBased, pairs_of, base_at, pairs_at, based, numbered_in, number_of_found, same_bytes, IsFit, named_in, named_same, AreNumbered, named_append, all_append, all_base, all_pairs, all_right, numbered_all, by_number, by_found, AreOver, indexed_over, over_all}
 use Rattle.serial_replay.proofs.Through.{records_number, changed_by, answered_by, in_index, reply_changes, IsFound, found_target, changes_are, same_reply, all_there}

@@ -1,23 +1,18 @@
 -- What holds of every journal.
-use Rattle.std.specs.Prelude.{ℕ, ◌≡◌, ◌<◌, ◌≤◌, ◌∷◌, [], List, Option, None, IsSome}
+use Rattle.std.specs.Prelude.{◌≡◌, ◌∷◌, [], List, Option, None}
 use Rattle.std.specs.List.{AllByRecursion}
 use Rattle.store_model.specs.declared.store.Store.{Store}
 use Rattle.store_model.specs.declared.answer.Answer.{Answer}
 use Rattle.store_model.specs.declared.event.Event.{Event}
-use Rattle.store_model.specs.Store.{IsStore, database_of}
+use Rattle.store_model.specs.Store.{IsStore}
 use Rattle.store_model.specs.Indexes.{AreIndexed, HasNoIndex}
+use Rattle.je_answers.specs.Numbers.{HaveNumbers}
 use Rattle.je_answers.specs.Standing.{Standing}
 use Rattle.je_answers.specs.Alone.{Alone, alone}
 use Rattle.je_answers.specs.After.{after_event, AnswersAsModel}
 use Rattle.indexed_standings.specs.Indexed.{AreIndexedFor}
 use Rattle.serial_replay.specs.Replay.{ReplaysSerially}
 use Rattle.serial_replay.specs.Cycles.{NeverWaitInCycle}
-
--- numbers of databases: 0 where the store has none of that name; else allocated before, and no two alike
-pub record HaveNumbers (store : Store) (last_db : ℕ) (numbers : List ℕ → ℕ) : Type 0 where
-  pub none : (name : List ℕ) → database_of name store ≡ None → numbers name ≡ 0
-  pub allocated : (name : List ℕ) → IsSome (database_of name store) → (0 < numbers name) × (numbers name ≤ last_db)
-  pub apart : (name other : List ℕ) → IsSome (database_of name store) → numbers name ≡ numbers other → name ≡ other
 
 -- ---- isolation
 

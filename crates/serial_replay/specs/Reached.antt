@@ -10,7 +10,8 @@ use Rattle.je_answers.specs.Alone.{Alone, alone}
 use Rattle.je_answers.specs.Events.{IsAnswered}
 use Rattle.je_answers.specs.After.{after_event, after_events, AnswersAsModel}
 use Rattle.je_answers.specs.Journal.{attempt_of, attempts_of}
-use Rattle.serial_replay.specs.Laws.{HaveNumbers, IsIndexedAt}
+use Rattle.serial_replay.specs.Laws.{IsIndexedAt}
+use Rattle.je_answers.specs.Numbers.{HaveNumbers}
 
 -- a beginning, where no transaction is under way: a right store with numbers, whose indexes have the pairs of their primaries' records
 pub record IsBeginning (p : Alone) : Type 0 where
