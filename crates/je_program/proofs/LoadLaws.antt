@@ -14,7 +14,7 @@ use Rattle.store_model.specs.declared.kind.Kind.{Kind}
 use Rattle.store_model.specs.declared.put_mode.PutMode.{PutMode}
 use Rattle.store_model.specs.declared.plan.ScriptLine.{ScriptLine}
 use Rattle.store_model.specs.declared.store.Store.{Store}
-use Rattle.store_model.specs.Store.{IsStore, database_of, no_databases}
+use Rattle.store_model.specs.Store.{database_of, no_databases}
 use Rattle.script_text.specs.Grammar.{is_line}
 use Rattle.je_answers.specs.Standing.{Standing}
 use Rattle.je_answers.specs.After.{after_events}
@@ -23,20 +23,17 @@ use Rattle.je_answers.specs.Journal.{lines_of}
 use Rattle.load_run.specs.Lines.{commit_line, kind_of_dump, load_lines, load_mode, pair_lines, put_line}
 use Rattle.load_laws.specs.Given.{is_refusal, is_refused}
 use Rattle.load_laws.specs.Images.{IsLoadOf}
-use Rattle.load_laws.specs.Stored.{IsWholeLoad}
-use Rattle.je_answers.specs.Numbers.{HaveNumbers}
 use Rattle.load_laws.proofs.LoadImages.{loads_whole}
 use Rattle.load_laws.proofs.LoadStores.{pairs_stored}
 use Rattle.log_replay.specs.declared.corruption.Corruption.{Corruption}
 use Rattle.engine.specs.declared.open_err.OpenErr.{OpenErr}
 use Rattle.engine.specs.declared.open_err.OpenErr.TheVariants.{Disk as NoDisk, Memory as NoMemory, IdsEnded as NoNumbers, Unreadable as CannotRead, WrongIndex as FoundWrong}
 use Rattle.engine.specs.Crash.{KeepsEntry}
-use Rattle.engine.specs.Opening.{AreNumbers, StartsAt, StopsBy}
+use Rattle.engine.specs.Opening.{StartsAt, StopsBy}
 use Rattle.engine.specs.Untouched.{IsLeftAlone}
 use Rattle.command_line.specs.declared.command.Command.TheVariants.{Load}
 use Rattle.environment.specs.declared.environment.Environment.{Environment}
 use Rattle.environment.specs.Whole.{CanGoOn, disk_of}
-use Rattle.environment.proofs.ReachedLaws.{starts_begins}
 use Rattle.script_run.specs.declared.pause.Pause.TheVariants.{AtRefusal}
 use Rattle.script_run.specs.declared.running.Running.{Running}
 use Rattle.script_run.specs.Ends.{AreEndsInPlace}
@@ -44,6 +41,7 @@ use Rattle.script_run.specs.Events.Awaited.{Nothing}
 use Rattle.script_run.specs.Pauses.{HasLinesUntil, pauses}
 use Rattle.script_run.specs.Running.{Begins}
 use Rattle.script_run.specs.UnderWay.{Beginning, IsCalm, IsUnderWay, standing}
+use Rattle.script_run.proofs.LoadRuns.{whole_of}
 use Rattle.script_run.proofs.RunLaws.{started, starts_calm}
 use Rattle.je_program.specs.declared.cause.Cause.{Cause}
 use Rattle.je_program.specs.declared.cause.Cause.TheVariants.{Done, Usage, BadScript, BadDump, Disk, Unreadable, WrongIndex, Memory, NoEnvironment, NoDatabase, OtherKind, RefusedPair, Input, InputTooLong, LogFull, IdsEnded}
@@ -185,25 +183,13 @@ none_loaded make db kept dump st at journal is empty = subst (IsLoadOf make db k
 
 -- ---- what it stores
 
--- where a run of a load begins, and all its lines were given
-whole_load : (make : Bool) (db : List ℕ) (kept : Bool) (dump : DumpRead) (observable : Bool) (files : Files) (opening : Store) (st : Standing) (journal : List Event) → StartsAt observable files opening st →
-    IsLoadOf make db kept dump st journal → lines_of journal ≡ load_lines make db kept dump → IsWholeLoad make db kept dump st journal
-whole_load make db kept dump observable files opening st journal starts load lines =
-    let numbers : AreNumbers starts.alone_at.store starts.alone_at.last_db starts.alone_at.numbers = subst (λ (o : Store). AreNumbers o starts.alone_at.last_db starts.alone_at.numbers) (sym starts.store) starts.numbers in
-    let have : HaveNumbers starts.alone_at.store starts.alone_at.last_db starts.alone_at.numbers = record { none = numbers.none; allocated = numbers.allocated; apart = numbers.apart } in
-    record {
-      load = load;
-      lines = lines;
-      right = subst (λ (s : Standing). IsStore s.store) (sym starts.st_is) (starts_begins observable files opening st starts).store;
-      have = subst (λ (s : Standing). HaveNumbers s.store s.last_db s.numbers) (sym starts.st_is) have;
-    }
-
+-- an opened environment's load stores so
 stores_dump : (make : Bool) (db : List ℕ) (kept : Bool) (dump : DumpRead) (observable : Bool) (files : Files) (opening : Store) (st : Standing) (journal : List Event) (cause : Cause) → StartsAt observable files opening st →
     IsLoadOf make db kept dump st journal → (cause ≡ Done → lines_of journal ≡ load_lines make db kept dump) → (cause ≡ Done → first_refused kept journal ≡ None) → StoresDump make db kept dump st journal cause
 stores_dump make db kept dump observable files opening st journal cause starts load all done = record {
   whole = loads_whole make db kept dump st journal load;
-  attempted = λ lines d found. (pairs_stored make db kept dump st journal d (whole_load make db kept dump observable files opening st journal starts load lines) found).attempted;
-  stored = λ is d found. (pairs_stored make db kept dump st journal d (whole_load make db kept dump observable files opening st journal starts load (all is)) found).final (none_refused kept journal (done is));
+  attempted = λ lines d found. (pairs_stored make db kept dump st journal d (whole_of observable files opening st starts make db kept dump journal load lines) found).attempted;
+  stored = λ is d found. (pairs_stored make db kept dump st journal d (whole_of observable files opening st starts make db kept dump journal load (all is)) found).final (none_refused kept journal (done is));
 }
 
 -- ---- the database
