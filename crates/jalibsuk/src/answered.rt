@@ -1,0 +1,89 @@
+// What callers are told of answers.
+ghost use Rattle.std.specs.Prelude.{◌≡◌};
+ghost use Rattle.jalibsuk.specs.Told.{and_then, deleted_in, done_in, record_told};
+
+use crate::error::error_told;
+use crate::{Error, Record};
+use store_model::Answer;
+
+fn found(answer: Answer) -> Result<Option<Record>, Error>
+    ensures { result ≡ record_told answer }
+{
+    match answer {
+        Answer::Rec { key, value } => Ok(Some(Record { key, data: value })),
+        Answer::IndexRec {
+            key,
+            primary_key,
+            value,
+        } => {
+            drop(key);
+            Ok(Some(Record {
+                key: primary_key,
+                data: value,
+            }))
+        }
+        Answer::NotFound => Ok(None),
+        other => {
+            let error = error_told(&other);
+            drop(other);
+            Err(error)
+        }
+    }
+}
+
+fn done(answer: Answer) -> Result<(), Error>
+    ensures { result ≡ done_in answer }
+{
+    match answer {
+        Answer::Done => Ok(()),
+        other => {
+            let error = error_told(&other);
+            drop(other);
+            Err(error)
+        }
+    }
+}
+
+fn deleted(answer: Answer) -> Result<bool, Error>
+    ensures { result ≡ deleted_in answer }
+{
+    match answer {
+        Answer::Done => Ok(true),
+        Answer::NotFound => Ok(false),
+        other => {
+            let error = error_told(&other);
+            drop(other);
+            Err(error)
+        }
+    }
+}
+
+// The record that was found, or none.
+pub(crate) fn found_of(answered: Result<Answer, Error>) -> Result<Option<Record>, Error>
+    ensures { result ≡ and_then answered record_told }
+{
+    match answered {
+        Ok(answer) => found(answer),
+        Err(error) => Err(error),
+    }
+}
+
+// That it was done.
+pub(crate) fn done_of(answered: Result<Answer, Error>) -> Result<(), Error>
+    ensures { result ≡ and_then answered done_in }
+{
+    match answered {
+        Ok(answer) => done(answer),
+        Err(error) => Err(error),
+    }
+}
+
+// Whether a record was deleted.
+pub(crate) fn deleted_of(answered: Result<Answer, Error>) -> Result<bool, Error>
+    ensures { result ≡ and_then answered deleted_in }
+{
+    match answered {
+        Ok(answer) => deleted(answer),
+        Err(error) => Err(error),
+    }
+}

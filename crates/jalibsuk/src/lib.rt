@@ -1,0 +1,32 @@
+//! An open environment as methods, for programs that embed the store. A transaction is a linear token: a program that neither commits nor aborts it
+//! does not compile. The invariant of an environment is of its type, so a user's function carries no clause and no proof; each method's clauses say,
+//! on the environment that it is given, all that the store below promises of the call. It stands on `environment`. Not there yet: cursors and scans,
+//! making indexes, removing, renaming and emptying databases, checkpoints, and calls outside a transaction but `create_db` (docs/NOT_YET.md).
+#![tactic(auto)]
+
+mod answered;
+mod asking;
+mod beginning;
+mod catalog;
+mod db;
+mod env;
+mod error;
+mod named;
+mod opening;
+mod options;
+mod reading;
+mod record;
+mod settling;
+mod stage;
+mod syncing;
+mod transactions;
+mod txn;
+mod writing;
+
+pub use db::{Db, Index};
+pub use env::Env;
+pub use error::Error;
+pub use options::Options;
+pub use record::Record;
+pub use store_model::{Durability, Isolation, Kind};
+pub use txn::{Txn, TxnOptions};
