@@ -1,5 +1,6 @@
 -- Names by handles, and calls that are made of them.
-use Rattle.std.specs.Prelude.{ℕ, ◌≡◌, ◌⊎◌, List, Option, None, Some, Result, Ok, Err, slice_index_or}
+use Rattle.std.specs.Prelude.{ℕ, ◌≡◌, ◌⊎◌, Bool, false, List, Option, None, Some, Result, Ok, Err, map, slice_index_or, if◌then◌else◌}
+use Rattle.je_order.specs.Order.{is_same_bytes}
 use Rattle.jalibsuk.specs.declared.error.Error.{Error}
 use Rattle.jalibsuk.specs.declared.error.Error.TheVariants.{Memory, NoDatabase}
 
@@ -12,3 +13,12 @@ module _ {X : Type 0} where
   abbrev pub IsMade : Option X → Result X Error → Type 0
   IsMade there (Ok x) = there ≡ Some x
   IsMade there (Err e) = ((e ≡ NoDatabase) × (there ≡ None)) ⊎ (e ≡ Memory)
+
+-- whether a handle's database has that name
+abbrev pub is_of_name : List ℕ → Option (List ℕ) → Bool
+is_of_name name None = false
+is_of_name name (Some own) = is_same_bytes own name
+
+-- the names once the database of that name has another one, or was removed
+abbrev pub names_after : List ℕ → Option (List ℕ) → List (Option (List ℕ)) → List (Option (List ℕ))
+names_after name to names = map (λ own. if is_of_name name own then to else own) names

@@ -1,6 +1,5 @@
 -- A sync of all commits so far, as one call.
-use Rattle.std.specs.Prelude.{ℕ, ◌≡◌, ◌⊎◌, ◌≤◌, ◌++◌, ◌∷◌, [], List, Option, None, Some, true}
-use Rattle.je_order.specs.Counts.{HasRisen}
+use Rattle.std.specs.Prelude.{ℕ, ◌≡◌, ◌⊎◌, ◌≤◌, ◌++◌, ◌∷◌, [], List, None, Some, true}
 use Rattle.je_disk.specs.DiskMeaning.{DiskMeaning}
 use Rattle.je_disk.specs.Moments.{History}
 use Rattle.store_model.specs.declared.answer.Answer.{Answer}

@@ -1,9 +1,11 @@
 //! An open environment as methods, for programs that embed the store. A transaction is a linear token: a program that neither commits nor aborts it
 //! does not compile. The invariant of an environment is of its type, so a user's function carries no clause and no proof; each method's clauses say,
 //! on the environment that it is given, all that the store below promises of the call. It stands on `environment`. Not there yet: cursors and scans,
-//! making indexes, removing, renaming and emptying databases, checkpoints, and calls outside a transaction but `create_db` (docs/NOT_YET.md).
+//! counts, and checkpoints (docs/NOT_YET.md).
 #![tactic(auto)]
 
+mod alone;
+mod altering;
 mod answered;
 mod asking;
 mod beginning;
@@ -11,11 +13,13 @@ mod catalog;
 mod db;
 mod env;
 mod error;
+mod indexing;
 mod named;
 mod opening;
 mod options;
 mod reading;
 mod record;
+mod renaming;
 mod settling;
 mod stage;
 mod syncing;
@@ -28,5 +32,5 @@ pub use env::Env;
 pub use error::Error;
 pub use options::Options;
 pub use record::Record;
-pub use store_model::{Durability, Isolation, Kind};
+pub use store_model::{Durability, Extract, Isolation, Kind};
 pub use txn::{Txn, TxnOptions};

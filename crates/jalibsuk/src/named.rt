@@ -1,5 +1,6 @@
 // Calls on databases that handles name.
-ghost use Rattle.std.specs.Prelude.{◌≡◌, ℕ, List, Option as Maybe, option_map, false};
+ghost use Rattle.std.specs.Prelude.{◌≡◌, ℕ, IsTrue, List, Option as Maybe, Some, option_map, false};
+ghost use Rattle.je_order.specs.Words.{is_word};
 ghost use Rattle.store_model.specs.declared.call.Call.TheVariants.{Delete as Deletes, Get as Gets, GetBoth as GetsBoth, Put as Puts};
 ghost use Rattle.jalibsuk.specs.Named.{IsMade, name_of_handle};
 
@@ -30,6 +31,17 @@ pub(crate) fn name_of(names: &[Option<Word>], number: usize) -> Result<Word, Err
             }
         }
         None => Err(Error::NoDatabase),
+    }
+}
+
+// A text as a name.
+pub(crate) fn word(alloc: Global, name: &[u8]) -> Result<Word, Error>
+    requires { IsTrue (is_word name.now) }
+    ensures { IsMade (Some name.now) result }
+{
+    match Word::from_slice(alloc, name) {
+        Ok(word) => Ok(word),
+        Err(_) => Err(Error::Memory),
     }
 }
 

@@ -1,5 +1,3 @@
-use Rattle.std.proofs.Common.{ap, sym}
-use Rattle.jalibsuk.specs.Told.{answer_told}
 use Rattle.jalibsuk.proofs.Usables.{usable_after}
 use Rattle.jalibsuk.proofs.asking.ask.Goals as goal
 

@@ -1,4 +1,4 @@
-use Rattle.std.proofs.Common.{ℕ, List, Option, ap, subst, false, true, option_map}
+use Rattle.std.proofs.Common.{ℕ, List, Option, ap, subst, option_map}
 use Rattle.jalibsuk.specs.Seen.{Seen}
 use Rattle.store_model.specs.declared.call.Call.TheVariants.{Delete}
 use Rattle.jalibsuk.specs.Told.{deleted_in}

@@ -1,4 +1,4 @@
-use Rattle.std.proofs.Common.{ℕ, List, Option, ap, subst, false, true, option_map}
+use Rattle.std.proofs.Common.{ℕ, List, Option, ap, subst, true, option_map}
 use Rattle.jalibsuk.specs.Seen.{Seen}
 use Rattle.store_model.specs.declared.call.Call.TheVariants.{Get}
 use Rattle.jalibsuk.specs.Told.{record_told}
