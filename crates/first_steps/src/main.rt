@@ -3,8 +3,7 @@
 #![tactic(auto)]
 
 use dir_disk::DirDisk;
-use jalibsuk::{Db, Env, Error, Kind, Options, Record, Txn, TxnOptions};
-use je_disk::Disk;
+use jalibsuk::{Db, Disk, Env, Error, Kind, Options, Record, Txn, TxnOptions};
 use std::io;
 
 // The changes of the first transaction.
@@ -22,17 +21,11 @@ fn work<D: Disk + Drop>(env: &mut Env<D>) -> Result<Option<Record>, Error> {
     }
     let stock = env.db(b"stock")?;
     let writing = env.begin(TxnOptions::default())?;
-    match fill(env, &writing, stock) {
-        Ok(()) => env.commit(writing)?,
-        Err(error) => {
-            env.abort(writing);
-            return Err(error);
-        }
-    }
+    let filled = fill(env, &writing, stock);
+    env.finish(writing, filled)?;
     let reading = env.begin(TxnOptions::default())?;
     let found = env.get(&reading, stock, b"lemon");
-    env.commit(reading)?;
-    found
+    env.finish(reading, found)
 }
 
 fn main(rt: HostRuntime) -> io::Result<()> {

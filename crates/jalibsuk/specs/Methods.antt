@@ -90,6 +90,11 @@ module _ {D : Type 0} (meaning : DiskMeaning D) where
       (durability : Durability) × ((most : ℕ) (st : Standing) → StandsAt meaning most old st → durability ≡ durability_of (active_of session st.actives))
       × (middle : Environment D) × (answered : Result Answer Error) × HasAsked old middle session Commit answered × Settles durability session middle new (stage_of answered) result
 
+  -- a session's transaction is committed where what was to be done in it was done, else aborted
+  abbrev pub Finishes : {A : Type 0} → Environment D → Environment D → ℕ → Result A Error → Result A Error → Type 0
+  Finishes old new session (Ok x) result = (committed : Result (Unit {0}) Error) × Commits old new session committed × (result ≡ and_then committed (λ u. Ok x))
+  Finishes old new session (Err e) result = HasEnded meaning old new session × (result ≡ Err e)
+
   -- ---- calls that are transactions of their own
 
   -- what follows such a call: the sync of its commit; where it would wait it is withdrawn, and its session ends; else nothing

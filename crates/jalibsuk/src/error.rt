@@ -163,3 +163,5 @@ impl Display for Error {
         f.write_str(text_of(self))
     }
 }
+
+impl std::error::Error for Error {}

@@ -30,6 +30,8 @@ mod writing;
 pub use db::{Db, Index};
 pub use env::Env;
 pub use error::Error;
+pub use je_disk::Disk;
+pub use je_order::{Octets, TxnId};
 pub use options::Options;
 pub use record::Record;
 pub use store_model::{Durability, Extract, Isolation, Kind};

@@ -1,7 +1,7 @@
 // Transactions.
 ghost use Rattle.std.specs.Prelude.{◌≡◌};
 ghost use Rattle.jalibsuk.specs.Stepped.{HasEnded};
-ghost use Rattle.jalibsuk.specs.Methods.{Begins, Commits, Syncs};
+ghost use Rattle.jalibsuk.specs.Methods.{Begins, Commits, Finishes, Syncs};
 
 use crate::beginning::begin;
 use crate::settling::{commit, sync_all};
@@ -36,6 +36,27 @@ impl<D: Disk + Drop> Env<D> {
     {
         let Txn { session } = txn;
         end(&mut self.environment, session);
+    }
+
+    /// Ends the transaction by what was done in it: commits it where that is `Ok`, and gives the value; else aborts it, and gives the error. Errors
+    /// of the commit as `commit`.
+    pub fn finish<T: Drop>(&mut self, txn: Txn, done: Result<T, Error>) -> Result<T, Error>
+        ensures finishes { Finishes D.meaning self.old.environment self.new.environment txn.session done result }
+        ensures names { self.new.names ≡ self.old.names }
+    {
+        match done {
+            Ok(value) => match self.commit(txn) {
+                Ok(()) => Ok(value),
+                Err(error) => {
+                    drop(value);
+                    Err(error)
+                }
+            },
+            Err(error) => {
+                self.abort(txn);
+                Err(error)
+            }
+        }
     }
 
     /// Makes each commit so far durable, whatever its transaction's options. Errors: `DiskFault`, `Invalid`.
