@@ -1,5 +1,5 @@
 // Databases and their handles.
-ghost use Rattle.std.specs.Prelude.{◌≡◌, ◌++◌, ◌∷◌, [], Some, Err, IfOk, OnErr, IsTrue, length, true, false};
+ghost use Rattle.std.specs.Prelude.{◌≡◌, ◌++◌, ◌∷◌, [], Some, Err, IfOk, IfErr, OnErr, IsTrue, length, true, false};
 ghost use Rattle.je_order.specs.Words.{is_word};
 ghost use Rattle.store_model.specs.declared.call.Call.TheVariants.{Create as Creates};
 ghost use Rattle.jalibsuk.specs.Named.{IsMade};
@@ -28,7 +28,8 @@ fn create(alloc: Global, name: &[u8], kind: Kind) -> Result<Call, Error>
 // A name as an entry of the handles.
 fn entry(alloc: Global, name: &[u8]) -> Result<Option<Word>, Error>
     requires { IsTrue (is_word name.now) }
-    ensures { IfOk result (λ o. o ≡ Some name.now) }
+    ensures value { IfOk result (λ o. o ≡ Some name.now) }
+    ensures cause { IfErr result (λ e. e ≡ Error.Memory) }
 {
     match Word::from_slice(alloc, name) {
         Ok(name) => Ok(Some(name)),
@@ -40,6 +41,7 @@ fn entry(alloc: Global, name: &[u8]) -> Result<Option<Word>, Error>
 fn add_name(names: &mut Vec<Option<Word>>, entry: Option<Word>) -> Result<Db, Error>
     ensures handle { IfOk result (λ db. (db.number ≡ length names.old.items) × (names.new.items ≡ names.old.items ++ entry ∷ [])) }
     ensures same { OnErr result (names.new.items ≡ names.old.items) }
+    ensures cause { IfErr result (λ e. e ≡ Error.Memory) }
 {
     let number = names.len();
     match names.push(entry) {
@@ -52,7 +54,7 @@ impl<D: Disk + Drop> Env<D> {
     /// Makes a database, as a transaction of its own that is synced. `BadName` where the name is none. Other errors: `NameTaken`,
     /// `TooManyDatabases`, `LogFull`, `IdsEnded`, `DiskFault`, `Invalid`, `Memory`.
     pub fn create_db(&mut self, name: &[u8], kind: Kind) -> Result<(), Error>
-        ensures bad { is_word name.now ≡ false → result ≡ Err Error.BadName }
+        ensures bad { is_word name.now ≡ false → (result ≡ Err Error.BadName) × (self.new.environment ≡ self.old.environment) }
         ensures calls { is_word name.now ≡ true → CallsNow D.meaning done_in self.old.environment self.new.environment (Some (Creates name.now kind)) result }
         ensures names { self.new.names ≡ self.old.names }
     {
@@ -67,6 +69,8 @@ impl<D: Disk + Drop> Env<D> {
     pub fn db(&mut self, name: &[u8]) -> Result<Db, Error>
         ensures handle { IfOk result (λ db. (db.number ≡ length self.old.names) × (self.new.names ≡ self.old.names ++ Some name.now ∷ [])) }
         ensures same { OnErr result (self.new.names ≡ self.old.names) }
+        ensures bad { is_word name.now ≡ false → result ≡ Err Error.BadName }
+        ensures cause { is_word name.now ≡ true → IfErr result (λ e. e ≡ Error.Memory) }
         ensures environment { self.new.environment ≡ self.old.environment }
     {
         if !Word::is_word(name) {

@@ -1,5 +1,5 @@
 // Indexes and their handles.
-ghost use Rattle.std.specs.Prelude.{◌≡◌, ◌⊎◌, ◌++◌, ◌∷◌, [], Some, Err, IfOk, OnErr, IsTrue, length, true, false};
+ghost use Rattle.std.specs.Prelude.{◌≡◌, ◌⊎◌, ◌++◌, ◌∷◌, [], Some, Err, IfOk, IfErr, OnErr, IsTrue, length, true, false};
 ghost use Rattle.je_order.specs.Words.{is_word};
 ghost use Rattle.store_model.specs.Making.{IsSlice, IsWithinLimits};
 ghost use Rattle.store_model.specs.declared.call.Call.TheVariants.{CreateIndex as CreatesIndex};
@@ -85,6 +85,8 @@ impl<D: Disk + Drop> Env<D> {
     pub fn index(&mut self, name: &[u8]) -> Result<Index, Error>
         ensures handle { IfOk result (λ index. (index.number ≡ length self.old.names) × (self.new.names ≡ self.old.names ++ Some name.now ∷ [])) }
         ensures same { OnErr result (self.new.names ≡ self.old.names) }
+        ensures bad { is_word name.now ≡ false → result ≡ Err Error.BadName }
+        ensures cause { is_word name.now ≡ true → IfErr result (λ e. e ≡ Error.Memory) }
         ensures environment { self.new.environment ≡ self.old.environment }
     {
         let Db { number } = self.db(name)?;
