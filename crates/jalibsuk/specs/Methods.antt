@@ -52,16 +52,17 @@ module _ {D : Type 0} (meaning : DiskMeaning D) where
 
   -- ---- beginnings
 
-  -- a session for transactions that has none
+  -- a session that has no transaction
   pub record IsFree (environment : Environment D) (session : ℕ) : Type 0 where
     pub none : (most : ℕ) (st : Standing) → StandsAt meaning most environment st → active_of session st.actives ≡ None
 
-  -- a transaction began in a session that had none, and it waits for no lock; or each session has one
+  -- a transaction began in a session that had none, and it waits for no lock; or each session has one. Sessions from 1 to 63 are for transactions: that of
+  -- the calls outside them is none of these
   abbrev pub Begins : Environment D → Environment D → Isolation → Durability → Result Token Error → Type 0
   Begins old new isolation durability result =
       ((result ≡ Err TooManyTransactions) × (new ≡ old)
       × ((session : ℕ) → 1 ≤ session → session ≤ 63 → (most : ℕ) (st : Standing) → StandsAt meaning most old st → is_some (active_of session st.actives) ≡ true))
-      ⊎ ((session : ℕ) × IsFree old session × (answered : Result Answer Error) × HasAsked old new session (Begin isolation durability false) answered × (result ≡ token_in session answered))
+      ⊎ ((session : ℕ) × (1 ≤ session) × (session ≤ 63) × IsFree old session × (answered : Result Answer Error) × HasAsked old new session (Begin isolation durability false) answered × (result ≡ token_in session answered))
 
   -- ---- commits
 

@@ -17,6 +17,7 @@ use Rattle.engine.specs.declared.open_err.OpenErr.TheVariants.{Disk, Memory, Ids
 use Rattle.environment.specs.declared.environment.Environment.{Environment}
 use Rattle.environment.specs.Whole.{IsGuarded, IsOpened, IsOpenedSafely, disk_of}
 use Rattle.jalibsuk.specs.declared.error.Error.{Error}
+use Rattle.jalibsuk.specs.declared.not_opened.NotOpened.{NotOpened}
 use Rattle.jalibsuk.specs.declared.error.Error.TheVariants as error
 use Rattle.jalibsuk.specs.Usable.{StandsAt}
 
@@ -42,8 +43,7 @@ module _ {D : Type 0} (meaning : DiskMeaning D) where
     pub faults : meaning.faults disk ≤ meaning.faults (disk_of environment)
 
   -- it was not, by this cause, and the disk was left so
-  pub record HasStopped (disk : D) (e : Error) : Type 0 where
-    pub left : D
+  pub record HasStopped (disk left : D) (e : Error) : Type 0 where
     pub cause : OpenErr
     pub told : e ≡ error_of_opening cause
     pub entry : meaning.observable ≡ true → KeepsEntry (meaning.history disk) (meaning.history left)
@@ -51,13 +51,17 @@ module _ {D : Type 0} (meaning : DiskMeaning D) where
     pub faults : meaning.faults disk ≤ meaning.faults left
     pub left_alone : meaning.observable ≡ true → IsLeftAlone cause (meaning.history disk) (meaning.history left)
 
-  abbrev pub IsOpening : {X : Type 0} → ℕ → D → (X → Environment D) → Result X Error → Type 0
+  abbrev pub IsOpening : {X : Type 0} → ℕ → D → (X → Environment D) → Result X (NotOpened D) → Type 0
   IsOpening file_max disk environment_of (Ok x) = HasOpened file_max disk (environment_of x)
-  IsOpening file_max disk environment_of (Err e) = HasStopped disk e
+  IsOpening file_max disk environment_of (Err stopped) = HasStopped disk stopped.disk stopped.error
+
+  -- the same where the disk is let go
+  abbrev pub IsOpeningAlone : {X : Type 0} → ℕ → D → (X → Environment D) → Result X Error → Type 0
+  IsOpeningAlone file_max disk environment_of (Ok x) = HasOpened file_max disk (environment_of x)
+  IsOpeningAlone file_max disk environment_of (Err e) = (left : D) × HasStopped disk left e
 
   -- it was closed, and its disk was left so: the files mean the committed store, unless the disk failed
-  pub record HasClosed (old : Environment D) (result : Result (Unit {0}) Error) : Type 0 where
-    pub left : D
+  pub record HasClosed (old : Environment D) (left : D) (result : Result (Unit {0}) Error) : Type 0 where
     pub failed : Bool
     pub told : result ≡ told_closed failed
     pub crash : meaning.observable ≡ true → (most : ℕ) (st : Standing) (start : History) (journal : List Event) → IsGuarded most st start (meaning.history (disk_of old)) old journal

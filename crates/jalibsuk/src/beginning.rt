@@ -16,6 +16,7 @@ use store_model::{Answer, Call};
 // The first session from 1 to 63 that has no transaction.
 fn free_session<D: Disk>(environment: &Environment<D>) -> Option<u8>
     ensures free { IfSome result (λ session. IsFree D.meaning environment.now session) }
+    ensures range { IfSome result (λ session. (1 ≤ session) × (session ≤ 63)) }
     ensures all { IsNone result → (session : ℕ) → 1 ≤ session → session ≤ 63 → (most : ℕ) (st : Standing) → StandsAt D.meaning most environment.now st → is_some (active_of session st.actives) ≡ true }
 {
     for session in 1..64u8 {

@@ -1,9 +1,9 @@
 // Opening and closing.
 ghost use Rattle.std.specs.Prelude.{◌≡◌, [], IfOk};
-ghost use Rattle.jalibsuk.specs.Opened.{HasClosed, IsOpening, error_of_opening, told_closed};
+ghost use Rattle.jalibsuk.specs.Opened.{HasClosed, IsOpening, IsOpeningAlone, error_of_opening, told_closed};
 ghost use Rattle.jalibsuk.specs.Usable.{IsUsable};
 
-use crate::{Env, Error, Options};
+use crate::{Env, Error, NotOpened, Options};
 use environment::{Closed, Config, Environment, OpenErr, Opened, Stopped};
 use je_disk::Disk;
 use std::alloc::Global;
@@ -29,7 +29,7 @@ fn open_environment<D: Disk + Drop>(
     alloc: Global,
     disk: D,
     options: Options,
-) -> Result<Environment<D>, Error>
+) -> Result<Environment<D>, NotOpened<D>>
     ensures usable { IfOk result (λ environment. IsUsable D.meaning environment) }
     ensures opening { IsOpening D.meaning options.file_max disk (λ environment. environment) result }
 {
@@ -48,24 +48,23 @@ fn open_environment<D: Disk + Drop>(
         }
         Err(stopped) => {
             let Stopped { error, disk } = stopped;
-            drop(disk);
-            Err(opening_error(error))
+            let error = opening_error(error);
+            Err(NotOpened { error, disk })
         }
     }
 }
 
-// Closes an environment.
-fn close_environment<D: Disk + Drop>(environment: Environment<D>) -> Result<(), Error>
-    ensures closed { HasClosed D.meaning environment result }
+// Closes an environment, and gives its disk.
+fn close_environment<D: Disk>(environment: Environment<D>) -> (D, Result<(), Error>)
+    ensures closed { HasClosed D.meaning environment result.0 result.1 }
 {
     let Closed {
         disk,
         failed,
         records,
     } = environment.close();
-    drop(disk);
     drop(records);
-    told(failed)
+    (disk, told(failed))
 }
 
 // Whether closing met a fault.
@@ -82,8 +81,8 @@ fn told(failed: bool) -> Result<(), Error>
 impl<D: Disk + Drop> Env<D> {
     /// Opens the environment that the disk has, or begins one on a disk without files. The store is what the files mean: all that was committed and
     /// durable, and nothing of a transaction that was not committed. Errors: `DiskFault`, `Memory`, `IdsEnded`, `Unreadable`, `WrongIndex`; the
-    /// disk's files are as they were, but for a torn end.
-    pub fn open(alloc: Global, disk: D, options: Options) -> Result<Env<D>, Error>
+    /// disk, which is handed back, has its files as they were, but for a torn end.
+    pub fn open_disk(alloc: Global, disk: D, options: Options) -> Result<Env<D>, NotOpened<D>>
         ensures opening { IsOpening D.meaning options.file_max disk (λ env. env.environment) result }
         ensures names { IfOk result (λ env. env.names ≡ []) }
     {
@@ -93,13 +92,29 @@ impl<D: Disk + Drop> Env<D> {
                 names: Vec::new(alloc),
                 alloc,
             }),
-            Err(error) => Err(error),
+            Err(stopped) => Err(stopped),
         }
     }
 
-    /// Closes the environment: its log is written out and synced. `DiskFault` where that failed, or where the disk had failed before.
-    pub fn close(self) -> Result<(), Error>
-        ensures closed { HasClosed D.meaning self.environment result }
+    /// Opens the environment as `open_disk` does. Where it is not opened the disk is let go.
+    pub fn open(alloc: Global, disk: D, options: Options) -> Result<Env<D>, Error>
+        ensures opening { IsOpeningAlone D.meaning options.file_max disk (λ env. env.environment) result }
+        ensures names { IfOk result (λ env. env.names ≡ []) }
+    {
+        match Env::open_disk(alloc, disk, options) {
+            Ok(env) => Ok(env),
+            Err(stopped) => {
+                let NotOpened { error, disk } = stopped;
+                drop(disk);
+                Err(error)
+            }
+        }
+    }
+
+    /// Closes the environment: its log is written out and synced. `DiskFault` where that failed, or where the disk had failed before. The disk is
+    /// handed back.
+    pub fn close_disk(self) -> (D, Result<(), Error>)
+        ensures closed { HasClosed D.meaning self.environment result.0 result.1 }
     {
         let Env {
             environment,
@@ -108,5 +123,14 @@ impl<D: Disk + Drop> Env<D> {
         } = self;
         drop(names);
         close_environment(environment)
+    }
+
+    /// Closes the environment as `close_disk` does, and lets the disk go.
+    pub fn close(self) -> Result<(), Error>
+        ensures closed { (left : D) × HasClosed D.meaning self.environment left result }
+    {
+        let (disk, closed) = self.close_disk();
+        drop(disk);
+        closed
     }
 }

@@ -15,9 +15,8 @@ returns-in-Err g c =
     record {
       usable = tt;
       opening = record {
-        left = c.in-Err.stopped.disk;
         cause = c.in-Err.stopped.error;
-        told = c.opening_error.ensures;
+        told = c.opening_error-error.ensures;
         entry = e.stopped_entry;
         stopped = e.stopped;
         faults = e.stopped_faults;
