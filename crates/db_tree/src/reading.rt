@@ -57,14 +57,15 @@ fn last_occupied<'a>(
 }
 
 impl DbTree {
-    /// The cell of the name, where it is occupied.
-    pub fn get(&self, name: &SortKey) -> Option<&Cell>
-        ensures found { option_map (λ c. occupied_by c.now) result ≡ value_at name.now (occupied self.now.cells) }
+    /// The cell of the name, where it is occupied, with the name as it is held.
+    pub fn get(&self, name: &SortKey) -> Option<(&SortKey, &Cell)>
+        ensures name { IfSome result (λ p. p.0.now ≡ name.now) }
+        ensures found { option_map (λ p. occupied_by p.1.now) result ≡ value_at name.now (occupied self.now.cells) }
         ensures rising { IsRising (occupied self.now.cells) }
     {
         let _len = self.cells.len();
-        match self.cells.get(name) {
-            Some(cell) => { if is_occupied(cell) { Some(cell) } else { None } }
+        match self.cells.get_key_value(name) {
+            Some((held, cell)) => { if is_occupied(cell) { Some((held, cell)) } else { None } }
             None => None,
         }
     }

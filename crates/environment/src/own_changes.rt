@@ -94,7 +94,7 @@ fn holds<T: Records>(trees: &T, txn: TxnId, change: &TreeChange) -> bool
     ensures { result ≡ has_record txn (T.cells trees.now) change.now }
 {
     match trees.get(change.db, &change.name) {
-        Ok(Some(cell)) => has_data(cell, txn),
+        Ok(Some((_, cell))) => has_data(cell, txn),
         Ok(None) => false,
         Err(_) => unreachable!(),
     }

@@ -85,7 +85,7 @@ impl<D: Disk> Records for LogTrees<D> {
 
     ghost tried_then = { λ x y z a b first rest. tried_on D.meaning x y z a b first rest };
 
-    fn get(&self, db: u32, name: &SortKey) -> Result<Option<&Cell>, Lacks> {
+    fn get(&self, db: u32, name: &SortKey) -> Result<Option<(&SortKey, &Cell)>, Lacks> {
         Ok(reading::get(&self.trees.forest, db, name))
     }
 

@@ -1,5 +1,5 @@
 // What transactions see in trees.
-ghost use Rattle.std.specs.Prelude.{◌≡◌, is_some, count_by, option_map};
+ghost use Rattle.std.specs.Prelude.{◌≡◌, is_some, count_by, IfSome, option_map};
 ghost use Rattle.record_map.specs.Cells.{value_at, IsRising, first_of, last_of, from_edge, below_edge, edge_of};
 ghost use Rattle.record_tree.specs.Occupied.{occupied_by};
 ghost use Rattle.in_tree.specs.Forest.{cells_seen};
@@ -9,9 +9,14 @@ use db_tree::DbTree;
 use record_map::{Cell, EdgeRef, SortKey};
 use std::collections::BTreeMap;
 
-// The cell of a name of a database, where it is occupied.
-pub(crate) fn get<'a>(trees: &'a BTreeMap<u32, DbTree>, db: u32, name: &SortKey) -> Option<&'a Cell>
-    ensures found { option_map (λ c. occupied_by c.now) result ≡ value_at name.now (cells_seen trees.entry.now db) }
+// The cell of a name of a database, where it is occupied, with the name as it is held.
+pub(crate) fn get<'a>(
+    trees: &'a BTreeMap<u32, DbTree>,
+    db: u32,
+    name: &SortKey,
+) -> Option<(&'a SortKey, &'a Cell)>
+    ensures name { IfSome result (λ p. p.0.now ≡ name.now) }
+    ensures found { option_map (λ p. occupied_by p.1.now) result ≡ value_at name.now (cells_seen trees.entry.now db) }
     ensures rising { IsRising (cells_seen trees.entry.now db) }
 {
     match trees.get(&db) {

@@ -64,9 +64,10 @@ impl Trees {
         }
     }
 
-    /// The cell of the name, where it is occupied.
-    pub fn get(&self, db: u32, name: &SortKey) -> Option<&Cell>
-        ensures found { option_map (λ c. occupied_by c.now) result ≡ value_at name.now (cells_seen self.now.forest db) }
+    /// The cell of the name, where it is occupied, with the name as it is held.
+    pub fn get(&self, db: u32, name: &SortKey) -> Option<(&SortKey, &Cell)>
+        ensures name { IfSome result (λ p. p.0.now ≡ name.now) }
+        ensures found { option_map (λ p. occupied_by p.1.now) result ≡ value_at name.now (cells_seen self.now.forest db) }
         ensures rising { IsRising (cells_seen self.now.forest db) }
     {
         reading::get(&self.forest, db, name)

@@ -1,5 +1,5 @@
 -- The order of names, and what a list has under a name.
-use Rattle.std.proofs.Common.{◌≡◌, ℕ, List, Bool, false, cond, refl, ap, ap₂, ◌∙◌, ◌⊎◌, inl, inr, Ordering, Less, Equal, Greater, is_eq, is_lt, is_gt}
+use Rattle.std.proofs.Common.{◌≡◌, ℕ, List, Option, None, Some, IfSome, sym, Bool, false, cond, refl, ap, ap₂, ◌∙◌, ◌⊎◌, inl, inr, Ordering, Less, Equal, Greater, is_eq, is_lt, is_gt}
 use Rattle.std.specs.Ordering.{ordering_then, ordering_reverse}
 use Rattle.std.proofs.lemmas.Map.Lookups.{exact_bytes}
 use Rattle.je_order.specs.Order.{bytes_cmp, name_cmp}
@@ -17,6 +17,11 @@ name_exact a b h =
     let s = then_equal (bytes_cmp a.key b.key) (bytes_cmp a.dup b.dup) h in
     let make : List ℕ → List ℕ → Name = λ k d. record { key = k; dup = d } in
     ap₂ make (exact_bytes a.key b.key s.0) (exact_bytes a.dup b.dup s.1)
+
+-- what is found by the order alone has that very name
+pub found_exact : {A : Type 0} (name : A → Name) (x : Name) (o : Option A) → IfSome o (λ p. name_cmp x (name p) ≡ Equal) → IfSome o (λ p. name p ≡ x)
+found_exact name x None h = tt
+found_exact name x (Some p) h = sym (name_exact x (name p) h)
 
 -- a name is the same as itself
 pub name_same : (a : Name) → name_cmp a a ≡ Equal

@@ -168,6 +168,14 @@ impl Cells {
         self.cells.get(name)
     }
 
+    /// The cell of the name, with the name as it is held, and None where it has none.
+    pub fn get_key_value(&self, name: &SortKey) -> Option<(&SortKey, &Cell)>
+        ensures name { IfSome result (λ p. p.0.now ≡ name.now) }
+        ensures cell { option_map (λ p. p.1.now) result ≡ value_at name.now self.now }
+    {
+        self.cells.get_key_value(name)
+    }
+
     #[tactic(auto, using(crate::proofs::EdgeLaws::none_from_end))]
     /// The first cell that is not below the edge, with its name.
     pub fn next(&self, from: EdgeRef<'_>) -> Option<(&SortKey, &Cell)>

@@ -43,9 +43,10 @@ pub trait Records {
     /// The LSN that the log gives the first of some entries that is no image of a node, if it gets them.
     ghost first_of: { Self → List Entry → Option ℕ };
 
-    /// The cell of the name, where it is occupied.
-    fn get(&self, db: u32, name: &SortKey) -> Result<Option<&Cell>, Lacks>
-        ensures found { IfOk result (λ found. option_map (λ c. occupied_by c.now) found ≡ value_at name.now (cells self.now db)) }
+    /// The cell of the name, where it is occupied, with the name as it is held.
+    fn get(&self, db: u32, name: &SortKey) -> Result<Option<(&SortKey, &Cell)>, Lacks>
+        ensures name { IfOk result (λ found. IfSome found (λ p. p.0.now ≡ name.now)) }
+        ensures found { IfOk result (λ found. option_map (λ p. occupied_by p.1.now) found ≡ value_at name.now (cells self.now db)) }
         ensures here { IsOk result }
         ensures rising { IsRising (cells self.now db) };
 

@@ -19,9 +19,14 @@ pub fn committed_in(cell: &Cell) -> Option<&Data>
     }
 }
 
-// The cell of the name, where it is occupied.
-fn cell_at<'a, T: Records>(trees: &'a T, db: u32, name: &SortKey) -> Option<&'a Cell>
-    ensures found { option_map (λ c. occupied_by c.now) result ≡ value_at name.now (T.cells trees.now db) }
+/// The cell of the name, where it is occupied, with the name as it is held.
+pub fn cell_at<'a, T: Records>(
+    trees: &'a T,
+    db: u32,
+    name: &SortKey,
+) -> Option<(&'a SortKey, &'a Cell)>
+    ensures name { IfSome result (λ p. p.0.now ≡ name.now) }
+    ensures found { option_map (λ p. occupied_by p.1.now) result ≡ value_at name.now (T.cells trees.now db) }
     ensures rising { IsRising (T.cells trees.now db) }
 {
     match trees.get(db, name) {
@@ -65,7 +70,7 @@ pub fn data_of<'a, T: Records>(trees: &'a T, db: u32, name: &SortKey) -> Option<
     ensures { option_copied result ≡ data_at name.now (committed (T.cells trees.now) db) }
 {
     match cell_at(trees, db, name) {
-        Some(cell) => match committed_in(cell) {
+        Some((_, cell)) => match committed_in(cell) {
             Some(data) => Some(data.as_slice()),
             None => None,
         },
@@ -83,16 +88,11 @@ pub fn record<'a, T: Records>(
     ensures name { IfSome result (λ p. p.0.now ≡ name.now) }
     ensures value { option_map (λ p. p.1.now) result ≡ data_at name.now (committed (T.cells trees.now) db) }
 {
-    match cell_from(trees, db, EdgeRef::At(name)) {
-        Some((at, cell)) => {
-            if at != name {
-                return None;
-            }
-            match committed_in(cell) {
-                Some(data) => Some((at, data)),
-                None => None,
-            }
-        }
+    match cell_at(trees, db, name) {
+        Some((held, cell)) => match committed_in(cell) {
+            Some(data) => Some((held, data)),
+            None => None,
+        },
         None => None,
     }
 }

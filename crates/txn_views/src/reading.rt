@@ -7,7 +7,7 @@ ghost use Rattle.txn_views.specs.Seen.{seen_rows};
 use crate::viewer::Viewer;
 use record_map::{Data, EdgeRef, SortKey};
 use record_tree::Records;
-use txn_core::reading::{cell_below, cell_from};
+use txn_core::reading::{cell_at, cell_below, cell_from};
 
 /// The record of the name that is seen in the database of that number, as it is held, if there is one.
 pub fn record<'a, T: Records>(
@@ -19,16 +19,11 @@ pub fn record<'a, T: Records>(
     ensures name { IfSome result (λ p. p.0.now ≡ name.now) }
     ensures value { option_map (λ p. p.1.now) result ≡ data_at name.now (seen_rows viewer.level viewer.txn (T.cells trees.now db)) }
 {
-    match cell_from(trees, db, EdgeRef::At(name)) {
-        Some((at, cell)) => {
-            if at != name {
-                return None;
-            }
-            match viewer.data_in(cell) {
-                Some(data) => Some((at, data)),
-                None => None,
-            }
-        }
+    match cell_at(trees, db, name) {
+        Some((held, cell)) => match viewer.data_in(cell) {
+            Some(data) => Some((held, data)),
+            None => None,
+        },
         None => None,
     }
 }
