@@ -1,5 +1,5 @@
 -- A split is a copy, and an IN's image has its children's slots.
-use Rattle.std.proofs.Common.{◌≡◌, ◌++◌, ◌-◌, ◌∷◌, [], ℕ, suc, List, Option, None, Some, map, refl, ap, ap₂, sym, subst, ◌∙◌, arith, ◌⊎◌, inl, inr, IsSome, false, is_eq}
+use Rattle.std.proofs.Common.{◌≡◌, ◌++◌, ◌∷◌, [], ℕ, suc, List, Option, None, Some, map, refl, ap, ap₂, sym, subst, ◌∙◌, arith, ◌⊎◌, inl, inr, IsSome, false, is_eq}
 use Rattle.je_order.specs.declared.name.Name.{Name}
 use Rattle.je_order.specs.Edges.Edge.{At}
 use Rattle.log_entry.specs.declared.child_slot.ChildSlot.{ChildSlot}

@@ -1,19 +1,18 @@
 -- Nodes that are split, and the slots of INs.
-use Rattle.std.specs.Prelude.{◌≡◌, ◌-◌, ◌/◌, ◌<◌, ℕ, suc, Bool, false, None, take, [], ◌∷◌, List, Option, Some, true, length, option_map}
+use Rattle.std.specs.Prelude.{◌≡◌, ◌-◌, ◌/◌, ◌<◌, ℕ, suc, Bool, false, None, take, [], ◌∷◌, List, Option, true, length, option_map}
 use Rattle.std.specs.List.{flat_map, slice_get}
 use Rattle.log_entry.specs.declared.child_slot.ChildSlot.{ChildSlot}
 use Rattle.node_core.specs.declared.slot.Slot.{Slot}
 use Rattle.tree_nodes.specs.declared.node.Node.{Node}
 use Rattle.je_order.specs.Edges.Edge.{At}
 use Rattle.je_order.specs.declared.name.Name.{Name}
-use Rattle.log_entry.specs.declared.entry.Entry.{Entry}
 use Rattle.record_map.specs.declared.cell.Cell.{Cell}
 use Rattle.record_map.specs.Cells.{value_at, between_edges, upper_edge}
 use Rattle.tree_nodes.specs.Nodes.{NodeRow, IsOver, least, low_behind}
 use Rattle.tree_nodes.specs.Levels.{row_of, AreParts, HasPutAt}
 use Rattle.db_tree.specs.declared.node_split.NodeSplit.{NodeSplit}
 use Rattle.db_tree.specs.Notes.{is_noted_at}
-use Rattle.db_tree.specs.Content.{child_slot_for, lsn_of, in_image}
+use Rattle.db_tree.specs.Content.{child_slot_for, lsn_of}
 
 -- the node that is split off another one: a copy of it with a number of its own, which does not wait
 abbrev pub split_off : ℕ → ℕ → Node → Node

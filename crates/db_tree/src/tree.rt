@@ -327,9 +327,9 @@ impl DbTree {
         set_logged(&mut self.cells, name, value, at, commit, &None);
     }
 
-    // Sets what is committed of the name: the record that was logged at `at`, or none. Its BIN is marked: the
-    // log has the change from `first` on, and the BIN's last image lacks it. Running out of memory changes nothing.
-    fn redo_first(
+    /// Sets what is committed of the name: the record that was logged at `at`, or none. Its BIN is marked: the
+    /// log has the change from `first` on, and the BIN's last image lacks it. Running out of memory changes nothing.
+    pub fn redo_first(
         &mut self,
         alloc: Global,
         name: &SortKey,

@@ -16,7 +16,7 @@ ghost use Rattle.db_tree.specs.Splits.{made_for, nodes_made, passes_top};
 
 use crate::growing::least_name;
 use crate::imaging::LAST_LEVEL;
-use crate::{DbTree, NodeSplit};
+use crate::{DbTree, NodeSplit, SlotMade};
 use je_lsn::Lsn;
 use record_map::SortKey;
 use record_tree::TreeErr;
@@ -111,8 +111,8 @@ impl DbTree {
     }
 
     /// Makes a slot for the name where it has none, as `place` does, but nothing is to be logged: the nodes that are split for it, and
-    /// those that this makes, wait to be logged, and are marked from `mark`. The new ones have the numbers from `first` on; it gives how many there
-    /// are. IdsEnded where a root would pass the last level; an error takes back what was split.
+    /// those that this makes, wait to be logged, and are marked from `mark`. The new ones have the numbers from `first` on. IdsEnded where a root would
+    /// pass the last level; an error takes back what was split.
     pub fn place_unlogged(
         &mut self,
         alloc: Global,
@@ -120,18 +120,19 @@ impl DbTree {
         name: &SortKey,
         first: u64,
         mark: Lsn,
-    ) -> Result<usize, TreeErr>
-        ensures waits { IfOk result (λ made. count_in self.new ≤ count_in self.old + 2 * made) }
+    ) -> Result<SlotMade, TreeErr>
+        ensures new { IfOk result (λ slot. slot.is_new ≡ true → value_at name.now self.old.cells ≡ None) }
+        ensures waits { IfOk result (λ slot. count_in self.new ≤ count_in self.old + 2 * slot.nodes) }
         ensures split { OnOk result (AreSplitWaiting first (slot_splits fanout name.now (shape_in self.old)) self.old.levels self.new.levels) }
         ensures since { OnOk result (AreUnnotedSince mark self.old.levels → AreUnnotedSince mark self.new.levels) }
-        ensures few { IfOk result (λ made. made ≤ 64) }
+        ensures few { IfOk result (λ slot. slot.nodes ≤ 64) }
         ensures cell { OnOk result (HasCell self.old.cells self.new.cells name.now (cell_or_fresh (value_at name.now self.old.cells))) }
         ensures was_rising { IsRising self.old.cells }
         ensures rising { IsRising self.new.cells }
         ensures there { OnOk result (IsSome (value_at name.now self.new.cells)) }
         ensures same { occupied self.new.cells ≡ occupied self.old.cells }
         ensures kept { (x : Name) → IsSome (value_at x self.old.cells) → IsSome (value_at x self.new.cells) }
-        ensures made { IfOk result (λ made. made ≡ nodes_made fanout name.now (shape_in self.old)) }
+        ensures made { IfOk result (λ slot. slot.nodes ≡ nodes_made fanout name.now (shape_in self.old)) }
         ensures tree { OnOk result ((es : Placed) (base : ℕ) (newest : Name → ℕ) → ((x : Name) → (mark ≤ newest x) ⊎ (mark < base)) → IsTree es base newest self.old.levels self.old.cells → IsTree es base newest self.new.levels self.new.cells) }
         ensures high { IfErr result (λ e. e ≡ Reason.IdsEnded → passes_top fanout name.now (shape_in self.old) ≡ true) }
         ensures errors { IfErr result (λ e. (e ≡ Reason.IdsEnded) ⊎ (e ≡ Reason.Memory)) }
@@ -142,13 +143,13 @@ impl DbTree {
         let _before = self.cells.len();
         let _height = self.levels.height();
         if self.has_cell(name) {
-            return Ok(0);
+            return Ok(SlotMade::none());
         }
         let Ok(splits) = self.splits_for(alloc, fanout, name) else {
             return Err(TreeErr::Memory);
         };
-        let made = splits.len() + (splits.len() == self.levels.height()) as usize;
-        if made > LAST_LEVEL {
+        let nodes = splits.len() + (splits.len() == self.levels.height()) as usize;
+        if nodes > LAST_LEVEL {
             return Err(TreeErr::IdsEnded);
         }
         match self.place_waiting(alloc, name, splits.as_slice(), first, mark) {
@@ -156,6 +157,9 @@ impl DbTree {
             Err(_) => return Err(TreeErr::Memory),
         }
         let _after = self.cells.len();
-        Ok(made)
+        Ok(SlotMade {
+            nodes,
+            is_new: true,
+        })
     }
 }

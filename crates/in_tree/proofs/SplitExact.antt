@@ -1,5 +1,5 @@
 -- Nodes that are split for a name's slot leave BINs dirty exactly where they have not their last images' content.
-use Rattle.std.proofs.Common.{◌≡◌, ℕ, refl, subst, sym}
+use Rattle.std.proofs.Common.{ℕ, refl}
 use Rattle.je_order.specs.declared.name.Name.{Name}
 use Rattle.record_map.specs.Cells.{value_at, IsRising}
 use Rattle.tree_nodes.specs.Levels.{AreParts}

@@ -1,5 +1,5 @@
 // The trees of all databases, by their numbers.
-ghost use Rattle.std.specs.Prelude.{◌≡◌, ◌≤◌, ◌<◌, ◌⊎◌, ◌+◌, ◌*◌, ◌^◌, ℕ, true, false, [], Option, None, Some, IsSome, IfOk, IfErr, OnOk, OnErr, if◌then◌else◌, ◌==◌};
+ghost use Rattle.std.specs.Prelude.{◌≡◌, ◌≤◌, ◌<◌, ◌⊎◌, ◌+◌, ◌*◌, ◌^◌, ℕ, List as Items, true, false, [], Option, None, Some, IsSome, IfOk, IfErr, OnOk, OnErr, if◌then◌else◌, ◌==◌};
 ghost use Rattle.std.specs.Ordering.{is_eq, nat_cmp};
 ghost use Rattle.je_order.specs.Order.{name_cmp};
 ghost use Rattle.std.specs.BTreeMap.{get};
@@ -9,7 +9,10 @@ ghost use Rattle.record_tree.specs.Logged.{IsEndOf};
 ghost use Rattle.record_tree.specs.Occupied.{AreSame, after_commit, after_abort};
 ghost use Rattle.record_tree.specs.declared.tree_err.TreeErr.{TreeErr as Reason};
 ghost use Rattle.db_tree.specs.Seen.{occupied, with_change, with_value};
-ghost use Rattle.db_tree.specs.Shapes.{shape_in};
+ghost use Rattle.db_tree.specs.Dirty.{AreExact, IsRedoneAt};
+ghost use Rattle.db_tree.specs.NodeSteps.{AreSameNodes};
+ghost use Rattle.db_tree.specs.Shapes.{shape_in, AreAlike};
+ghost use Rattle.db_tree.specs.declared.node_at.NodeAt.{NodeAt};
 ghost use Rattle.db_tree.specs.Splits.{count_waiting};
 ghost use Rattle.db_tree.specs.Stored.{AreQuiet, HasLogged, IsLoggedAlready};
 ghost use Rattle.db_tree.specs.Splits.{passes_top};
@@ -29,7 +32,7 @@ ghost use Rattle.in_tree.specs.Waits.{waits_in};
 ghost use Rattle.record_tree.specs.LoadedSlots.{HasMoreSlots, AreSlotsStill, IsReadStill};
 ghost use Rattle.record_tree.specs.Stored.{stored_at, HasStored, AreStoredStill};
 
-use db_tree::{DbTree, SlotRoom};
+use db_tree::{DbTree, SlotMade, SlotRoom};
 use je_lsn::{FileNo, Lsn};
 use je_order::Octets;
 use record_map::{Cell, SortKey, Write};
@@ -176,6 +179,34 @@ pub(crate) fn make(
     Ok(())
 }
 
+// Sets what is committed of the name: the record that was logged at `at`, or none. Of a name whose slot is new nothing is committed yet, so
+// that is not asked.
+fn redo_slot(
+    tree: &mut DbTree,
+    alloc: Global,
+    is_new: bool,
+    name: &SortKey,
+    value: Option<Octets>,
+    first: Lsn,
+    at: Lsn,
+) -> Result<(), AllocError>
+    ensures cells { OnOk result ((x : Name) → value_at x (occupied tree.new.cells) ≡ (if is_eq (name_cmp name.now x) then with_value value (value_at x (occupied tree.old.cells)) else value_at x (occupied tree.old.cells))) }
+    ensures logged { OnOk result (HasLogged tree.old.cells tree.new.cells name.now value at) }
+    ensures was_rising { IsRising tree.old.cells }
+    ensures rising { IsRising tree.new.cells }
+    ensures err { OnErr result (tree.new.cells ≡ tree.old.cells) }
+    ensures waits { AreAlike tree.old.levels tree.new.levels }
+    ensures nodes { AreSameNodes tree.old.levels tree.new.levels }
+    ensures exact { (due : Items NodeAt) → AreExact due tree.old.levels tree.old.cells → OnOk result (AreExact due tree.new.levels tree.new.cells) }
+    ensures tree { (es : Entries) (base : ℕ) (newest : Name → ℕ) → (first ≤ newest name.now) ⊎ (first < base) → IsRedoneAt es base at → IsTree es base newest tree.old.levels tree.old.cells → IsTree es base newest tree.new.levels tree.new.cells }
+    ensures already { is_new ≡ false → IsLoggedAlready tree.old.cells name.now at value → OnOk result (tree.new.levels ≡ tree.old.levels) }
+{
+    if is_new {
+        return tree.redo_first(alloc, name, value, first, at);
+    }
+    tree.redo(alloc, name, value, first, at)
+}
+
 // Makes a slot for the name, where nodes are split for it with the numbers from `number` on if there is one, and sets what is
 // committed of the name. It gives how many nodes were made.
 fn redo_in(
@@ -203,17 +234,17 @@ fn redo_in(
 {
     let _before = tree.cells.len();
     let _height = tree.levels.height();
-    let made = match split_for(tree, alloc, fanout, number, name, first) {
-        Ok(made) => made,
+    let slot = match split_for(tree, alloc, fanout, number, name, first) {
+        Ok(slot) => slot,
         Err(failed) => {
             drop(value);
             return Err(failed);
         }
     };
-    let done = tree.redo(alloc, name, value, first, at);
+    let done = redo_slot(tree, alloc, slot.is_new, name, value, first, at);
     let _levels = tree.levels.height();
     done?;
-    Ok(made)
+    Ok(slot.nodes)
 }
 
 // Makes a slot for the name where it has none. Nodes are split for it with the numbers from `number` on, and wait to be logged; none
@@ -225,25 +256,26 @@ fn split_for(
     number: Option<u64>,
     name: &SortKey,
     mark: Lsn,
-) -> Result<usize, AllocError>
+) -> Result<SlotMade, AllocError>
+    ensures new { IfOk result (λ made. made.is_new ≡ true → value_at name.now tree.old.cells ≡ None) }
     ensures same { occupied tree.new.cells ≡ occupied tree.old.cells }
     ensures slot { IsSlotFor name.now tree.old.cells tree.new.cells }
     ensures idle { IsSome (value_at name.now tree.old.cells) → OnOk result (tree.new ≡ tree.old) }
-    ensures split { IfOk result (λ made. IsSplitFor fanout number name.now made tree.old tree.new.levels) }
+    ensures split { IfOk result (λ made. IsSplitFor fanout number name.now made.nodes tree.old tree.new.levels) }
     ensures keeps { (es : Entries) (base : ℕ) (newest : Name → ℕ) → mark < base → IsTree es base newest tree.old.levels tree.old.cells → IsTree es base newest tree.new.levels tree.new.cells }
     ensures rising { IsRising tree.old.cells → IsRising tree.new.cells }
     ensures exact { OnOk result (KeepsExact tree.old tree.new) }
-    ensures few { IfOk result (λ made. made ≤ 64) }
-    ensures waits { IfOk result (λ made. count_waiting (shape_in tree.new) ≤ count_waiting (shape_in tree.old) + 2 * made) }
+    ensures few { IfOk result (λ made. made.nodes ≤ 64) }
+    ensures waits { IfOk result (λ made. count_waiting (shape_in tree.new) ≤ count_waiting (shape_in tree.old) + 2 * made.nodes) }
     ensures err { OnErr result (tree.new ≡ tree.old) }
 {
     let _height = tree.levels.height();
     let Some(first) = number else {
-        return Ok(0);
+        return Ok(SlotMade::none());
     };
     match tree.place_unlogged(alloc, fanout, name, first, mark) {
         Ok(made) => Ok(made),
-        Err(TreeErr::IdsEnded) => Ok(0),
+        Err(TreeErr::IdsEnded) => Ok(SlotMade::none()),
         Err(_) => Err(AllocError),
     }
 }

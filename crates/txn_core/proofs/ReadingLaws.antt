@@ -1,5 +1,5 @@
 -- Searches among committed records, and walks over them.
-use Rattle.std.proofs.Common.{◌≡◌, ◌⊎◌, ℕ, ◌+◌, ◌<◌, List, [], ◌∷◌, ◌++◌, Bool, true, false, cond, not, ◌&&◌, Option, None, Some, is_some, filter, count_by, length, refl, ap, sym, subst, ◌∙◌, arith, inl, inr, Ordering, Less, Equal, Greater, is_eq}
+use Rattle.std.proofs.Common.{◌≡◌, ◌⊎◌, ℕ, ◌+◌, ◌<◌, List, [], ◌∷◌, ◌++◌, Bool, true, false, cond, not, ◌&&◌, Option, None, Some, is_some, filter, count_by, length, refl, ap, sym, subst, ◌∙◌, arith, inl, inr, Less, Greater, is_eq}
 use Rattle.std.specs.List.{AllByRecursion, list_all}
 use Rattle.std.specs.List.Sorted.{IsStrictlySortedBy}
 use Rattle.std.specs.Map.{keys_of}
@@ -15,7 +15,7 @@ use Rattle.cursor_je.proofs.EdgeLaws.{stays_above}
 use Rattle.record_map.specs.Held.{names_are_ordered}
 use Rattle.record_map.specs.Cells.{value_at, IsRising, first_of, last_of, from_edge, below_edge}
 use Rattle.record_map.proofs.EdgeLaws.{last_is}
-use Rattle.record_map.proofs.NameLaws.{same_or_other, name_same, name_exact, other_stays, same_gets}
+use Rattle.record_map.proofs.NameLaws.{same_or_other, name_same, other_stays}
 use Rattle.record_tree.specs.Occupied.{Occupied, value_in}
 use Rattle.log_replay.specs.Rows.{Row, data_at}
 use Rattle.log_replay.proofs.MapRows.{lookup_is_data}
@@ -154,29 +154,6 @@ fewer_below edge e l up is =
 
 -- ---- the cell of a name
 
--- the value of a name, from the first one at it
-abbrev pub at_name : {V : Type 0} → Name → Option (Name × V) → Option V
-at_name name None = None
-at_name name (Some e) = cond (is_eq (name_cmp e.0 name)) (Some e.1) None
-
-pub first_at : {V : Type 0} (name : Name) (l : List (Name × V)) → IsRising l → value_at name l ≡ at_name name (first_of (from_edge (At name) l))
-unfolding IsStrictlySortedBy
-first_at name [] up = refl
-first_at name (e ∷ l) up = by_order (name_cmp name e.0) refl (first_at name l up.1)
-  where
-    by_order : (o : Ordering) → name_cmp name e.0 ≡ o → value_at name l ≡ at_name name (first_of (from_edge (At name) l)) → value_at name (e ∷ l) ≡ at_name name (first_of (from_edge (At name) (e ∷ l)))
-    by_order Less is rest =
-        none_behind name (e ∷ l) (is, below_all name e.0 (keys_of l) is up.0)
-        ∙ sym (ap (λ (o : Ordering). cond (is_eq o) (Some e.1) None) (flipped name e.0 is))
-        ∙ ap (λ m. at_name name (first_of m)) (sym (taken (At name) e l (ap is_gt is)))
-    by_order Equal is rest =
-        ap (λ (o : Ordering). cond (is_eq o) (Some e.1) (value_at name l)) is
-        ∙ sym (ap (λ (n : Name). cond (is_eq (name_cmp e.0 n)) (Some e.1) None) (name_exact name e.0 is) ∙ same_gets e.0 (Some e.1) None)
-        ∙ ap (λ m. at_name name (first_of m)) (sym (taken (At name) e l (ap is_gt is)))
-    by_order Greater is rest =
-        ap (λ (o : Ordering). cond (is_eq o) (Some e.1) (value_at name l)) is ∙ rest
-        ∙ ap (λ m. at_name name (first_of m)) (sym (dropped (At name) e l (ap is_gt is)))
-
 -- ---- committed records
 
 -- those that pass a test
@@ -314,27 +291,6 @@ passed_below edge e cells up is none =
     sym (below_parts edge e cells up is
     ∙ ap (λ (v : Option (List ℕ)). below_edge (At e.0) (committed_rows cells) ++ with_row e.0 v []) (sym none)
     ∙ append-nil (below_edge (At e.0) (committed_rows cells)))
-
--- the data of a name, from the first cell at it
-pub data_first : (name : Name) (o : Option (Name × Occupied)) (cells : List (Name × Occupied)) → IsRising cells → o ≡ first_of (from_edge (At name) cells) → value_in (at_name name o) ≡ data_at name (committed_rows cells)
-data_first name o cells up is = ap (λ (o : Option (Name × Occupied)). value_in (at_name name o)) is ∙ sym (committed_at name cells up ∙ ap value_in (first_at name cells up))
-
--- that cell is the name's, or the name has none
-pub own_value : (t : Bool) (o : Occupied) → not t ≡ false → o.value ≡ value_in (cond t (Some o) None)
-own_value true o h = refl
-own_value false o h = cc
-
-pub no_value : (t : Bool) (o : Occupied) → not t ≡ true → None ≡ value_in (cond t (Some o) None)
-no_value true o h = cc
-no_value false o h = refl
-
-pub own_name : (a b : Name) → not (is_eq (name_cmp a b)) ≡ false → a ≡ b
-own_name a b h = by_order (name_cmp a b) refl h
-  where
-    by_order : (o : Ordering) → name_cmp a b ≡ o → not (is_eq o) ≡ false → a ≡ b
-    by_order Less is h = cc
-    by_order Equal is h = name_exact a b is
-    by_order Greater is h = cc
 
 -- ---- walks
 

@@ -1,17 +1,20 @@
 -- Searches among the cells that a transaction sees, and walks over them.
-use Rattle.std.proofs.Common.{◌≡◌, ℕ, List, [], ◌∷◌, Bool, true, false, cond, not, ◌&&◌, find, Option, None, Some, option_map, map, filter, refl, ap, ◌∙◌, Bor}
+use Rattle.std.proofs.Common.{◌≡◌, ℕ, List, [], ◌∷◌, Bool, true, false, cond, not, ◌&&◌, find, Option, None, Some, option_map, map, filter, refl, ap, sym, ◌∙◌, Bor}
+use Rattle.std.proofs.lemmas.Map.Made.{lookup-map_values}
+use Rattle.std.specs.BTreeMap.{is_at}
 use Rattle.std.specs.Map.{keys_of}
+use Rattle.je_order.specs.Order.{name_cmp}
 use Rattle.je_order.specs.declared.name.Name.{Name}
 use Rattle.je_order.specs.declared.txn_id.TxnId.{TxnId}
 use Rattle.je_order.specs.Edges.{Edge, is_below, is_between}
 use Rattle.je_order.specs.Edges.Edge.{At, Behind, End}
-use Rattle.record_map.specs.Cells.{IsRising, first_of, last_of, from_edge, below_edge}
+use Rattle.record_map.specs.Cells.{value_at, IsRising, first_of, last_of, from_edge, below_edge}
 use Rattle.record_map.specs.declared.sort_key.SortKey.{SortKey}
 use Rattle.record_map.specs.declared.cell.Cell.{Cell}
 use Rattle.record_tree.specs.Occupied.{Occupied, occupied_by, value_in}
 use Rattle.store_model.specs.declared.isolation.Isolation.{Isolation}
 use Rattle.log_replay.specs.Rows.{data_at}
-use Rattle.txn_core.proofs.ReadingLaws.{at_name, found_from, passed_from, none_from, found_below, passed_below, none_below_edge, data_first}
+use Rattle.txn_core.proofs.ReadingLaws.{found_from, passed_from, none_from, found_below, passed_below, none_below_edge, committed_at}
 use Rattle.txn_views.specs.Seen.{seen_value, seen_cell, seen_rows, still_rises}
 
 -- what is seen of the cells that pass a test of their names
@@ -79,11 +82,13 @@ none_last level txn edge cells is = none_below_edge edge (map (seen_cell level t
 
 -- ---- one name
 
--- the data of a name, from the first cell at it
-pub data_seen : (level : Isolation) (txn : TxnId) (name : Name) (o : Option (Name × Occupied)) (cells : List (Name × Occupied)) → IsRising cells → o ≡ first_of (from_edge (At name) cells) →
-    value_in (at_name name (option_map (seen_cell level txn) o)) ≡ data_at name (seen_rows level txn cells)
+-- the data of a name, from its cell
+pub data_seen : (level : Isolation) (txn : TxnId) (name : Name) (o : Option Occupied) (cells : List (Name × Occupied)) → IsRising cells → o ≡ value_at name cells →
+    value_in (option_map (λ p. record { value = seen_value level txn p; write = p.write }) o) ≡ data_at name (seen_rows level txn cells)
 data_seen level txn name o cells up is =
-    data_first name (option_map (seen_cell level txn) o) (map (seen_cell level txn) cells) (still_rises level txn cells up) (first_seen level txn (At name) o cells is)
+    let seen : Occupied → Occupied = λ p. record { value = seen_value level txn p; write = p.write } in
+    ap (λ (found : Option Occupied). value_in (option_map seen found)) is
+    ∙ sym (committed_at name (map (seen_cell level txn) cells) (still_rises level txn cells up) ∙ ap value_in (lookup-map_values seen (is_at (name_cmp name)) cells))
 
 -- ---- occupied names
 

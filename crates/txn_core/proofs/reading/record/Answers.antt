@@ -1,28 +1,18 @@
-use Rattle.std.proofs.Common.{◌∙◌, sym, Some, None, is_eq}
-use Rattle.je_order.specs.Order.{name_cmp}
-use Rattle.record_tree.specs.Occupied.{occupied_by}
-use Rattle.txn_core.proofs.ReadingLaws.{data_first, own_value, no_value, own_name}
+use Rattle.std.proofs.Common.{◌∙◌, ap, sym}
+use Rattle.record_tree.specs.Occupied.{value_in}
+use Rattle.txn_core.proofs.ReadingLaws.{committed_at}
 use Rattle.txn_core.proofs.reading.record.Goals as goal
-
-pub returns-then-ne-clause-value : goal.returns-then-ne-clause-value
-returns-then-ne-clause-value g c =
-    no_value (is_eq (name_cmp c.in-Some.at.now c.args.name.now)) (occupied_by c.in-Some.cell.now) (sym c.ne.ensures ∙ c.if-ne.true)
-    ∙ data_first c.args.name.now (Some (c.in-Some.at.now, occupied_by c.in-Some.cell.now)) (g.T.Records.cells c.args.trees.now c.args.db) c.in-Some.ensures.rising c.in-Some.ensures.found
-
-pub returns-in-Some-committed_in-clause-name : goal.returns-in-Some-committed_in-clause-name
-returns-in-Some-committed_in-clause-name g c = own_name c.in-Some.at.now c.args.name.now (sym c.ne.ensures ∙ c.if-ne.false)
 
 pub returns-in-Some-committed_in-clause-value : goal.returns-in-Some-committed_in-clause-value
 returns-in-Some-committed_in-clause-value g c =
-    c.in-Some-committed_in.ensures
-    ∙ own_value (is_eq (name_cmp c.in-Some.at.now c.args.name.now)) (occupied_by c.in-Some.cell.now) (sym c.ne.ensures ∙ c.if-ne.false)
-    ∙ data_first c.args.name.now (Some (c.in-Some.at.now, occupied_by c.in-Some.cell.now)) (g.T.Records.cells c.args.trees.now c.args.db) c.in-Some.ensures.rising c.in-Some.ensures.found
+    c.in-Some-committed_in.ensures ∙ ap value_in c.in-Some.ensures.found
+    ∙ sym (committed_at c.args.name.now (g.T.Records.cells c.args.trees.now c.args.db) c.in-Some.ensures.rising)
 
 pub returns-in-None-committed_in-clause-value : goal.returns-in-None-committed_in-clause-value
 returns-in-None-committed_in-clause-value g c =
-    c.in-None-committed_in.ensures
-    ∙ own_value (is_eq (name_cmp c.in-Some.at.now c.args.name.now)) (occupied_by c.in-Some.cell.now) (sym c.ne.ensures ∙ c.if-ne.false)
-    ∙ data_first c.args.name.now (Some (c.in-Some.at.now, occupied_by c.in-Some.cell.now)) (g.T.Records.cells c.args.trees.now c.args.db) c.in-Some.ensures.rising c.in-Some.ensures.found
+    c.in-None-committed_in.ensures ∙ ap value_in c.in-Some.ensures.found
+    ∙ sym (committed_at c.args.name.now (g.T.Records.cells c.args.trees.now c.args.db) c.in-Some.ensures.rising)
 
 pub returns-in-None-clause-value : goal.returns-in-None-clause-value
-returns-in-None-clause-value g c = data_first c.args.name.now None (g.T.Records.cells c.args.trees.now c.args.db) c.in-None.ensures.rising c.in-None.ensures.found
+returns-in-None-clause-value g c =
+    ap value_in c.in-None.ensures.found ∙ sym (committed_at c.args.name.now (g.T.Records.cells c.args.trees.now c.args.db) c.in-None.ensures.rising)
