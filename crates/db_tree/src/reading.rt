@@ -65,7 +65,13 @@ impl DbTree {
     {
         let _len = self.cells.len();
         match self.cells.get_key_value(name) {
-            Some((held, cell)) => { if is_occupied(cell) { Some((held, cell)) } else { None } }
+            Some((held, cell)) => {
+                if is_occupied(cell) {
+                    Some((held, cell))
+                } else {
+                    None
+                }
+            }
             None => None,
         }
     }
