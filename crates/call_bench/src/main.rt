@@ -9,8 +9,7 @@ mod workloads;
 
 use crate::workloads::Workload;
 use dir_disk::DirDisk;
-use jalibsuk::{Env, Error, Options};
-use std::rt::{Files, Runtime};
+use jalibsuk::{Env, Options};
 use std::{env, io};
 
 // The workload of that name.
@@ -43,9 +42,8 @@ fn main(rt: HostRuntime) -> io::Result<()> {
         Err(error) => return println!(rt; "not opened: {error}"),
     };
     let worked = workload.run(&mut env, number);
-    let closed = env.close();
-    match worked.and_then(|count| closed.map(|()| count)) {
-        Ok(count) => println!(rt; "{count}"),
-        Err(error) => println!(rt; "stopped: {error}"),
+    match (worked, env.close()) {
+        (Ok(count), Ok(())) => println!(rt; "{count}"),
+        (Err(error), _) | (_, Err(error)) => println!(rt; "stopped: {error}"),
     }
 }

@@ -54,7 +54,12 @@ fn put_one<D: Disk + Drop>(env: &mut Env<D>, db: Db, name: u64, value: u64) -> R
     env.finish(txn, done)
 }
 
-fn put_each<D: Disk + Drop>(env: &mut Env<D>, db: Db, number: u32, keys: u64) -> Result<u32, Error> {
+fn put_each<D: Disk + Drop>(
+    env: &mut Env<D>,
+    db: Db,
+    number: u32,
+    keys: u64,
+) -> Result<u32, Error> {
     for i in 0..number {
         let i = u64::from(i);
         let name = if i < keys { i } else { draw(i, keys) };
