@@ -122,6 +122,13 @@ impl<D: Disk> Environment<D> {
         self.engine.kept.commits
     }
 
+    /// The number of the sync job that is out, if one is.
+    pub fn sync_out(&self) -> Option<u64>
+        ensures { result ≡ D.meaning.sync_out (disk_of self.now) }
+    {
+        self.engine.trees.log.disk().sync_out()
+    }
+
     /// Begins a sync of the commits so far: the log is written out, and the job is to be run. None where
     /// the disk failed. It takes no memory.
     pub fn sync_begin(&mut self) -> Option<D::Job>
