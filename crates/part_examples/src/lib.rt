@@ -14,6 +14,8 @@ mod bytes;
 #[cfg(test)]
 mod catalog_records;
 #[cfg(test)]
+mod checks;
+#[cfg(test)]
 mod cycles;
 #[cfg(test)]
 mod disks;
@@ -63,6 +65,8 @@ mod slots;
 mod streams;
 #[cfg(test)]
 mod table;
+#[cfg(test)]
+mod uses;
 #[cfg(test)]
 mod values;
 #[cfg(test)]

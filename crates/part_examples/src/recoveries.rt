@@ -203,7 +203,7 @@ fn finds_the_first_wrong_record(rt: HostRuntime) {
 // A log with a checkpoint whose images have slots outside the bounds of their nodes: in database 1 the BIN
 // of the names below m has z, and that of those from m on has b, each at the record of a; the IN above the
 // first one has a child z, and that above the second a child b below c, both at entries that are no images.
-const OUTSIDE: &[u8] = b"\
+pub const OUTSIDE: &[u8] = b"\
 \x0c\xb3\x01\x31\x01\x00\x00\x00\x00\x00\x00\x00\x00\x0c\x4a\x45\
 \x4c\x47\x00\x00\x00\x01\x00\x00\x00\x00\
 \x06\x14\x00\x90\x02\x00\x00\x00\x00\x00\x00\x00\x00\x16\x00\x00\

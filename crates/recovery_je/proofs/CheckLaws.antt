@@ -59,7 +59,7 @@ mapped_some f None = refl
 mapped_some f (Some x) = refl
 
 -- the databases that the catalog's records name
-found_in : (rows : List Row) → map as_found (map numbered_of rows) ≡ map numbered_by rows
+pub found_in : (rows : List Row) → map as_found (map numbered_of rows) ≡ map numbered_by rows
 found_in [] = refl
 found_in (r ∷ rows) = ap (λ (l : List Found). numbered_by r ∷ l) (found_in rows)
 

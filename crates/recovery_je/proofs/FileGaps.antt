@@ -11,7 +11,7 @@ unfolding IsStrictlySortedBy
 tail_rises n ns h = IsStrictlyIncreasing-from_sorted ns (sorted_from_strictly_increasing (n ∷ ns) h).1
 
 -- numbers that rise from a number on all stand there or behind it
-all_from : (first n : ℕ) (ns : List ℕ) → first ≤ n → IsStrictlyIncreasing (n ∷ ns) → filter (λ m. nat_le first m) (n ∷ ns) ≡ n ∷ ns
+pub all_from : (first n : ℕ) (ns : List ℕ) → first ≤ n → IsStrictlyIncreasing (n ∷ ns) → filter (λ m. nat_le first m) (n ∷ ns) ≡ n ∷ ns
 all_from first n [] le up = cond-true (nat_le first n) (n ∷ []) [] (le-leb first n le)
 all_from first n (m ∷ ns) le up =
     let next = rises n m ns up in

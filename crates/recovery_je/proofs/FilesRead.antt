@@ -19,15 +19,20 @@ use Rattle.log_entry.specs.Encoding.{size_of}
 use Rattle.log_trees.specs.Placed.{Placed, placed_from, placed}
 use Rattle.recovery_je.specs.declared.reading.FileRead.{FileRead}
 use Rattle.recovery_je.specs.declared.reading.FileRead.TheVariants.{GoesOn, Stops}
-use Rattle.recovery_je.specs.LogRead.{offsets_from, entries_in, entries_of_files, AreInside, AreFilesOf}
+use Rattle.recovery_je.specs.LogRead.{offsets_from, entries_in, entries_of_files, AreInside, AreFilesOf, AreStanding}
 use Rattle.recovery_je.specs.Scanned.{HasGoneOn, IsFileRead}
-use Rattle.recovery_je.specs.Files.{IsReading}
+use Rattle.recovery_je.specs.declared.file_len.FileLen.{FileLen}
+use Rattle.recovery_je.specs.declared.reading.FilesRead.{FilesRead}
+use Rattle.recovery_je.specs.declared.reading.FilesRead.TheVariants.{All as AllRead, Stopped}
+use Rattle.recovery_je.specs.Files.{IsReading, AreRead}
+use Rattle.recovery_je.specs.Measuring.{IsMeasuring, AreMeasured, len_of, len_read, with_header}
+use Rattle.check_laws.specs.Check.{count_scanned, end_scanned}
 use Rattle.recovery_je.proofs.EntryPlaces.{inside_in}
 use Rattle.je_order.proofs.Lists.{all_append, all_push}
 use Rattle.log_replay.proofs.FilesLaws.{numbers-append, entries_scanned-are}
 use Rattle.log_replay.proofs.ListedLaws.{read_numbers, read_length, read_observed}
 
-pub reading_begins : (observable : Bool) (reads : Files) (files : List FileNo) → IsReading observable reads files files [] None
+unfoldable pub reading_begins : (observable : Bool) (reads : Files) (files : List FileNo) → IsReading observable reads files files [] None
 reading_begins observable reads files = record {
   done = [];
   parts = refl;
@@ -41,19 +46,19 @@ reading_begins observable reads files = record {
 }
 
 -- what comes of a file with others behind it
-first_corruption : (f : ℕ) (bytes : List ℕ) (more : List (ℕ × List ℕ)) (last : Bool) (o : Option Corruption) → (length more == 0) ≡ last →
+pub first_corruption : (f : ℕ) (bytes : List ℕ) (more : List (ℕ × List ℕ)) (last : Bool) (o : Option Corruption) → (length more == 0) ≡ last →
     corruption_at last f (length bytes) (scan_of f bytes) ≡ o → corruption_in ((f, bytes) ∷ more) ≡ or_else o (corruption_in more)
 first_corruption f bytes more last o at is =
     ap (λ (b : Bool). or_else (corruption_at b f (length bytes) (scan_of f bytes)) (corruption_in more)) at ∙ ap (λ (p : Option Corruption). or_else p (corruption_in more)) is
 
 -- the entries of a log with one file more
-placed-push : (held : List (ℕ × List ℕ)) (x : ℕ × List ℕ) → placed (log_in (held ++ x ∷ [])) ≡ placed (log_in held) ++ placed_from x.0 26 (entries_scanned (scan_of x.0 x.1))
+pub placed-push : (held : List (ℕ × List ℕ)) (x : ℕ × List ℕ) → placed (log_in (held ++ x ∷ [])) ≡ placed (log_in held) ++ placed_from x.0 26 (entries_scanned (scan_of x.0 x.1))
 placed-push [] x = append-nil (placed_from x.0 26 (entries_scanned (scan_of x.0 x.1)))
 placed-push (h ∷ held) x =
     ap (λ (l : List Placed). placed_from h.0 26 (entries_scanned (scan_of h.0 h.1)) ++ l) (placed-push held x)
     ∙ sym (append_assoc (placed_from h.0 26 (entries_scanned (scan_of h.0 h.1))) (placed (log_in held)) (placed_from x.0 26 (entries_scanned (scan_of x.0 x.1))))
 
-pub reading_goes_on : (observable : Bool) (reads : Files) (files left rest : List FileNo) (f : FileNo) (es : List Placed) (before : Option LastFile) (file : ℕ × List Placed) (tail : LastFile) (last : Bool) →
+unfoldable pub reading_goes_on : (observable : Bool) (reads : Files) (files left rest : List FileNo) (f : FileNo) (es : List Placed) (before : Option LastFile) (file : ℕ × List Placed) (tail : LastFile) (last : Bool) →
     IsReading observable reads files left es before → left ≡ f ∷ rest → (length rest == 0) ≡ last → IsFileRead observable reads last f.0 (GoesOn file tail) → f.0 < 2 ^ 32 →
     IsReading observable reads files rest (es ++ file.1) (Some tail)
 reading_goes_on observable reads files left rest f es before file tail last so_far is at read fits =
@@ -84,6 +89,49 @@ reading_goes_on observable reads files left rest f es before file tail last so_f
         len = gone.len;
       };
     }
+
+-- with how long each file is
+pub standing_length : (f : ℕ) (bytes offsets : List ℕ) (es : List Placed) → AreStanding f bytes offsets es → length offsets ≡ length es
+standing_length f bytes [] [] standing = refl
+standing_length f bytes [] (p ∷ es) standing = absurd standing
+standing_length f bytes (at ∷ offsets) [] standing = absurd standing
+standing_length f bytes (at ∷ offsets) (p ∷ es) standing = ap suc (standing_length f bytes offsets es standing.2)
+
+placed_length : (f at : ℕ) (entries : List Entry) → length (placed_from f at entries) ≡ length entries
+placed_length f at [] = refl
+placed_length f at (e ∷ entries) = ap suc (placed_length f (at + size_of e) entries)
+
+read_len : (f : ℕ) (bytes : List ℕ) (file : ℕ × List Placed) (tail : LastFile) (last : Bool) → HasGoneOn last f bytes file tail → len_read tail file.1 ≡ len_of (f, bytes)
+read_len f bytes file tail last gone =
+    let count : with_header tail.end (length file.1) ≡ count_scanned (scan_of f bytes) =
+    ap (λ (g : ℕ × List Placed). with_header tail.end (length g.1)) gone.file_is
+    ∙ ap (with_header tail.end) (placed_length f 26 (entries_scanned (scan_of f bytes)))
+    ∙ sym (ap count_scanned gone.found) in
+    let end : tail.end ≡ end_scanned (scan_of f bytes) = sym (ap end_scanned gone.found) in
+    ap₂ (λ (n : FileNo) (k : ℕ). record { number = n; len = k; entries = with_header tail.end (length file.1); end = tail.end }) gone.number gone.len
+    ∙ ap₂ (λ (k : ℕ) (m : ℕ). record { number = record { 0 = f }; len = length bytes; entries = k; end = m }) count end
+
+pub measuring_begins : (observable : Bool) (reads : Files) (files : List FileNo) (lens : List FileLen) → lens ≡ [] → IsMeasuring observable reads files files [] None lens
+unfolding reading_begins
+measuring_begins observable reads files lens none = record { reading = reading_begins observable reads files; lens_are = none }
+
+pub measuring_goes_on : (observable : Bool) (reads : Files) (files left rest : List FileNo) (f : FileNo) (es : List Placed) (before : Option LastFile) (file : ℕ × List Placed) (tail : LastFile) (last : Bool) (lens more : List FileLen) →
+    IsMeasuring observable reads files left es before lens → left ≡ f ∷ rest → (length rest == 0) ≡ last → IsFileRead observable reads last f.0 (GoesOn file tail) → f.0 < 2 ^ 32 → more ≡ lens ++ len_read tail file.1 ∷ [] →
+    IsMeasuring observable reads files rest (es ++ file.1) (Some tail) more
+unfolding reading_goes_on
+measuring_goes_on observable reads files left rest f es before file tail last lens more so_far is at read fits more_is =
+    let gone : HasGoneOn last f.0 read.bytes file tail = read.is in
+    record {
+      reading = reading_goes_on observable reads files left rest f es before file tail last so_far.reading is at read fits;
+      lens_are =
+          more_is
+          ∙ ap₂ (λ (l : List FileLen) (n : FileLen). l ++ n ∷ []) so_far.lens_are (read_len f.0 read.bytes file tail last gone)
+          ∙ sym (map-append len_of so_far.reading.held ((f.0, read.bytes) ∷ []));
+    }
+
+pub measured : (observable : Bool) (reads : Files) (files : List FileNo) (lens : List FileLen) (read : FilesRead) → AreMeasured observable reads files lens read → AreRead observable reads files read
+measured observable reads files lens (Stopped corruption) have = have
+measured observable reads files lens (AllRead es notes tail) all = all.reading
 
 -- what was read where the disk reads the same
 pub read_along : (observable : Bool) (before now_ : Files) (last : Bool) (f : ℕ) (read : FileRead) → (observable ≡ true → now_ ≡ before) →

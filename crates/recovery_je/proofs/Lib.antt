@@ -40,3 +40,19 @@ pub mod ReadAgain
 pub mod RootWalks
 -- How many entries stand at an LSN or behind it.
 pub mod CountLaws
+-- Checks of trees.
+pub mod TreeCheckLaws
+-- Gaps in files that are noted.
+pub mod GapNotes
+-- Records that break a rule, each noted.
+pub mod RecordNotes
+-- What is left of the records in trees.
+pub mod RestCounts
+-- What a check of a log's entries comes to.
+pub mod EntryCheckLaws
+-- What a check of a log's files answers.
+pub mod CheckAnswers
+-- The images that trees reach.
+pub mod ImageLaws
+-- How much of a log is live, by the trees that were read from it.
+pub mod UseLaws

@@ -56,7 +56,7 @@ there_value w = by_value w.at w.value
     by_value at None = refl
     by_value at (Some value) = refl
 
-there_lsn : (w : Written) → unwrap_or (option_map (λ (s : Stored). s.at) (there w)) 0 ≡ lsn_there w
+pub there_lsn : (w : Written) → unwrap_or (option_map (λ (s : Stored). s.at) (there w)) 0 ≡ lsn_there w
 there_lsn w = by_value w.at w.value
   where
     by_value : (at : ℕ) (value : Option (List ℕ)) → unwrap_or (option_map (λ (s : Stored). s.at) (stored_at at value)) 0 ≡ unwrap_or (option_map (λ (v : List ℕ). at) value) 0

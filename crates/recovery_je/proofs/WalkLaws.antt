@@ -26,7 +26,7 @@ use Rattle.recovery_je.specs.Walking.{IsWalking, GoesOn}
 
 -- ---- the numbers of the nodes that were read, as a set
 
-any_insert : (m n : ℕ) (xs : List ℕ) → list_any (λ k. k == m) (insert_key nat_cmp xs n) ≡ ((n == m) || list_any (λ k. k == m) xs)
+pub any_insert : (m n : ℕ) (xs : List ℕ) → list_any (λ k. k == m) (insert_key nat_cmp xs n) ≡ ((n == m) || list_any (λ k. k == m) xs)
 any_insert m n [] = refl
 any_insert m n (x ∷ xs) = by_order (any_insert m n xs) (nat_cmp n x) refl
   where

@@ -8,6 +8,12 @@ pub mod Checking
 pub mod Indexing
 pub mod Finishing
 pub mod Recovering
+pub mod Measuring
 pub mod Answer
 pub mod Walking
 pub mod Putting
+pub mod TreeChecks
+pub mod RecordChecks
+pub mod RestChecks
+pub mod Checks
+pub mod Using

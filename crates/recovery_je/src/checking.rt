@@ -27,8 +27,8 @@ fn is_right(name: &Name, number: u32, before: &[u32]) -> bool
         && before.len() < MOST_DATABASES as usize
 }
 
-// Whether the catalog's record of a number is one of a plain database.
-fn is_plain_at(records: &[StoredRecord], number: u32) -> bool
+/// Whether the catalog's record of a number is one of a plain database.
+pub(crate) fn is_plain_at(records: &[StoredRecord], number: u32) -> bool
     ensures { result ≡ is_plain_row (row_numbered number (values_of records.now)) }
 {
     for record in records {
@@ -49,8 +49,13 @@ fn has_primary(records: &[StoredRecord], made: Option<(u32, Extract)>) -> bool
     }
 }
 
-// Whether a catalog record of this name and data is right behind records of other numbers.
-fn is_right_in(records: &[StoredRecord], name: &Name, value: &[u8], before: &[u32]) -> bool
+/// Whether a catalog record of this name and data is right behind records of other numbers.
+pub(crate) fn is_right_in(
+    records: &[StoredRecord],
+    name: &Name,
+    value: &[u8],
+    before: &[u32],
+) -> bool
     ensures { result ≡ (is_right_behind before.now (name.now, value.now) && has_primary_in (values_of records.now) (catalog_index value.now)) }
 {
     is_right(name, number_of(value), before) && has_primary(records, index_of(value))
@@ -81,8 +86,11 @@ fn numbers_in(alloc: Global, records: &[StoredRecord]) -> Result<Vec<u32>, Alloc
     Ok(numbers)
 }
 
-// The numbers and the kinds in the catalog's records, in order.
-fn numbered_in(alloc: Global, records: &[StoredRecord]) -> Result<Vec<Numbered>, AllocError>
+/// The numbers and the kinds in the catalog's records, in order.
+pub(crate) fn numbered_in(
+    alloc: Global,
+    records: &[StoredRecord],
+) -> Result<Vec<Numbered>, AllocError>
     ensures { IfOk result (λ databases. databases.items ≡ map numbered_of (values_of records.now)) }
 {
     let mut databases = Vec::new(alloc);
@@ -122,8 +130,8 @@ fn first_wrong<T: Loads>(trees: &T, database: Numbered) -> Option<&SortKey>
     }
 }
 
-// Whether a database has a record that is wrong in one of its kind.
-fn is_wrong<T: Loads>(trees: &T, database: Numbered) -> bool
+/// Whether a database has a record that is wrong in one of its kind.
+pub(crate) fn is_wrong<T: Loads>(trees: &T, database: Numbered) -> bool
     ensures { result ≡ not (are_right database.kind (values_of (T.stored trees.now database.number))) }
 {
     first_wrong(trees, database).is_some()
@@ -142,8 +150,8 @@ fn least_wrong<T: Loads>(trees: &T, databases: &[Numbered]) -> Option<Numbered>
     found
 }
 
-// The LSN of the record of that name, 0 where there is none.
-fn lsn_of<T: Loads>(trees: &T, db: u32, name: &SortKey) -> Lsn
+/// The LSN of the record of that name, 0 where there is none.
+pub(crate) fn lsn_of<T: Loads>(trees: &T, db: u32, name: &SortKey) -> Lsn
     ensures { result ≡ lsn_of_name (T.stored trees.now) db name.now }
 {
     match trees.get(db, name) {
@@ -152,8 +160,12 @@ fn lsn_of<T: Loads>(trees: &T, db: u32, name: &SortKey) -> Lsn
     }
 }
 
-// The LSN of the catalog's record of that name, 0 where there is none.
-fn lsn_in_catalog<T: Loads>(alloc: Global, trees: &T, name: Name) -> Result<Lsn, AllocError>
+/// The LSN of the catalog's record of that name, 0 where there is none.
+pub(crate) fn lsn_in_catalog<T: Loads>(
+    alloc: Global,
+    trees: &T,
+    name: Name,
+) -> Result<Lsn, AllocError>
     ensures { IfOk result (λ at. at ≡ lsn_of_name (T.stored trees.now) 0 name) }
 {
     let name = SortKey::new(alloc, name)?;

@@ -118,8 +118,8 @@ fn read_below<T: Loads>(
     )
 }
 
-// Whether the names of the child that waits end at the next slot's name, since this is above the lower bound.
-fn child_ends_at(pending: Option<&Lsn>, low: &Name, name: &Name) -> bool
+/// Whether the names of the child that waits end at the next slot's name, since this is above the lower bound.
+pub(crate) fn child_ends_at(pending: Option<&Lsn>, low: &Name, name: &Name) -> bool
     ensures { result ≡ ends_at_name (option_copied pending.entry) low.now name.now }
 {
     match pending {

@@ -19,8 +19,8 @@ use secondary::{KeyPair, push_pair, sort_pairs};
 use std::alloc::{AllocError, Global};
 use store_model::Extract;
 
-// The pairs that an index has for records, in the order of these.
-fn pairs_of<'a>(
+/// The pairs that an index has for records, in the order of these.
+pub(crate) fn pairs_of<'a>(
     alloc: Global,
     records: &[RecordRef<'a>],
     extract: &Extract,
@@ -42,8 +42,8 @@ fn is_pair(found: &RecordRef<'_>, pair: &KeyPair<'_>) -> bool
         && cmp_bytes(found.name.dup(), pair.primary_key).is_eq()
 }
 
-// Whether an index's records are these pairs.
-fn are_pairs(records: &[RecordRef<'_>], pairs: &[KeyPair<'_>]) -> bool
+/// Whether an index's records are these pairs.
+pub(crate) fn are_pairs(records: &[RecordRef<'_>], pairs: &[KeyPair<'_>]) -> bool
     ensures { result ≡ are_same_pairs (map (pair_of Dup) (lent records.now)) (pairs_in pairs.now) }
 {
     let mut left = pairs;

@@ -1,10 +1,12 @@
 // A log that was read.
-ghost use Rattle.std.specs.Prelude.{◌≡◌, None, MatchOption};
+ghost use Rattle.std.specs.Prelude.{◌≡◌, [], None, MatchOption};
+ghost use Rattle.file_use.specs.Live.{entries_in_file};
 ghost use Rattle.log_trees.specs.Placed.{entry_at};
 ghost use Rattle.recovery_je.specs.LogRead.{entries_of_files, AreFilesRead, IsFileWith};
 
 use crate::file_entries::FileEntries;
-use je_lsn::Lsn;
+use je_lsn::{FileNo, Lsn};
+use std::alloc::Global;
 use std::marker::Model;
 
 /// The files of a log in order, seen as their entries, and beside them what is asked of all of them: the files' numbers, and whether
@@ -40,7 +42,40 @@ fn file_among<'a>(numbers: &[u32], files: &'a [FileEntries], at: Lsn) -> Option<
     }
 }
 
+// The file of this number, among those of these numbers.
+fn file_numbered<'a>(
+    numbers: &[u32],
+    files: &'a [FileEntries],
+    file: FileNo,
+) -> Option<&'a FileEntries>
+    requires { AreFilesRead numbers.now files.now }
+    ensures { MatchOption result ([] ≡ entries_in_file file.0 (entries_of_files files.now)) (λ found. found.now.1 ≡ entries_in_file file.0 (entries_of_files files.now)) }
+{
+    match numbers.binary_search(&file.0) {
+        Ok(i) => Some(&files[i]),
+        Err(_) => None,
+    }
+}
+
 impl LogRead {
+    /// The log of no files. It takes no memory.
+    pub(crate) fn none(alloc: Global) -> LogRead
+        ensures { result ≡ [] }
+    {
+        LogRead {
+            numbers: Vec::new(alloc),
+            files: Vec::new(alloc),
+            whole: true,
+        }
+    }
+
+    /// The file of this number, if it is one of these.
+    pub(crate) fn file(&self, file: FileNo) -> Option<&FileEntries>
+        ensures { MatchOption result ([] ≡ entries_in_file file.0 self.now) (λ found. found.now.1 ≡ entries_in_file file.0 self.now) }
+    {
+        file_numbered(self.numbers.as_slice(), self.files.as_slice(), file)
+    }
+
     /// The file that an LSN names, if it is one of these.
     pub(crate) fn file_with(&self, at: Lsn) -> Option<&FileEntries>
         ensures { MatchOption result (None ≡ entry_at self.now at) (λ file. IsFileWith self.now at file.now) }

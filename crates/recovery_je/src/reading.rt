@@ -15,8 +15,10 @@ ghost use Rattle.recovery_je.specs.LogRead.{offsets_from};
 ghost use Rattle.recovery_je.specs.Noting.{NotesMore};
 ghost use Rattle.recovery_je.specs.Scanned.{IsReadOf, FileIsNoted, IsFileRead};
 ghost use Rattle.recovery_je.specs.Files.{AreRead, LogIsNoted};
+ghost use Rattle.recovery_je.specs.Measuring.{AreMeasured, len_read, with_header};
 
 use crate::file_entries::FileEntries;
+use crate::file_len::FileLen;
 use crate::giving_back::give_back;
 use crate::log_read::LogRead;
 use crate::read_notes::ReadNotes;
@@ -182,19 +184,85 @@ fn read_file<D: Disk>(
     Ok(take_file(alloc, f, is_last, bytes, notes)?)
 }
 
-// Keeps a file behind the others.
+// How many entries there are with the header, behind which so many stand, in a valid prefix that ends here.
+fn count_with_header(end: u32, entries: usize) -> u64
+    requires { entries < 2 ^ 63 }
+    ensures { result ≡ with_header end entries }
+{
+    if end == 0 {
+        return 0;
+    }
+    entries as u64 + 1
+}
+
+// How long a file is that was read.
+fn measure(file: &FileEntries, tail: &LastFile) -> FileLen
+    ensures { result ≡ len_read tail.now file.now.1 }
+{
+    FileLen {
+        number: tail.file,
+        len: tail.len,
+        entries: count_with_header(tail.end, file.offsets.as_slice().len()),
+        end: tail.end,
+    }
+}
+
+// Keeps a file behind the others, and how long it is.
 fn keep(
     numbers: &mut Vec<u32>,
     read: &mut Vec<FileEntries>,
+    lens: &mut Vec<FileLen>,
     f: FileNo,
+    tail: &LastFile,
     file: FileEntries,
 ) -> Result<(), AllocError>
     ensures numbers { OnOk result (numbers.new.items ≡ numbers.old.items ++ f.0 ∷ []) }
     ensures files { OnOk result (read.new.items ≡ read.old.items ++ file ∷ []) }
+    ensures lens { OnOk result (lens.new.items ≡ lens.old.items ++ len_read tail.now file.1 ∷ []) }
 {
     numbers.push(f.0)?;
+    lens.push(measure(&file, tail))?;
     read.push(file)?;
     Ok(())
+}
+
+/// Reads the files, in order, and tells how long each is that was read.
+pub(crate) fn measure_files<D: Disk>(
+    alloc: Global,
+    disk: &mut D,
+    files: &[FileNo],
+    lens: &mut Vec<FileLen>,
+) -> Result<FilesRead, DiskErr>
+    requires rising { AreRisingNumbers files.now }
+    requires none { lens.old.items ≡ [] }
+    ensures noted { IfOk result LogIsNoted }
+    ensures read { IfOk result (AreMeasured D.meaning.observable (now (D.meaning.history disk.old)).reads files.now lens.new.items) }
+    ensures same { D.meaning.observable ≡ true → now (D.meaning.history disk.new) ≡ now (D.meaning.history disk.old) }
+    ensures moments { D.meaning.observable ≡ true → Passes (D.meaning.history disk.old) (D.meaning.history disk.new) (λ s. s ≡ now (D.meaning.history disk.old)) }
+    ensures jobs { (D.meaning.sync_out disk.new ≡ D.meaning.sync_out disk.old) × (D.meaning.read_out disk.new ≡ D.meaning.read_out disk.old) × (D.meaning.read_of disk.new ≡ D.meaning.read_of disk.old) × (D.meaning.last_job disk.new ≡ D.meaning.last_job disk.old) }
+    ensures cause { HasCause (D.meaning.faults disk.old) (D.meaning.faults disk.new) result }
+{
+    let mut numbers = Vec::new(alloc);
+    let mut read = Vec::new(alloc);
+    let mut notes = ReadNotes::new();
+    let mut last = None;
+    let mut left = files.len();
+    for f in files {
+        left -= 1;
+        match read_file(alloc, disk, *f, left == 0, &mut notes)? {
+            FileRead::Stops(corruption) => return Ok(FilesRead::Stopped(corruption)),
+            FileRead::GoesOn { file, tail } => {
+                keep(&mut numbers, &mut read, lens, *f, &tail, file)?;
+                last = Some(tail);
+            }
+        }
+    }
+    let log = LogRead {
+        numbers,
+        files: read,
+        whole: notes.whole,
+    };
+    Ok(FilesRead::All(log, notes, last))
 }
 
 /// Reads the files, in order.
@@ -211,25 +279,6 @@ pub(crate) fn read_files<D: Disk>(
     ensures jobs { (D.meaning.sync_out disk.new ≡ D.meaning.sync_out disk.old) × (D.meaning.read_out disk.new ≡ D.meaning.read_out disk.old) × (D.meaning.read_of disk.new ≡ D.meaning.read_of disk.old) × (D.meaning.last_job disk.new ≡ D.meaning.last_job disk.old) }
     ensures cause { HasCause (D.meaning.faults disk.old) (D.meaning.faults disk.new) result }
 {
-    let mut numbers = Vec::new(alloc);
-    let mut read = Vec::new(alloc);
-    let mut notes = ReadNotes::new();
-    let mut last = None;
-    let mut left = files.len();
-    for f in files {
-        left -= 1;
-        match read_file(alloc, disk, *f, left == 0, &mut notes)? {
-            FileRead::Stops(corruption) => return Ok(FilesRead::Stopped(corruption)),
-            FileRead::GoesOn { file, tail } => {
-                keep(&mut numbers, &mut read, *f, file)?;
-                last = Some(tail);
-            }
-        }
-    }
-    let log = LogRead {
-        numbers,
-        files: read,
-        whole: notes.whole,
-    };
-    Ok(FilesRead::All(log, notes, last))
+    let mut lens = Vec::new(alloc);
+    measure_files(alloc, disk, files, &mut lens)
 }

@@ -1,5 +1,5 @@
 // Recovery from the entries of a log.
-ghost use Rattle.std.specs.Prelude.{◌≡◌, ◌<◌, ◌^◌, ℕ, List as Items, false, None, Ok, Err, IfOk, IfErr, map};
+ghost use Rattle.std.specs.Prelude.{◌≡◌, ◌<◌, ◌^◌, ℕ, List as Items, true, false, None, Ok, Err, IfOk, IfErr, map};
 ghost use Rattle.log_trees.specs.Walk.{Walk, and_then, read_roots as read_roots_of};
 ghost use Rattle.je_disk.specs.States.{AreRisingNumbers};
 ghost use Rattle.std.specs.List.{AllByRecursion};
@@ -45,16 +45,18 @@ pub(crate) struct Meant<T: Loads> {
     pub(crate) redone: u64,
 }
 
-// Redoes the entries from the redo LSN on over the trees of the roots, of which a redo began.
-fn redo_entries<T: Loads + Drop>(
+/// Redoes the entries from the redo LSN on over the trees of the roots, of which a redo began.
+pub(crate) fn redo_entries<T: Loads + Drop>(
     alloc: Global,
     trees: T,
     redo: Lsn,
-    entries: LogRead,
+    entries: &mut LogRead,
+    keeps: bool,
 ) -> Result<T, LoadErr>
-    requires order { AreInOrder entries }
-    ensures redone { (rows : Items LoggedChange) → HoldsChanges rows (T.stored trees) → IfOk result (λ made. HoldsRedo (behind rows (redone redo entries)) (T.stored made)) }
-    ensures fits { (base : ℕ) → base < 2 ^ 64 → AllByRecursion (λ p. p.0 < base) entries → T.fits trees entries base → IfOk result (λ made. T.fits made entries base) }
+    requires order { AreInOrder entries.old }
+    ensures redone { (rows : Items LoggedChange) → HoldsChanges rows (T.stored trees) → IfOk result (λ made. HoldsRedo (behind rows (redone redo entries.old)) (T.stored made)) }
+    ensures fits { (base : ℕ) → base < 2 ^ 64 → AllByRecursion (λ p. p.0 < base) entries.old → T.fits trees entries.old base → IfOk result (λ made. T.fits made entries.old base) }
+    ensures kept { keeps ≡ true → entries.new ≡ entries.old }
 {
     let mut trees = trees;
     ensure_tree(&mut trees, alloc, CATALOG)?;
@@ -62,14 +64,14 @@ fn redo_entries<T: Loads + Drop>(
         trees,
         waiting: Waiting::new(alloc),
     };
-    take_all(&mut going, alloc, redo, entries)?;
+    take_all(&mut going, alloc, redo, entries, keeps)?;
     let Redoing { trees, waiting } = going;
     drop(waiting);
     Ok(trees)
 }
 
-// The redo LSN, or that of the first file's header where it is lower.
-fn redo_begin(files: &[FileNo], redo: Lsn) -> Lsn {
+/// The redo LSN, or that of the first file's header where it is lower.
+pub(crate) fn redo_begin(files: &[FileNo], redo: Lsn) -> Lsn {
     match files {
         [first, ..] if redo.as_u64() < Lsn::new(*first, 0).as_u64() => Lsn::new(*first, 0),
         _ => redo,
@@ -125,39 +127,42 @@ fn read_trees<T: Loads + Drop>(
     }
 }
 
-/// What the entries of files of these numbers mean, or the first corruption behind those of the files.
+/// What the entries of files of these numbers mean, or the first corruption behind those of the files. If they are not kept,
+/// each file's bytes go once its entries were redone.
 pub(crate) fn recover_entries<T: Loads + Drop>(
     alloc: Global,
     files: &[FileNo],
-    entries: LogRead,
+    entries: &mut LogRead,
+    keeps: bool,
     notes: ReadNotes,
     trees: T,
 ) -> Result<Meant<T>, ReadErr>
     requires files { AreRisingNumbers files.now }
     requires empty { (d : ℕ) → T.has_tree trees d ≡ false }
-    requires order { AreInOrder entries }
-    requires entries { AllByRecursion (λ p. IsEntry p.1) entries }
-    requires noted { AreNotesOf entries notes }
-    ensures meant { IfOk result (λ m. IsMeant (map (λ f. f.0) files.now) entries (record { store = m.settled.opening; last_txn = m.last_txn; last_node = m.last_node; last_db = m.last_db; checkpoint = m.checkpoint }) (T.has_tree m.settled.trees) (T.stored m.settled.trees) m.settled.databases m.settled.records) }
-    ensures fits { IfOk result (λ m. HasReadAgain T.well_formed T.nodes T.read T.stored T.last_number T.fits m.settled.trees m.redo entries) }
-    ensures redone { IfOk result (λ m. m.redone ≡ count_redone entries) }
+    requires order { AreInOrder entries.old }
+    requires entries { AllByRecursion (λ p. IsEntry p.1) entries.old }
+    requires noted { AreNotesOf entries.old notes }
+    ensures meant { IfOk result (λ m. IsMeant (map (λ f. f.0) files.now) entries.old (record { store = m.settled.opening; last_txn = m.last_txn; last_node = m.last_node; last_db = m.last_db; checkpoint = m.checkpoint }) (T.has_tree m.settled.trees) (T.stored m.settled.trees) m.settled.databases m.settled.records) }
+    ensures fits { IfOk result (λ m. HasReadAgain T.well_formed T.nodes T.read T.stored T.last_number T.fits m.settled.trees m.redo entries.old) }
+    ensures redone { IfOk result (λ m. m.redone ≡ count_redone entries.old) }
     ensures index { IfOk result (λ m. IsIndexCheck m.settled.opening m.settled.wrong_index) }
-    ensures found { IfErr result (λ e. IsFoundBy e (λ c. meaning_in (map (λ f. f.0) files.now) entries ≡ Err c)) }
+    ensures found { IfErr result (λ e. IsFoundBy e (λ c. meaning_in (map (λ f. f.0) files.now) entries.old ≡ Err c)) }
+    ensures kept { keeps ≡ true → IfOk result (λ m. entries.new ≡ entries.old) }
 {
     let ReadNotes { end, numbers, .. } = notes;
     let corruption = redo_corruption(files, &end);
     let end = or_none(alloc, end);
-    let walked = read_trees(alloc, files, &entries, &end, corruption, trees)?;
-    let redone = count_from(&entries, end.redo)?;
+    let walked = read_trees(alloc, files, entries, &end, corruption, trees)?;
+    let redone = count_from(entries, end.redo)?;
     let Walked {
         mut trees,
         numbers: in_trees,
     } = walked;
-    let numbers = numbers.behind(alloc, end.redo, &entries)?;
+    let numbers = numbers.behind(alloc, end.redo, entries)?;
     let from = redo_begin(files, end.redo);
     let last_node = end.last_node.max(in_trees.node.max(numbers.node));
     trees.begin_redo(last_node, from);
-    let trees = redo_entries(alloc, trees, end.redo, entries)?;
+    let trees = redo_entries(alloc, trees, end.redo, entries, keeps)?;
     let settled = settle(alloc, trees)?;
     let roots_db = greatest_db(end.roots.as_slice());
     Ok(Meant {

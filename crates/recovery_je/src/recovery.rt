@@ -19,8 +19,8 @@ use log_replay::LastFile;
 use record_tree::Loads;
 use std::alloc::Global;
 
-// What a log means, if each index has the pairs of its primary's records.
-fn check_index<T: Loads + Drop>(
+/// What a log means, if each index has the pairs of its primary's records.
+pub(crate) fn check_index<T: Loads + Drop>(
     meant: Meant<T>,
     tail: Option<LastFile>,
 ) -> Result<Recovered<T>, RecoverErr>
@@ -83,8 +83,8 @@ fn recover_files<T: Loads + Drop>(
             drop(trees);
             Err(RecoverErr::Corrupt(corruption))
         }
-        FilesRead::All(entries, notes, tail) => {
-            let meant = recover_entries(alloc, files, entries, notes, trees)?;
+        FilesRead::All(mut entries, notes, tail) => {
+            let meant = recover_entries(alloc, files, &mut entries, false, notes, trees)?;
             check_index(meant, tail)
         }
     }
@@ -116,8 +116,8 @@ pub fn recover<D: Disk, T: Loads + Drop>(
     recover_files(alloc, files, read, trees)
 }
 
-// Mounts the disk, and lists its files.
-fn list_files<D: Disk>(alloc: Global, disk: &mut D) -> Result<Vec<FileNo>, DiskErr>
+/// Mounts the disk, and lists its files.
+pub(crate) fn list_files<D: Disk>(alloc: Global, disk: &mut D) -> Result<Vec<FileNo>, DiskErr>
     ensures rising { IfOk result (λ files. AreRisingNumbers files.items) }
     ensures listed { D.meaning.observable ≡ true → IfOk result (λ files. IsListing (now (D.meaning.history disk.old)).reads files.items) }
     ensures same { D.meaning.observable ≡ true → now (D.meaning.history disk.new) ≡ now (D.meaning.history disk.old) }

@@ -22,6 +22,7 @@ use log_entry::Entry;
 use log_replay::number_of;
 use record_tree::{LoadErr, Loads};
 use std::alloc::Global;
+use std::mem::replace;
 
 /// A redo under way: the trees, and the changes that wait for their transactions' commits. After an error
 /// nothing is known of the trees.
@@ -257,17 +258,39 @@ fn take_files<T: Loads>(
     Ok(())
 }
 
-/// Takes the entries that stand at the redo LSN or behind it, in order. Each file's bytes go once its entries were taken.
+// Takes the entries of files that stand at the redo LSN or behind it, in order.
+fn take_lent<T: Loads>(
+    going: &mut Redoing<T>,
+    alloc: Global,
+    redo: Lsn,
+    files: &[FileEntries],
+) -> Result<(), LoadErr>
+    ensures redo { (r : Redo) → IsRedoAt (T.stored going.old.trees) going.old.waiting r → OnOk result (IsRedoAt (T.stored going.new.trees) going.new.waiting (redo_all (from redo (entries_of_files files.now)) r)) }
+    ensures fits { (es : Items Placed) (base : ℕ) → base < 2 ^ 64 → AllByRecursion (IsIn es base) (entries_of_files files.now) → FitsRedo T.fits es base going.old.trees going.old.waiting → OnOk result (FitsRedo T.fits es base going.new.trees going.new.waiting) }
+{
+    for file in files {
+        take_file(going, alloc, redo, file)?;
+    }
+    Ok(())
+}
+
+/// Takes the entries that stand at the redo LSN or behind it, in order. If they are not kept, each file's bytes go once its
+/// entries were taken.
 pub(crate) fn take_all<T: Loads>(
     going: &mut Redoing<T>,
     alloc: Global,
     redo: Lsn,
-    entries: LogRead,
+    entries: &mut LogRead,
+    keeps: bool,
 ) -> Result<(), LoadErr>
-    ensures redo { (r : Redo) → IsRedoAt (T.stored going.old.trees) going.old.waiting r → OnOk result (IsRedoAt (T.stored going.new.trees) going.new.waiting (redo_all (from redo entries) r)) }
-    ensures fits { (es : Items Placed) (base : ℕ) → base < 2 ^ 64 → AllByRecursion (IsIn es base) entries → FitsRedo T.fits es base going.old.trees going.old.waiting → OnOk result (FitsRedo T.fits es base going.new.trees going.new.waiting) }
+    ensures redo { (r : Redo) → IsRedoAt (T.stored going.old.trees) going.old.waiting r → OnOk result (IsRedoAt (T.stored going.new.trees) going.new.waiting (redo_all (from redo entries.old) r)) }
+    ensures fits { (es : Items Placed) (base : ℕ) → base < 2 ^ 64 → AllByRecursion (IsIn es base) entries.old → FitsRedo T.fits es base going.old.trees going.old.waiting → OnOk result (FitsRedo T.fits es base going.new.trees going.new.waiting) }
+    ensures kept { keeps ≡ true → entries.new ≡ entries.old }
 {
-    let LogRead { numbers, files, .. } = entries;
+    if keeps {
+        return take_lent(going, alloc, redo, entries.files.as_slice());
+    }
+    let LogRead { numbers, files, .. } = replace(entries, LogRead::none(alloc));
     drop(numbers);
     take_files(going, alloc, redo, files)
 }

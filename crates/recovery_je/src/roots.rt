@@ -38,8 +38,8 @@ pub(crate) struct Walked<T> {
     pub(crate) numbers: WalkNumbers,
 }
 
-// The level of the node that a root's image shows.
-fn root_level(
+/// The level of the node that a root's image shows.
+pub(crate) fn root_level(
     alloc: Global,
     files: &[FileNo],
     entries: &LogRead,
@@ -135,8 +135,8 @@ fn read_each<T: Loads>(
     Ok(())
 }
 
-// The least name. It takes no memory.
-fn least_of_all(alloc: Global) -> Name
+/// The least name. It takes no memory.
+pub(crate) fn least_of_all(alloc: Global) -> Name
     ensures { result ≡ least_name }
 {
     Name {

@@ -61,8 +61,8 @@ pub(crate) fn meet<T: Loads>(
     Ok(())
 }
 
-// Puts a record that was read.
-fn put_record<T: Loads>(
+/// Puts a record that was read.
+pub(crate) fn put_record<T: Loads>(
     walking: &mut Walking<T>,
     alloc: Global,
     d: u32,
@@ -78,8 +78,8 @@ fn put_record<T: Loads>(
     Ok(())
 }
 
-// The data that an entry gives a record.
-fn data_of<'a>(d: u32, name: &Name, entry: &'a Entry) -> Option<&'a Octets>
+/// The data that an entry gives a record.
+pub(crate) fn data_of<'a>(d: u32, name: &Name, entry: &'a Entry) -> Option<&'a Octets>
     ensures { option_map (λ value. value.now) result ≡ data_in d name.now entry.now }
 {
     match entry {
@@ -183,8 +183,8 @@ pub(crate) fn is_below(name: &Name, high: Option<&Name>) -> bool
     }
 }
 
-// Whether a name lies within bounds, the lower one included.
-fn is_within(low: &Name, high: Option<&Name>, name: &Name) -> bool
+/// Whether a name lies within bounds, the lower one included.
+pub(crate) fn is_within(low: &Name, high: Option<&Name>, name: &Name) -> bool
     ensures { result ≡ is_name_within low.now (option_copied high.entry) name.now }
 {
     if name.cmp(low).is_lt() {

@@ -14,7 +14,7 @@ use Rattle.recovery_je.proofs.recovering.recover_entries.Goals as goal
 pub returns-in_err-settled-clause-found : goal.returns-in_err-settled-clause-found
 returns-in_err-settled-clause-found g c =
     let files = map (λ f. f.0) c.args.files.now in
-    let es = c.args.entries in
+    let es = c.args.entries.now in
     let e : Checkpoint = record { at = c.end.inside.at; number = c.end.inside.number; redo = c.end.inside.redo; last_txn = c.end.inside.last_txn; last_node = c.end.inside.last_node; last_db = c.end.inside.last_db; roots = c.end.inside.roots } in
     let found_end : c.args.notes.end ≡ last_end es = c.requires.noted.end in
     let at : e ≡ last_checkpoint es = c.end.view_is ∙ c.or_none-end.ensures ∙ ap (λ (o : Option Checkpoint). unwrap_or o no_checkpoint) found_end in
@@ -30,7 +30,7 @@ returns-in_err-settled-clause-found g c =
 pub returns-clause-meant : goal.returns-clause-meant
 returns-clause-meant g c =
     let files = map (λ f. f.0) c.args.files.now in
-    let es = c.args.entries in
+    let es = c.args.entries.now in
     let e : Checkpoint = record { at = c.end.inside.at; number = c.end.inside.number; redo = c.end.inside.redo; last_txn = c.end.inside.last_txn; last_node = c.end.inside.last_node; last_db = c.end.inside.last_db; roots = c.end.inside.roots } in
     let found_end : c.args.notes.end ≡ last_end es = c.requires.noted.end in
     let at : e ≡ last_checkpoint es = c.end.view_is ∙ c.or_none-end.ensures ∙ ap (λ (o : Option Checkpoint). unwrap_or o no_checkpoint) found_end in
@@ -52,7 +52,7 @@ returns-clause-meant g c =
 
 pub returns-clause-redone : goal.returns-clause-redone
 returns-clause-redone g c =
-    let es = c.args.entries in
+    let es = c.args.entries.now in
     let e : Checkpoint = record { at = c.end.inside.at; number = c.end.inside.number; redo = c.end.inside.redo; last_txn = c.end.inside.last_txn; last_node = c.end.inside.last_node; last_db = c.end.inside.last_db; roots = c.end.inside.roots } in
     let found_end : c.args.notes.end ≡ last_end es = c.requires.noted.end in
     let at : e ≡ last_checkpoint es = c.end.view_is ∙ c.or_none-end.ensures ∙ ap (λ (o : Option Checkpoint). unwrap_or o no_checkpoint) found_end in
@@ -61,7 +61,7 @@ returns-clause-redone g c =
 pub returns-clause-fits : goal.returns-clause-fits
 returns-clause-fits g c =
     let files = map (λ f. f.0) c.args.files.now in
-    let es = c.args.entries in
+    let es = c.args.entries.now in
     let e : Checkpoint = record { at = c.end.inside.at; number = c.end.inside.number; redo = c.end.inside.redo; last_txn = c.end.inside.last_txn; last_node = c.end.inside.last_node; last_db = c.end.inside.last_db; roots = c.end.inside.roots } in
     let found_end : c.args.notes.end ≡ last_end es = c.requires.noted.end in
     let at : e ≡ last_checkpoint es = c.end.view_is ∙ c.or_none-end.ensures ∙ ap (λ (o : Option Checkpoint). unwrap_or o no_checkpoint) found_end in
