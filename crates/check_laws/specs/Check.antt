@@ -31,11 +31,12 @@ use Rattle.check_laws.specs.Rest.{catalog_left, rows_left, wrong_indexes}
 
 -- ---- the files
 
--- how many entries a file has, its header among them, and where they end
+-- how many entries a file has, its header among them
 abbrev pub count_scanned : FileScan → ℕ
 count_scanned (Prefix prefix) = if prefix.end == 0 then 0 else length prefix.entries + 1
 count_scanned found = 0
 
+-- where they end
 abbrev pub end_scanned : FileScan → ℕ
 end_scanned (Prefix prefix) = prefix.end
 end_scanned found = 0
@@ -51,6 +52,7 @@ abbrev pub gaps_at : ℕ → List ℕ → List (ℕ × ℕ)
 gaps_at f [] = []
 gaps_at f (n ∷ ns) = if n == f then gaps_behind f ns else (f, n) ∷ gaps_behind n ns
 
+-- a gap as a finding
 abbrev pub gap_finding : ℕ × ℕ → Finding
 gap_finding gap = Gap (record { 0 = gap.0 }) (record { 0 = gap.1 })
 
@@ -66,16 +68,20 @@ redo_findings files (Some c) =
 abbrev pub finding_at : Redo → ℕ → Name → Finding
 finding_at redo d x = Wrong (Tree (lsn_there (record_at redo d x)))
 
+-- the records of the catalog that are wrong
 abbrev pub catalog_findings : Redo → List Finding
 catalog_findings redo = map (finding_at redo 0) (wrongs_in_catalog (rows_of redo 0) [] (rows_of redo 0))
 
+-- those of the databases that it keeps, by the databases' numbers
 abbrev pub database_findings : Redo → List Finding
 database_findings redo =
     flat_map (λ d. map (finding_at redo d.number) (wrongs_in d.kind (rows_of redo d.number))) (wrong_databases (rows_of redo) (catalog_left (rows_of redo)))
 
+-- all of these
 abbrev pub record_findings : Redo → List Finding
 record_findings redo = catalog_findings redo ++ database_findings redo
 
+-- the indexes without their pairs
 abbrev pub index_findings : Rows → List Finding
 index_findings rows = map WrongIndex (wrong_indexes rows)
 
@@ -99,6 +105,7 @@ findings_in files es =
 abbrev pub count_left : Rows → Row → DatabaseCount
 count_left rows row = record { name = row.0.key; records = length (rows (catalog_number row.1)) }
 
+-- each database that is left, by name
 abbrev pub counts_left : Rows → List DatabaseCount
 counts_left rows = map (count_left rows) (rows 0)
 

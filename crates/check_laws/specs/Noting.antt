@@ -6,9 +6,11 @@ pub record Noted (W C : Type 0) : Type 0 where
   pub walk : W
   pub found : List C
 
+-- this was read, and that was found wrong
 abbrev pub as_noted : {W C : Type 0} → W → List C → Noted W C
 as_noted walk found = record { walk = walk; found = found }
 
+-- one thing more is found wrong
 abbrev pub noted : {W C : Type 0} → C → Noted W C → Noted W C
 noted c s = as_noted s.walk (s.found ++ c ∷ [])
 

@@ -19,31 +19,34 @@ abbrev pub first_item : {A : Type 0} → List A → Option A
 first_item [] = None
 first_item (x ∷ xs) = Some x
 
--- gaps between rising numbers: each from its first number up to the next that is there
+-- the gaps behind a number and between rising ones: each from its first number up to the next that is there
 abbrev pub gaps_behind : ℕ → List ℕ → List (ℕ × ℕ)
 gaps_behind n [] = []
 gaps_behind n (m ∷ ms) = if m == n + 1 then gaps_behind m ms else (n + 1, m) ∷ gaps_behind m ms
 
+-- the gaps between rising numbers
 abbrev pub gaps_in : List ℕ → List (ℕ × ℕ)
 gaps_in [] = []
 gaps_in (n ∷ ns) = gaps_behind n ns
 
--- the catalog's records that are wrong, by name, and those that are left; the numbers before a record are those of the ones that are left
+-- the catalog's records that are wrong, by name; the numbers before a record are those of the ones that are left
 abbrev pub wrongs_in_catalog : List Row → List ℕ → List Row → List Name
 wrongs_in_catalog catalog before [] = []
 wrongs_in_catalog catalog before (row ∷ rows) =
     if is_right_behind before row && has_primary catalog (catalog_index row.1) then wrongs_in_catalog catalog (before ++ catalog_number row.1 ∷ []) rows else row.0 ∷ wrongs_in_catalog catalog before rows
 
+-- those of the catalog's records that are left
 abbrev pub kept_in_catalog : List Row → List ℕ → List Row → List Row
 kept_in_catalog catalog before [] = []
 kept_in_catalog catalog before (row ∷ rows) =
     if is_right_behind before row && has_primary catalog (catalog_index row.1) then row ∷ kept_in_catalog catalog (before ++ catalog_number row.1 ∷ []) rows else kept_in_catalog catalog before rows
 
--- databases in order of their numbers
+-- a database is put among others that stand in order of their numbers
 abbrev pub put_by_number : NumberedKind → List NumberedKind → List NumberedKind
 put_by_number d [] = d ∷ []
 put_by_number d (e ∷ es) = if nat_le d.number e.number then d ∷ e ∷ es else e ∷ put_by_number d es
 
+-- all of them in that order
 abbrev pub in_number_order : List NumberedKind → List NumberedKind
 in_number_order [] = []
 in_number_order (d ∷ ds) = put_by_number d (in_number_order ds)

@@ -10,9 +10,11 @@ use Rattle.log_trees.specs.Bounds.{Child, children, least_name, slots_inside}
 use Rattle.log_trees.specs.Walk.{Walk, met, nowhere, read_image, read_here, read_record, read_roots}
 use Rattle.check_laws.specs.Noting.{Noted, as_noted, or_noted, each_on, noted, walk_unless_found}
 
+-- what was read of trees, and what was found wrong in them
 abbrev pub NotedTrees : Type 0
 NotedTrees = Noted Walk Corruption
 
+-- the same, with what was read changed
 abbrev pub with_walk : (Walk → Walk) → NotedTrees → NotedTrees
 with_walk f s = as_noted (f s.walk) s.found
 
@@ -20,6 +22,7 @@ with_walk f s = as_noted (f s.walk) s.found
 abbrev pub check_record : List ℕ → List Placed → ℕ → ℕ → NamedLsn → NotedTrees → NotedTrees
 check_record files es d at slot s = or_noted (read_record files es d at slot s.walk) s (λ walk s. as_noted walk s.found)
 
+-- a child is checked that stands below the entry which names it; the LSN of any other is wrong
 abbrev pub check_child : List ℕ → (Name → Option Name → ℕ → NotedTrees → NotedTrees) → ℕ → Child → NotedTrees → NotedTrees
 check_child files check at child s = if nat_lt child.at at then check child.low child.high child.at s else noted (nowhere files child.at) s
 
@@ -31,10 +34,12 @@ check_node files es d (suc above) low high at s =
     or_noted (read_here files es d (suc (suc above)) at s.walk.seen) s
     (λ n s. each_on (check_child files (check_node files es d above) at) (children low high (slots_shown n)) (with_walk (met n) s))
 
+-- the tree below an image of this level
 abbrev pub check_level : List ℕ → List Placed → ℕ → ℕ → ℕ → NotedTrees → NotedTrees
 check_level files es d zero at s = noted (Tree at) s
 check_level files es d (suc above) at s = check_node files es d above least_name None at s
 
+-- the tree of a root
 abbrev pub check_root : List ℕ → List Placed → ℕ → Root → NotedTrees → NotedTrees
 check_root files es end root s =
     if nat_lt root.image end then or_noted (read_image files es root.db root.image) s (λ n s. check_level files es root.db n.level root.image s) else noted (nowhere files root.image) s

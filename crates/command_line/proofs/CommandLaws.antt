@@ -14,8 +14,8 @@ use Rattle.clap.specs.Faults.{built_fault, check_fault, defaults_fault, entered_
 use Rattle.clap.specs.declared.builder.value_parser.Reading.{Reading}
 use Rattle.command_line.specs.declared.command.RunSettings.{RunSettings}
 use Rattle.command_line.specs.declared.command.Command.{Command}
-use Rattle.command_line.specs.declared.command.Command.TheVariants.{Run, Soak, PrintLog}
-use Rattle.command_line.specs.Arguments.{AreSettings, HasSettings, command_of, db_of, dump_command, dump_asked, home_of, is_given as is_given_flag, is_named, is_parsed, jedb, load_command, load_with, name_if, number_of, number_read, printlog_command, run_command, settings_of, soak_command}
+use Rattle.command_line.specs.declared.command.Command.TheVariants.{Run, Soak, PrintLog, Verify, Stat}
+use Rattle.command_line.specs.Arguments.{AreSettings, HasSettings, command_of, db_of, dump_command, dump_asked, folder_command, has_name, home_of, is_given as is_given_flag, is_named, is_parsed, jedb, load_command, load_with, name_if, number_of, number_read, printlog_command, run_command, settings_of, soak_command, stat_command, verify_command}
 use Rattle.command_line.proofs.WalkLaws.{neither}
 use Rattle.command_line.proofs.StopLaws.{StopsOther, walk_other}
 use Rattle.command_line.proofs.RowLaws.{AreFilled, IsNumberIf, IsValue, Number, first_there, number_there, row_there}
@@ -152,13 +152,14 @@ soak_has_line args none =
     (number_defaulted soak_numbers rows read.filled fanout_number (omega arith) (λ id how v is. is.1.1.0) (read.defaulted.1.1.1.0 refl)) in
     with_command (Some (rows_at s args)) home.0 (Soak seed.value settings.0) home.1 (rw seed.is (ap (option_map (Soak seed.value)) settings.1)) refl settings.2
 
-printlog_has_line : (args : List Text) → level_fault (leaf_of printlog_command) [] nothing_held args false [] ≡ [] → HasLine (Some (rows_at (leaf_of printlog_command) args))
-printlog_has_line args none =
-    let s = leaf_of printlog_command in
+folder_has_line : (name : Text) (command : Command) → ((rows : List Row) → command_of (name, rows) ≡ Some command) → ((rows : List Row) → has_name (name, rows) ≡ true) → HasSettings command →
+    (args : List Text) → level_fault (leaf_of (folder_command name)) [] nothing_held args false [] ≡ [] → HasLine (Some (rows_at (leaf_of (folder_command name)) args))
+folder_has_line name command is named bounded args none =
+    let s = leaf_of (folder_command name) in
     let rows = (rows_at s args).1 in
     let read : AreRead [] s rows = level_read [] s args (uses_kept [] s.rules (text_kept [] (codes "home") (λ v. tt), (help_kept [], tt))) (inl refl, (inl refl, tt)) none in
     let home = has_home [] rows read.filled (read.given.0 refl) in
-    with_command (Some (rows_at s args)) home.0 PrintLog home.1 refl refl tt
+    with_command (Some (rows_at s args)) home.0 command home.1 (is rows) (named rows) bounded
 
 -- a command that takes a database is there exactly where the name is one of a database
 named_there : (command : Text → Command) (db : Option Text) → is_some (option_map command (option_and_then name_if db)) ≡ option_map_or is_word db false
@@ -221,22 +222,24 @@ entered_has_line : (stop : Option (Text × List Text)) → StopsOther stop → e
 entered_has_line None other none in_one = cc
 entered_has_line (Some p) other none in_one =
     go (answers_to p.0 (codes "run", [])) (answers_to p.0 (codes "soak", [])) (answers_to p.0 (codes "printlog", [])) (answers_to p.0 (codes "dump", [])) (answers_to p.0 (codes "load", []))
-    (answers_to p.0 (codes "help", [])) (help_apart p.0 other) none in_one
+    (answers_to p.0 (codes "verify", [])) (answers_to p.0 (codes "stat", [])) (answers_to p.0 (codes "help", [])) (help_apart p.0 other) none in_one
   where
-    chosen : Bool → Bool → Bool → Bool → Bool → Bool → Option Shape
-    chosen b₁ b₂ b₃ b₄ b₅ b₆ =
+    chosen : Bool → Bool → Bool → Bool → Bool → Bool → Bool → Bool → Option Shape
+    chosen b₁ b₂ b₃ b₄ b₅ b₆ b₇ b₈ =
         cond b₁ (Some (leaf_of run_command)) (cond b₂ (Some (leaf_of soak_command)) (cond b₃ (Some (leaf_of printlog_command)) (cond b₄ (Some (leaf_of dump_command))
-        (cond b₅ (Some (leaf_of load_command)) (cond b₆ (Some help_built) None)))))
+        (cond b₅ (Some (leaf_of load_command)) (cond b₆ (Some (leaf_of verify_command)) (cond b₇ (Some (leaf_of stat_command)) (cond b₈ (Some help_built) None)))))))
 
-    go : (b₁ b₂ b₃ b₄ b₅ b₆ : Bool) → b₆ ≡ false → option_map_or (λ s. level_fault s [] nothing_held p.1 false []) (chosen b₁ b₂ b₃ b₄ b₅ b₆) [] ≡ [] →
-        is_some (option_map (λ s. rows_at s p.1) (chosen b₁ b₂ b₃ b₄ b₅ b₆)) ≡ true → HasLine (option_map (λ s. rows_at s p.1) (chosen b₁ b₂ b₃ b₄ b₅ b₆))
-    go true b₂ b₃ b₄ b₅ b₆ apart none in_one = run_has_line p.1 none
-    go false true b₃ b₄ b₅ b₆ apart none in_one = soak_has_line p.1 none
-    go false false true b₄ b₅ b₆ apart none in_one = printlog_has_line p.1 none
-    go false false false true b₅ b₆ apart none in_one = dump_has_line p.1 none
-    go false false false false true b₆ apart none in_one = load_has_line p.1 none
-    go false false false false false true apart none in_one = absurd (true≢false apart)
-    go false false false false false false apart none in_one = cc
+    go : (b₁ b₂ b₃ b₄ b₅ b₆ b₇ b₈ : Bool) → b₈ ≡ false → option_map_or (λ s. level_fault s [] nothing_held p.1 false []) (chosen b₁ b₂ b₃ b₄ b₅ b₆ b₇ b₈) [] ≡ [] →
+        is_some (option_map (λ s. rows_at s p.1) (chosen b₁ b₂ b₃ b₄ b₅ b₆ b₇ b₈)) ≡ true → HasLine (option_map (λ s. rows_at s p.1) (chosen b₁ b₂ b₃ b₄ b₅ b₆ b₇ b₈))
+    go true b₂ b₃ b₄ b₅ b₆ b₇ b₈ apart none in_one = run_has_line p.1 none
+    go false true b₃ b₄ b₅ b₆ b₇ b₈ apart none in_one = soak_has_line p.1 none
+    go false false true b₄ b₅ b₆ b₇ b₈ apart none in_one = folder_has_line (codes "printlog") PrintLog (λ rows. refl) (λ rows. refl) tt p.1 none
+    go false false false true b₅ b₆ b₇ b₈ apart none in_one = dump_has_line p.1 none
+    go false false false false true b₆ b₇ b₈ apart none in_one = load_has_line p.1 none
+    go false false false false false true b₇ b₈ apart none in_one = folder_has_line (codes "verify") Verify (λ rows. refl) (λ rows. refl) tt p.1 none
+    go false false false false false false true b₈ apart none in_one = folder_has_line (codes "stat") Stat (λ rows. refl) (λ rows. refl) tt p.1 none
+    go false false false false false false false true apart none in_one = absurd (true≢false apart)
+    go false false false false false false false false apart none in_one = cc
 
 faultless_has_line : (args : List Text) → built_fault jedb_built nothing_held args ≡ [] → HasLine (entered jedb_built (walk jedb_built.top.rules (names_of jedb_built) nothing_held args).stopped)
 faultless_has_line args none =

@@ -12,7 +12,7 @@ use Rattle.clap.specs.declared.builder.value_parser.ValueParser.TheVariants as p
 use Rattle.je_order.specs.Words.{is_word}
 use Rattle.command_line.specs.declared.command.RunSettings.{RunSettings}
 use Rattle.command_line.specs.declared.command.Command.{Command}
-use Rattle.command_line.specs.declared.command.Command.TheVariants.{Run, Soak, Dump, Load, PrintLog}
+use Rattle.command_line.specs.declared.command.Command.TheVariants.{Run, Soak, Dump, Load, PrintLog, Verify, Stat}
 
 -- ---- the rules
 
@@ -73,9 +73,21 @@ run_command = with_settings (with_rule (new_app (codes "run")) home_option)
 abbrev pub soak_command : App
 soak_command = with_settings (with_rule (with_rule (new_app (codes "soak")) home_option) seed_option)
 
+-- a command of this name that takes the folder alone
+abbrev pub folder_command : Text → App
+folder_command name = with_rule (new_app name) home_option
+
 -- `printlog`, which takes the folder alone
 abbrev pub printlog_command : App
-printlog_command = with_rule (new_app (codes "printlog")) home_option
+printlog_command = folder_command (codes "printlog")
+
+-- `verify`, which does too
+abbrev pub verify_command : App
+verify_command = folder_command (codes "verify")
+
+-- and `stat`
+abbrev pub stat_command : App
+stat_command = folder_command (codes "stat")
 
 -- `dump`, which takes the folder, a database and how its bytes are shown
 abbrev pub dump_command : App
@@ -87,9 +99,9 @@ load_command = with_rule (with_rule (with_rule (new_app (codes "load")) home_opt
 
 -- `jedb`, which takes one of its commands; no program's name is before the arguments
 abbrev pub jedb : App
-jedb = with_subcommand (with_subcommand (with_subcommand (with_subcommand (with_subcommand
+jedb = with_subcommand (with_subcommand (with_subcommand (with_subcommand (with_subcommand (with_subcommand (with_subcommand
     (on_top (λ s. record s { no_binary_name = true; subcommand_required = true }) (new_app (codes "jedb")))
-    run_command.top) soak_command.top) printlog_command.top) dump_command.top) load_command.top
+    run_command.top) soak_command.top) printlog_command.top) dump_command.top) load_command.top) verify_command.top) stat_command.top
 
 -- ---- what is read
 
@@ -180,6 +192,8 @@ command_of given =
     else if bytes_eq given.0 (codes "soak") then soak_from given.1
     else if bytes_eq given.0 (codes "dump") then dump_named given.1
     else if bytes_eq given.0 (codes "load") then load_named given.1
+    else if bytes_eq given.0 (codes "verify") then Some Verify
+    else if bytes_eq given.0 (codes "stat") then Some Stat
     else Some PrintLog
 
 -- what is found when the folder and the command are there
@@ -210,6 +224,8 @@ settings_in (Soak seed settings) = Some settings
 settings_in (Dump db printed) = None
 settings_in (Load db no_overwrite) = None
 settings_in PrintLog = None
+settings_in Verify = None
+settings_in Stat = None
 
 -- the settings of a command are in their bounds, if it has some
 abbrev pub HasSettings : Command → Type 0

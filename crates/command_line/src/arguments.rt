@@ -4,7 +4,7 @@ ghost use Rattle.clap.specs.declared.builder.command.Command.TheViews.{out-Comma
 ghost use Rattle.clap.specs.Matches.{found_of};
 ghost use Rattle.clap.specs.Simple.{app_of, subcommand_of, subcommand_rows_of};
 ghost use Rattle.clap.specs.Walk.{first_of, rows_of, rule_of};
-ghost use Rattle.command_line.specs.Arguments.{HasSettings, command_in, command_of as command_named, db_of, db_option, dump_command, dump_named, fanout_option, file_max_option, home_in, home_of, home_option, is_given, is_parsed, is_taken, jedb, load_command, load_named, no_overwrite_option, parsed_line, number_of, print_option, printlog_command, run_command, run_of, seed_option, settings_of, soak_command, soak_from};
+ghost use Rattle.command_line.specs.Arguments.{HasSettings, command_in, command_of as command_named, db_of, db_option, dump_command, dump_named, fanout_option, file_max_option, folder_command, home_in, home_of, home_option, is_given, is_parsed, is_taken, jedb, load_command, load_named, no_overwrite_option, parsed_line, number_of, print_option, run_command, run_of, seed_option, settings_of, soak_command, soak_from};
 
 use crate::command::{Command, CommandLine, RunSettings};
 use clap::error::ErrorKind;
@@ -104,12 +104,12 @@ fn soak_command<'a>(alloc: Global) -> Result<clap::Command<'a>, AllocError>
         .arg(fanout(alloc))
 }
 
-// `printlog`.
-fn printlog_command<'a>(alloc: Global) -> Result<clap::Command<'a>, AllocError>
-    ensures app { IfOk result (λ command. app_of command ≡ printlog_command) }
+// A command of this name that takes the folder alone.
+fn folder_command<'a>(alloc: Global, name: &'a str) -> Result<clap::Command<'a>, AllocError>
+    ensures app { IfOk result (λ command. app_of command ≡ folder_command name.now) }
     ensures local { IfOk result (λ command. (out-Command command).has_globals ≡ false) }
 {
-    clap::Command::new(alloc, "printlog").arg(home(alloc))
+    clap::Command::new(alloc, name).arg(home(alloc))
 }
 
 // `dump`.
@@ -143,9 +143,11 @@ fn jedb_command<'a>(alloc: Global) -> Result<clap::Command<'a>, AllocError>
         .subcommand_required(true);
     jedb.subcommand(run_command(alloc)?)?
         .subcommand(soak_command(alloc)?)?
-        .subcommand(printlog_command(alloc)?)?
+        .subcommand(folder_command(alloc, "printlog")?)?
         .subcommand(dump_command(alloc)?)?
-        .subcommand(load_command(alloc)?)
+        .subcommand(load_command(alloc)?)?
+        .subcommand(folder_command(alloc, "verify")?)?
+        .subcommand(folder_command(alloc, "stat")?)
 }
 
 // What a parse of the arguments finds, and None where it refuses them.
@@ -279,6 +281,12 @@ fn command_named<'a>(
     if name == "load" {
         return load_given(alloc, given);
     }
+    if name == "verify" {
+        return Ok(Some(Command::Verify));
+    }
+    if name == "stat" {
+        return Ok(Some(Command::Stat));
+    }
     Ok(Some(Command::PrintLog))
 }
 
@@ -309,7 +317,7 @@ fn line_given<'a>(alloc: Global, found: &ArgMatches<'a>) -> Result<Option<Comman
 /// The folder and the command that the arguments after the program's name give, and None where these are invalid.
 /// Right are `run --home DIR`, with or without `--file-max N` and `--fanout N`; the same with `soak` and `--seed N`;
 /// `dump --home DIR --db NAME`, with or without `--print`, where NAME is a database's name; `load --home DIR --db NAME`,
-/// with or without `--no-overwrite`; and `printlog --home DIR`.
+/// with or without `--no-overwrite`; and `printlog --home DIR`, `verify --home DIR` and `stat --home DIR`.
 /// The options come in any order, with `--name=VALUE` for `--name VALUE`, and `--` may end the arguments. A value that begins with `-` and is not `-` itself needs the `=`. A number is decimal, with `+` or
 /// zeros before it or not: `--file-max` is from 4,096 to 1,073,741,824, and 10,000,000 where it is not given; `--fanout`
 /// from 4 to 128, and 128 where it is not given; `--seed` from 0 to 4,294,967,295. Other arguments, an option given

@@ -23,6 +23,10 @@ pub enum Command {
     Load { db: Word, no_overwrite: bool },
     /// Prints the entries of the log.
     PrintLog,
+    /// Checks the log files, and prints all that is wrong with them.
+    Verify,
+    /// Prints how much of each log file is in use.
+    Stat,
 }
 
 /// What the arguments say: the folder of the environment, as it was written, which may be empty; and the command.

@@ -1,5 +1,6 @@
 -- What a program came to, command by command.
-use Rattle.std.proofs.Common.{◌≡◌, ◌≢◌, ◌<◌, ◌≤◌, ◌⊎◌, ◌∙◌, ℕ, Bool, true, false, true≢false, List, [], Option, None, Some, IfSome, Result, Ok, Err, is_some, length, refl, ap, sym, subst, inl, inr, arith}
+use Rattle.std.specs.Map.{lookup}
+use Rattle.std.proofs.Common.{◌≡◌, ◌≢◌, ◌==◌, ◌<◌, ◌≤◌, ◌⊎◌, ◌∙◌, ℕ, Bool, true, false, true≢false, List, [], Option, None, Some, IfSome, Result, Ok, Err, is_some, length, refl, ap, sym, subst, inl, inr, arith}
 use Rattle.je_order.specs.Counts.{HasRisen, HasRisen as Failing}
 use Rattle.je_disk.specs.DiskMeaning.{DiskMeaning}
 use Rattle.je_disk.specs.Moments.{now}
@@ -27,19 +28,20 @@ use Rattle.dump_text.specs.declared.dump.Dump.{Dump as DumpRead}
 use Rattle.dump_text.specs.Grammar.{dump_of}
 use Rattle.command_line.specs.declared.command.RunSettings.{RunSettings}
 use Rattle.command_line.specs.declared.command.Command.{Command}
-use Rattle.command_line.specs.declared.command.Command.TheVariants.{Run, Soak, Dump, Load, PrintLog}
+use Rattle.command_line.specs.declared.command.Command.TheVariants.{Run, Soak, Dump, Load, PrintLog, Verify, Stat}
+use Rattle.log_file.specs.Log.{AreFiles}
 use Rattle.log_printer.specs.Reading.{HasNoFile}
 use Rattle.je_program.specs.declared.cause.Cause.{Cause}
-use Rattle.je_program.specs.declared.cause.Cause.TheVariants.{Done, Usage, BadScript, BadDump, Disk, Unreadable, WrongIndex, Memory, NoEnvironment, NoDatabase, OtherKind, RefusedPair, Input, InputTooLong, IdsEnded}
+use Rattle.je_program.specs.declared.cause.Cause.TheVariants.{Done, Usage, BadScript, BadDump, Disk, Unreadable, WrongIndex, Memory, Findings, NoEnvironment, NoDatabase, OtherKind, RefusedPair, Input, InputTooLong, IdsEnded}
 use Rattle.je_program.specs.declared.reading.TheConstants.{MOST_INPUT}
 use Rattle.je_program.specs.declared.run_result.RunResult.{RunResult}
 use Rattle.je_program.specs.declared.text.Text.{Text}
 use Rattle.je_program.specs.declared.text.Text.TheVariants.{Nothing, Log}
-use Rattle.je_program.specs.Commands.{AreReady, AreSound, CanBeOpened, EndsRun, EndsWell, GaveAll, HasDatabase, HasDump, HasFirstLines, HasFront, HasInput, IsFound, IsLogText, EndsAsPlaced, IsStored, IsTextOf, ReadsDump, ReadsPlan, dump_at, ends_dump, ends_load, ends_reading, ends_script, ends_soak, ends_unparsed, gives_lines, is_script, loaded_at, may_end, needs_environment, opens, reads_input, text_of}
+use Rattle.je_program.specs.Commands.{AreReady, AreSound, EndsAsFound, CanBeOpened, EndsRun, EndsWell, GaveAll, HasDatabase, HasDump, HasFirstLines, HasFront, HasInput, HaveFindings, IsCheckText, IsFound, IsLogText, IsUseText, EndsAsPlaced, IsStored, IsTextOf, ReadsDump, ReadsPlan, dump_at, ends_check, ends_dump, ends_load, ends_reading, ends_script, ends_soak, ends_stat, ends_unparsed, gives_lines, is_script, loaded_at, may_end, needs_environment, opens, reads_input, text_of}
 use Rattle.je_program.specs.Printing.{IsPrinted}
 use Rattle.je_program.specs.Program.{ClosesRun, EndsBy, EndsWith, IsNoRequest, IsStopped, RunsBy, RunsIf, is_before_disk}
 use Rattle.je_program.specs.Unprinted.{ComesTo, needs_file}
-use Rattle.je_program.proofs.EndLaws.{completes, corrupt_has_files, damage_has_files, dump_completes, dump_nothing, finds, finds_wrong, load_completes, past_input, reads_damage, reads_nothing, reads_well, sound_has_files, wrong_has_files}
+use Rattle.je_program.proofs.EndLaws.{checks_damage, checks_findings, checks_nothing, checks_well, completes, corrupt_has_files, damage_has_files, dump_completes, dump_nothing, finds, finds_wrong, load_completes, past_input, reads_damage, reads_nothing, reads_well, sound_has_files, stat_completes, stat_dump, wrong_has_files}
 use Rattle.je_program.proofs.UntouchedLaws.{left_alone}
 
 -- ---- a command that opens the environment
@@ -51,6 +53,8 @@ life_opens (Some (Soak seed settings)) script = refl
 life_opens (Some (Dump db printed)) script = cc
 life_opens (Some (Load db no_overwrite)) script = cc
 life_opens (Some PrintLog) script = cc
+life_opens (Some Verify) script = cc
+life_opens (Some Stat) script = cc
 
 pub life_gives : (command : Option Command) → is_script command ≡ true → gives_lines command ≡ true
 life_gives None script = cc
@@ -59,12 +63,15 @@ life_gives (Some (Soak seed settings)) script = refl
 life_gives (Some (Dump db printed)) script = cc
 life_gives (Some (Load db no_overwrite)) script = cc
 life_gives (Some PrintLog) script = cc
+life_gives (Some Verify) script = cc
+life_gives (Some Stat) script = cc
 
 -- what a soak may end with, a script may, and a dump that is loaded
 pub soak_script : (cause : Cause) → ends_soak cause ≡ true → ends_script cause ≡ true
 soak_script Usage may = may
 soak_script (BadDump line) may = may
 soak_script NoEnvironment may = may
+soak_script Findings may = may
 soak_script NoDatabase may = may
 soak_script (OtherKind line) may = may
 soak_script (RefusedPair line) may = may
@@ -74,6 +81,7 @@ pub soak_load : (cause : Cause) → ends_soak cause ≡ true → ends_load cause
 soak_load Usage may = may
 soak_load (BadScript line) may = may
 soak_load NoEnvironment may = may
+soak_load Findings may = may
 soak_load cause may = refl
 
 pub life_may : (command : Option Command) (cause : Cause) → is_script command ≡ true → ends_soak cause ≡ true → may_end command cause ≡ true
@@ -83,6 +91,8 @@ life_may (Some (Soak seed settings)) cause script may = may
 life_may (Some (Dump db printed)) cause script may = cc
 life_may (Some (Load db no_overwrite)) cause script may = cc
 life_may (Some PrintLog) cause script may = cc
+life_may (Some Verify) cause script may = cc
+life_may (Some Stat) cause script may = cc
 
 -- it makes an environment where there is none, and names no database
 pub life_needs_none : {A : Type 0} (command : Option Command) → is_script command ≡ true → needs_environment command ≡ true → A
@@ -92,6 +102,8 @@ life_needs_none (Some (Soak seed settings)) script needs = cc
 life_needs_none (Some (Dump db printed)) script needs = cc
 life_needs_none (Some (Load db no_overwrite)) script needs = cc
 life_needs_none (Some PrintLog) script needs = cc
+life_needs_none (Some Verify) script needs = cc
+life_needs_none (Some Stat) script needs = cc
 
 pub life_has : (command : Option Command) (opening : Store) → is_script command ≡ true → HasDatabase command opening
 life_has None opening script = tt
@@ -100,6 +112,8 @@ life_has (Some (Soak seed settings)) opening script = tt
 life_has (Some (Dump db printed)) opening script = cc
 life_has (Some (Load db no_overwrite)) opening script = cc
 life_has (Some PrintLog) opening script = tt
+life_has (Some Verify) opening script = tt
+life_has (Some Stat) opening script = tt
 
 pub life_placed : (command : Option Command) (left rest : Option (List ℕ)) (opening : Store) (cause : Cause) → is_script command ≡ true → EndsAsPlaced command left rest opening cause
 life_placed None left rest opening cause script = tt
@@ -108,6 +122,8 @@ life_placed (Some (Soak seed settings)) left rest opening cause script = tt
 life_placed (Some (Dump db printed)) left rest opening cause script = tt
 life_placed (Some (Load db no_overwrite)) left rest opening cause script = cc
 life_placed (Some PrintLog) left rest opening cause script = tt
+life_placed (Some Verify) left rest opening cause script = tt
+life_placed (Some Stat) left rest opening cause script = tt
 
 pub life_stored : (command : Option Command) (left rest : Option (List ℕ)) (opening : Store) (st : Standing) (journal : List Event) (cause : Cause) → is_script command ≡ true → IsStored command left rest opening st journal cause
 life_stored None left rest opening st journal cause script = tt
@@ -116,6 +132,8 @@ life_stored (Some (Soak seed settings)) left rest opening st journal cause scrip
 life_stored (Some (Dump db printed)) left rest opening st journal cause script = tt
 life_stored (Some (Load db no_overwrite)) left rest opening st journal cause script = cc
 life_stored (Some PrintLog) left rest opening st journal cause script = tt
+life_stored (Some Verify) left rest opening st journal cause script = tt
+life_stored (Some Stat) left rest opening st journal cause script = tt
 
 pub life_front : (command : Option Command) (lines : List ScriptLine) (journal : List Event) (cause : Cause) → is_script command ≡ true → HasFirstLines lines journal → HasFront command lines journal cause
 life_front None lines journal cause script first = first
@@ -124,6 +142,8 @@ life_front (Some (Soak seed settings)) lines journal cause script first = first
 life_front (Some (Dump db printed)) lines journal cause script first = first
 life_front (Some (Load db no_overwrite)) lines journal cause script first = cc
 life_front (Some PrintLog) lines journal cause script first = first
+life_front (Some Verify) lines journal cause script first = first
+life_front (Some Stat) lines journal cause script first = first
 
 pub life_all : (command : Option Command) (cause : Cause) → is_script command ≡ true → GaveAll command cause → cause ≢ Memory
 life_all None cause script all = all
@@ -132,6 +152,8 @@ life_all (Some (Soak seed settings)) cause script all = all
 life_all (Some (Dump db printed)) cause script all = all
 life_all (Some (Load db no_overwrite)) cause script all = cc
 life_all (Some PrintLog) cause script all = all
+life_all (Some Verify) cause script all = all
+life_all (Some Stat) cause script all = all
 
 pub life_ends : (journal : List Event) (cause : Cause) → ends_soak cause ≡ true → EndsBy journal cause → EndsWith journal cause
 life_ends journal NoDatabase may ends = cc
@@ -170,6 +192,8 @@ life_found (Some (Soak seed settings)) files corruption opened has = has
 life_found (Some (Dump db printed)) files corruption opened has = has
 life_found (Some (Load db no_overwrite)) files corruption opened has = has
 life_found (Some PrintLog) files corruption opened has = cc
+life_found (Some Verify) files corruption opened has = cc
+life_found (Some Stat) files corruption opened has = has
 
 pub life_runs : (command : Option Command) (cause : Cause) (is_opened : Bool) → opens command ≡ true → RunsIf cause is_opened → RunsBy (opens command) cause is_opened
 life_runs command cause is_opened opened runs = subst (λ (b : Bool). RunsBy b cause is_opened) (sym opened) runs
@@ -184,6 +208,8 @@ none_may (Some (Soak seed settings)) left before after Memory none = refl
 none_may (Some (Dump db printed)) left before after Memory none = refl
 none_may (Some (Load db no_overwrite)) left before after Memory none = refl
 none_may (Some PrintLog) left before after Memory none = refl
+none_may (Some Verify) left before after Memory none = refl
+none_may (Some Stat) left before after Memory none = refl
 none_may command left before after cause none = none.1
 
 none_stopped : (command : Option Command) (left : Option (List ℕ)) (before after : ℕ) (cause : Cause) → IsNoRequest command left before after cause → IsStopped left before after cause
@@ -255,14 +281,25 @@ early_log : (cause : Cause) (observable : Bool) (files : Files) → IsEarly caus
 early_log Done observable files is = absurd is
 early_log cause observable files is = refl
 
-early_text : (command : Option Command) (observable : Bool) (files : Files) (cause : Cause) (opening : Store) (journal : List Event) (totals : Totals) → IsEarly cause →
-    IsTextOf command (record { observable = observable; files = files; opened = false; opening = opening; journal = journal; totals = totals; cause = cause }) []
-early_text None observable files cause opening journal totals is = refl
-early_text (Some (Run settings)) observable files cause opening journal totals is = refl
-early_text (Some (Soak seed settings)) observable files cause opening journal totals is = refl
-early_text (Some (Dump db printed)) observable files cause opening journal totals is = early_dump cause printed (database_of db opening) is
-early_text (Some (Load db no_overwrite)) observable files cause opening journal totals is = early_load cause journal is
-early_text (Some PrintLog) observable files cause opening journal totals is = early_log cause observable files is
+early_check : (cause : Cause) (observable : Bool) (files : Files) → IsEarly cause → IsCheckText cause observable files []
+early_check Done observable files is = absurd is
+early_check Findings observable files is = absurd is
+early_check cause observable files is = refl
+
+early_use : (cause : Cause) (observable : Bool) (files : Files) → IsEarly cause → IsUseText cause observable files []
+early_use Done observable files is = absurd is
+early_use cause observable files is = refl
+
+early_text : (command : Option Command) (observable : Bool) (files left : Files) (cause : Cause) (opening : Store) (journal : List Event) (totals : Totals) → IsEarly cause →
+    IsTextOf command (record { observable = observable; files = files; left = left; opened = false; opening = opening; journal = journal; totals = totals; cause = cause }) []
+early_text None observable files left cause opening journal totals is = refl
+early_text (Some (Run settings)) observable files left cause opening journal totals is = refl
+early_text (Some (Soak seed settings)) observable files left cause opening journal totals is = refl
+early_text (Some (Dump db printed)) observable files left cause opening journal totals is = early_dump cause printed (database_of db opening) is
+early_text (Some (Load db no_overwrite)) observable files left cause opening journal totals is = early_load cause journal is
+early_text (Some PrintLog) observable files left cause opening journal totals is = early_log cause observable files is
+early_text (Some Verify) observable files left cause opening journal totals is = early_check cause observable files is
+early_text (Some Stat) observable files left cause opening journal totals is = early_use cause observable left is
 
 -- a program without a journal, whose disk failed only where its count rose
 pub unrun : (before after : ℕ) (journal : List Event) (cause : Cause) → before ≤ after → journal ≡ [] → (cause ≡ Disk → HasRisen before after) → ClosesRun before after journal cause
@@ -303,8 +340,8 @@ module _ {D : Type 0} (meaning : DiskMeaning D) where
         left_alone = λ observed. left_alone r.cause (meaning.history disk) (meaning.history r.disk) (still r.disk same);
         reads_only = λ closed observed. still r.disk same;
         crash_unopened = λ observed none_opened. subst (λ (d : D). KeepsEntry (meaning.history disk) (meaning.history d)) (sym same) (entry_none (meaning.history disk));
-        text_is = subst (λ (b : Bool). IsTextOf command (record { observable = meaning.observable; files = (now (meaning.history disk)).reads; opened = b; opening = r.opening; journal = r.journal.items; totals = r.totals; cause = r.cause }) [])
-            (sym shut) (early_text command meaning.observable (now (meaning.history disk)).reads r.cause r.opening r.journal.items r.totals is);
+        text_is = subst (λ (b : Bool). IsTextOf command (record { observable = meaning.observable; files = (now (meaning.history disk)).reads; left = (now (meaning.history r.disk)).reads; opened = b; opening = r.opening; journal = r.journal.items; totals = r.totals; cause = r.cause }) [])
+            (sym shut) (early_text command meaning.observable (now (meaning.history disk)).reads (now (meaning.history r.disk)).reads r.cause r.opening r.journal.items r.totals is);
         source = later;
       }
 
@@ -384,6 +421,19 @@ module _ {D : Type 0} (meaning : DiskMeaning D) where
         text_is = printed_log files (meaning.faults disk) (meaning.faults r.disk) r.cause text r.opened r.journal.items r.totals may printed;
         source = later;
       }
+
+-- ---- files were to be checked
+
+-- there are files, and they are these
+some_held : (files : Files) (held : List (ℕ × List ℕ)) → AreFiles files held → (HasNoFile files → ⊥) → held ≢ []
+some_held files held are there empty = there (λ f. sym (are.each f) ∙ ap (lookup (λ n. n == f)) empty)
+
+ended_as_found : (observable : Bool) (files : Files) (cause : Cause) (text : List ℕ) → observable ≡ true → (needs_file cause ≡ true → HasNoFile files → ⊥) → IsCheckText cause observable files text → EndsAsFound cause files
+ended_as_found observable files Done text observed there is =
+    let c = is.0 in record { sound = record { held = c.held; are = c.are observed; some = some_held files c.held (c.are observed) (there refl); none = c.none }; none = is.1 }
+ended_as_found observable files Findings text observed there is =
+    let c = is.0 in record { sound = record { held = c.held; are = c.are observed; some = some_held files c.held (c.are observed) (there refl); none = c.none }; some = is.1 }
+ended_as_found observable files cause text observed there is = tt
 
 -- ---- the clauses of the top call
 
@@ -478,6 +528,8 @@ module _ {D : Type 0} {meaning : DiskMeaning D} {left rest : Option (List ℕ)} 
   came_too_long (Some (Load db no_overwrite)) c bytes reads is long =
       too_long_by left rest before after r.cause bytes is long (λ e. true≢false (sym c.may ∙ ap ends_load e)) c.stopped (λ later other. too_much_dump left rest before after bytes is long (c.read later other))
   came_too_long (Some PrintLog) c bytes reads is long = cc
+  came_too_long (Some Verify) c bytes reads is long = cc
+  came_too_long (Some Stat) c bytes reads is long = cc
 
   pub came_bad : (command : Option Command) → ComesTo command meaning left rest before after disk r text → (settings : RunSettings) (bytes : List ℕ) (line : ℕ) → command ≡ Some (Run settings) →
       left ≡ Some bytes → length bytes ≤ MOST_INPUT → plan_of bytes ≡ Err line → (r.cause ≡ BadScript line) ⊎ (r.cause ≡ Memory) ⊎ Failing before after
@@ -487,6 +539,8 @@ module _ {D : Type 0} {meaning : DiskMeaning D} {left rest : Option (List ℕ)} 
   came_bad (Some (Dump db printed)) c settings bytes line run is short bad = cc
   came_bad (Some (Load db no_overwrite)) c settings bytes line run is short bad = cc
   came_bad (Some PrintLog) c settings bytes line run is short bad = cc
+  came_bad (Some Verify) c settings bytes line run is short bad = cc
+  came_bad (Some Stat) c settings bytes line run is short bad = cc
 
   pub came_bad_dump : (command : Option Command) → ComesTo command meaning left rest before after disk r text → (db : List ℕ) (no_overwrite : Bool) (bytes : List ℕ) (line : ℕ) → command ≡ Some (Load db no_overwrite) →
       left ≡ Some bytes → length bytes ≤ MOST_INPUT → dump_of bytes ≡ Err line → (r.cause ≡ BadDump line) ⊎ (r.cause ≡ Memory) ⊎ Failing before after
@@ -496,6 +550,8 @@ module _ {D : Type 0} {meaning : DiskMeaning D} {left rest : Option (List ℕ)} 
   came_bad_dump (Some (Dump name printed)) c db no_overwrite bytes line load is short bad = cc
   came_bad_dump (Some (Load name kept)) c db no_overwrite bytes line load is short bad = bad_dump_by left rest before after r.cause bytes line is short bad c.may c.stopped c.read
   came_bad_dump (Some PrintLog) c db no_overwrite bytes line load is short bad = cc
+  came_bad_dump (Some Verify) c db no_overwrite bytes line load is short bad = cc
+  came_bad_dump (Some Stat) c db no_overwrite bytes line load is short bad = cc
 
   -- where a run began its files meant something
   began : (command : Option Command) → ComesTo command meaning left rest before after disk r text → meaning.observable ≡ true → r.opened ≡ true →
@@ -514,6 +570,20 @@ module _ {D : Type 0} {meaning : DiskMeaning D} {left rest : Option (List ℕ)} 
   run_ends command c opened unreadable there other input observed can =
       completes (now (meaning.history disk)).reads before after (meaning.faults disk) (meaning.faults r.disk) r.cause r.opened r.journal.items can (past_input command left before after r.cause opened input c.may c.stopped there)
       (subst (λ (b : Bool). RunsBy b r.cause r.opened) opened c.runs) (λ corruption is. unreadable corruption is observed) (λ name is. c.wrong_index name is observed) c.ends c.caused.failed other
+
+  -- the end of a check says what it finds in the files
+  checked_so : ComesTo (Some Verify) meaning left rest before after disk r text → meaning.observable ≡ true → EndsAsFound r.cause (now (meaning.history disk)).reads
+  checked_so c observed = ended_as_found meaning.observable (now (meaning.history disk)).reads r.cause (text_of text r.opened r.journal.items r.totals) observed (λ needs. c.some_file refl needs observed) c.text_is
+
+  pub came_checked : (command : Option Command) → ComesTo command meaning left rest before after disk r text → command ≡ Some Verify → meaning.observable ≡ true → EndsAsFound r.cause (now (meaning.history disk)).reads
+  came_checked command c is observed = checked_so (subst (λ (k : Option Command). ComesTo k meaning left rest before after disk r text) is c) observed
+
+  pub came_findings : (command : Option Command) → ComesTo command meaning left rest before after disk r text → command ≡ Some Verify → meaning.observable ≡ true → HaveFindings (now (meaning.history disk)).reads →
+      (r.cause ≡ Findings) ⊎ (r.cause ≡ Memory) ⊎ HasRisen (meaning.faults disk) (meaning.faults r.disk)
+  came_findings command came is observed has =
+      let c = subst (λ (k : Option Command). ComesTo k meaning left rest before after disk r text) is came in
+      checks_findings (now (meaning.history disk)).reads before after (meaning.faults disk) (meaning.faults r.disk) r.cause has c.may (checked_so c observed) (λ f at. c.unreadable f at observed)
+      (λ at. c.no_environment at observed) c.caused.failed
 
   pub came_well : (command : Option Command) → ComesTo command meaning left rest before after disk r text → HasInput command left → meaning.observable ≡ true →
       AreReady command (now (meaning.history disk)).reads → EndsWell command left r.cause r.opened r.opening r.journal.items ⊎ (r.cause ≡ Memory) ⊎ Failing before after ⊎ HasRisen (meaning.faults disk) (meaning.faults r.disk)
@@ -534,6 +604,12 @@ module _ {D : Type 0} {meaning : DiskMeaning D} {left rest : Option (List ℕ)} 
       (λ opened. (let front = (c.given opened).front in (front.done, front.refused))) c.ends c.caused.failed
   came_well (Some PrintLog) c input observed ready =
       reads_well (now (meaning.history disk)).reads before after (meaning.faults disk) (meaning.faults r.disk) r.cause ready c.may (λ corruption is. c.unreadable corruption is observed) (λ is. c.no_environment is observed) c.caused.failed
+  came_well (Some Verify) c input observed ready =
+      checks_well (now (meaning.history disk)).reads before after (meaning.faults disk) (meaning.faults r.disk) r.cause ready c.may (checked_so c observed) (λ corruption is. c.unreadable corruption is observed)
+      (λ is. c.no_environment is observed) c.caused.failed
+  came_well (Some Stat) c input observed ready =
+      stat_completes (now (meaning.history disk)).reads before after (meaning.faults disk) (meaning.faults r.disk) r.cause r.opened r.journal.items ready.0 ready.1 c.may c.runs
+      (λ corruption is. c.unreadable corruption is observed) (λ name is. c.wrong_index name is observed) (λ is. c.no_environment is observed) (λ opened. (c.given opened).none refl) c.ends c.caused.failed
 
   run_finds : (command : Option Command) → ComesTo command meaning left rest before after disk r text → opens command ≡ true →
       ((corruption : Corruption) → r.cause ≡ Unreadable corruption → meaning.observable ≡ true → HasCorruption (now (meaning.history disk)).reads corruption) → (needs_environment command ≡ true → r.cause ≢ NoEnvironment) →
@@ -555,6 +631,11 @@ module _ {D : Type 0} {meaning : DiskMeaning D} {left rest : Option (List ℕ)} 
   came_found (Some PrintLog) c corruption input observed found =
       reads_damage (now (meaning.history disk)).reads before after (meaning.faults disk) (meaning.faults r.disk) r.cause corruption found c.may (λ is. c.sound refl is observed) (λ f is. c.unreadable f is observed)
       (λ is. c.no_environment is observed) c.caused.failed
+  came_found (Some Verify) c corruption input observed found =
+      checks_damage (now (meaning.history disk)).reads before after (meaning.faults disk) (meaning.faults r.disk) r.cause corruption found c.may (checked_so c observed) (λ f is. c.unreadable f is observed)
+      (λ is. c.no_environment is observed) c.caused.failed
+  came_found (Some Stat) c corruption input observed found =
+      run_finds (Some Stat) c refl c.unreadable (λ needs is. corrupt_has_files (now (meaning.history disk)).reads corruption found (c.no_environment is observed)) corruption input observed found
 
   run_finds_wrong : (command : Option Command) → ComesTo command meaning left rest before after disk r text → opens command ≡ true →
       ((corruption : Corruption) → r.cause ≡ Unreadable corruption → meaning.observable ≡ true → HasCorruption (now (meaning.history disk)).reads corruption) → (needs_environment command ≡ true → r.cause ≢ NoEnvironment) →
@@ -574,6 +655,9 @@ module _ {D : Type 0} {meaning : DiskMeaning D} {left rest : Option (List ℕ)} 
       run_finds_wrong (Some (Dump db printed)) c refl c.unreadable (λ needs is. wrong_has_files (now (meaning.history disk)).reads name has (c.no_environment is observed)) name input observed has
   came_wrong (Some (Load db no_overwrite)) c name input opened observed has = run_finds_wrong (Some (Load db no_overwrite)) c refl c.unreadable (λ needs. cc) name input observed has
   came_wrong (Some PrintLog) c name input opened observed has = cc
+  came_wrong (Some Verify) c name input opened observed has = cc
+  came_wrong (Some Stat) c name input opened observed has =
+      run_finds_wrong (Some Stat) c refl c.unreadable (λ needs is. wrong_has_files (now (meaning.history disk)).reads name has (c.no_environment is observed)) name input observed has
 
   pub came_nothing : (command : Option Command) → ComesTo command meaning left rest before after disk r text → needs_environment command ≡ true → meaning.observable ≡ true →
       HasNoFile (now (meaning.history disk)).reads → (r.cause ≡ NoEnvironment) ⊎ (r.cause ≡ Memory) ⊎ HasRisen (meaning.faults disk) (meaning.faults r.disk)
@@ -584,6 +668,10 @@ module _ {D : Type 0} {meaning : DiskMeaning D} {left rest : Option (List ℕ)} 
   came_nothing (Some (Load db no_overwrite)) c needs observed none = cc
   came_nothing (Some PrintLog) c needs observed none =
       reads_nothing (now (meaning.history disk)).reads before after (meaning.faults disk) (meaning.faults r.disk) r.cause none c.may (λ is. c.sound refl is observed) (λ f is. c.unreadable f is observed) c.caused.failed
+  came_nothing (Some Verify) c needs observed none =
+      checks_nothing (now (meaning.history disk)).reads before after (meaning.faults disk) (meaning.faults r.disk) r.cause none c.may (checked_so c observed) (λ f is. c.unreadable f is observed) c.caused.failed
+  came_nothing (Some Stat) c needs observed none =
+      dump_nothing (now (meaning.history disk)).reads (meaning.faults disk) (meaning.faults r.disk) r.cause none (stat_dump r.cause c.may) (λ file. c.some_file refl file observed) c.caused.failed
 
   pub came_usage : (command : Option Command) → ComesTo command meaning left rest before after disk r text → r.cause ≡ Usage → is_some command ≡ false
   came_usage None c is = refl
@@ -592,6 +680,8 @@ module _ {D : Type 0} {meaning : DiskMeaning D} {left rest : Option (List ℕ)} 
   came_usage (Some (Dump db printed)) c is = (let e : false ≡ true = sym (ap ends_dump is) ∙ c.may in cc)
   came_usage (Some (Load db no_overwrite)) c is = (let e : false ≡ true = sym (ap ends_load is) ∙ c.may in cc)
   came_usage (Some PrintLog) c is = (let e : false ≡ true = sym (ap ends_reading is) ∙ c.may in cc)
+  came_usage (Some Verify) c is = (let e : false ≡ true = sym (ap ends_check is) ∙ c.may in cc)
+  came_usage (Some Stat) c is = (let e : false ≡ true = sym (ap ends_stat is) ∙ c.may in cc)
 
   pub came_unparsed : (command : Option Command) → ComesTo command meaning left rest before after disk r text → is_some command ≡ false → (r.cause ≡ Usage) ⊎ (r.cause ≡ Memory)
   came_unparsed None c none = unparsed r.cause c.may

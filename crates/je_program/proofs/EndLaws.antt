@@ -20,18 +20,19 @@ use Rattle.dump_text.specs.Grammar.{dump_of}
 use Rattle.store_model.specs.declared.store.Store.{Store}
 use Rattle.store_model.specs.Store.{database_of}
 use Rattle.je_program.specs.declared.cause.Cause.{Cause}
-use Rattle.je_program.specs.declared.cause.Cause.TheVariants.{Done, Usage, BadScript, BadDump, Disk, Unreadable, WrongIndex, Memory, NoEnvironment, NoDatabase, OtherKind, RefusedPair, Input, InputTooLong, LogFull, IdsEnded}
+use Rattle.je_program.specs.declared.cause.Cause.TheVariants.{Done, Usage, BadScript, BadDump, Disk, Unreadable, WrongIndex, Memory, Findings, NoEnvironment, NoDatabase, OtherKind, RefusedPair, Input, InputTooLong, LogFull, IdsEnded}
 use Rattle.je_program.specs.declared.reading.TheConstants.{MOST_INPUT}
 use Rattle.engine.specs.Files.{HasCorruption, HasWrongIndex, Means}
 use Rattle.engine.specs.Opening.{HasNoNumbers}
 use Rattle.log_replay.specs.Indexed.{wrong_index}
 use Rattle.environment.proofs.RightStores.{none_wrong}
 use Rattle.command_line.specs.declared.command.Command.{Command}
-use Rattle.command_line.specs.declared.command.Command.TheVariants.{Run, Soak, Dump, Load, PrintLog}
+use Rattle.command_line.specs.declared.command.Command.TheVariants.{Run, Soak, Dump, Load, PrintLog, Verify, Stat}
 use Rattle.log_file.specs.Log.{AreFiles}
 use Rattle.log_replay.specs.Reading.{corruption_in}
+use Rattle.check_laws.specs.Check.{check_of}
 use Rattle.log_printer.specs.Reading.{HasNoFile}
-use Rattle.je_program.specs.Commands.{AreSound, CanBeOpened, EndsByPlace, EndsDump, EndsLoad, EndsRun, HasDamage, HasDump, HasInput, cause_of_found, ends_dump, ends_load, ends_reading, ends_script, ends_soak, is_place, keeps_otherwise, load_end, may_end, needs_environment, opens}
+use Rattle.je_program.specs.Commands.{AreFaultless, AreSound, CanBeOpened, EndsAsFound, EndsByPlace, EndsDump, EndsLoad, EndsRun, EndsStat, HasDamage, HasDump, HasInput, HaveFindings, cause_of_found, ends_check, ends_dump, ends_load, ends_reading, ends_script, ends_soak, ends_stat, is_place, keeps_otherwise, load_end, may_end, needs_environment, opens}
 use Rattle.je_program.specs.Program.{EndsBy, EndsWith, IsStopped, RunsIf}
 use Rattle.je_program.specs.Run.{cause_of_journal, cause_of_load, cause_of_refusal, cause_of_room, first_refused}
 use Rattle.je_program.specs.Unprinted.{needs_file}
@@ -106,12 +107,14 @@ IsPast s0 s1 (BadScript line) = ⊥
 IsPast s0 s1 (BadDump line) = ⊥
 IsPast s0 s1 InputTooLong = ⊥
 IsPast s0 s1 NoEnvironment = ⊥
+IsPast s0 s1 Findings = ⊥
 IsPast s0 s1 Input = HasRisen s0 s1
 IsPast s0 s1 cause = Unit {0}
 
 script_past : (left : Option (List ℕ)) (plan : RunPlan) (s0 s1 : ℕ) (cause : Cause) → IsScript left plan → ends_script cause ≡ true → IsStopped left s0 s1 cause → IsPast s0 s1 cause
 script_past left plan s0 s1 Usage script may stopped = cc
 script_past left plan s0 s1 NoEnvironment script may stopped = cc
+script_past left plan s0 s1 Findings script may stopped = cc
 script_past left plan s0 s1 NoDatabase script may stopped = cc
 script_past left plan s0 s1 (OtherKind line) script may stopped = cc
 script_past left plan s0 s1 (RefusedPair line) script may stopped = cc
@@ -136,6 +139,7 @@ soak_past s0 s1 (RefusedPair line) may = cc
 soak_past s0 s1 Input may = cc
 soak_past s0 s1 InputTooLong may = cc
 soak_past s0 s1 NoEnvironment may = cc
+soak_past s0 s1 Findings may = cc
 soak_past s0 s1 NoDatabase may = cc
 soak_past s0 s1 Done may = tt
 soak_past s0 s1 Disk may = tt
@@ -152,6 +156,7 @@ dump_past s0 s1 (BadDump line) may there = cc
 dump_past s0 s1 Input may there = cc
 dump_past s0 s1 InputTooLong may there = cc
 dump_past s0 s1 NoEnvironment may there = absurd (there refl)
+dump_past s0 s1 Findings may there = cc
 dump_past s0 s1 cause may there = tt
 
 not_bad_dump : (left : Option (List ℕ)) (dump : DumpRead) (line : ℕ) → HasDump left dump → IfSome left (λ bytes. (length bytes ≤ MOST_INPUT) × (dump_of bytes ≡ Err line)) → ⊥
@@ -168,10 +173,16 @@ load_past : (left : Option (List ℕ)) (dump : DumpRead) (s0 s1 : ℕ) (cause : 
 load_past left dump s0 s1 Usage has may stopped = cc
 load_past left dump s0 s1 (BadScript line) has may stopped = cc
 load_past left dump s0 s1 NoEnvironment has may stopped = cc
+load_past left dump s0 s1 Findings has may stopped = cc
 load_past left dump s0 s1 (BadDump line) has may stopped = absurd (not_bad_dump left dump line has stopped)
 load_past left dump s0 s1 InputTooLong has may stopped = absurd (not_long_dump left dump has stopped)
 load_past left dump s0 s1 Input has may stopped = stopped
 load_past left dump s0 s1 cause has may stopped = tt
+
+-- what a count of the log's use may end with, a dump may
+pub stat_dump : (cause : Cause) → ends_stat cause ≡ true → ends_dump cause ≡ true
+stat_dump NoDatabase may = cc
+stat_dump cause may = may
 
 pub past_input : (command : Option Command) (left : Option (List ℕ)) (s0 s1 : ℕ) (cause : Cause) → opens command ≡ true → HasInput command left → may_end command cause ≡ true →
     IsStopped left s0 s1 cause → (needs_environment command ≡ true → cause ≢ NoEnvironment) → IsPast s0 s1 cause
@@ -182,6 +193,8 @@ past_input (Some (Soak seed settings)) left s0 s1 cause opened input may stopped
 past_input (Some (Dump db printed)) left s0 s1 cause opened input may stopped there = dump_past s0 s1 cause may (there refl)
 past_input (Some (Load db no_overwrite)) left s0 s1 cause opened input may stopped there = load_past left input.0 s0 s1 cause input.1 may stopped
 past_input (Some PrintLog) left s0 s1 cause opened input may stopped there = cc
+past_input (Some Verify) left s0 s1 cause opened input may stopped there = cc
+past_input (Some Stat) left s0 s1 cause opened input may stopped there = dump_past s0 s1 cause (stat_dump cause may) (there refl)
 
 -- ---- the end
 
@@ -215,6 +228,7 @@ completes files s0 s1 d0 d1 Usage opened journal can past runs unreadable wrong 
 completes files s0 s1 d0 d1 (BadScript line) opened journal can past runs unreadable wrong ends failed may = absurd past
 completes files s0 s1 d0 d1 InputTooLong opened journal can past runs unreadable wrong ends failed may = absurd past
 completes files s0 s1 d0 d1 NoEnvironment opened journal can past runs unreadable wrong ends failed may = absurd past
+completes files s0 s1 d0 d1 Findings opened journal can past runs unreadable wrong ends failed may = absurd past
 completes files s0 s1 d0 d1 (BadDump line) opened journal can past runs unreadable wrong ends failed may = cc
 completes files s0 s1 d0 d1 NoDatabase opened journal can past runs unreadable wrong ends failed may = cc
 completes files s0 s1 d0 d1 (OtherKind line) opened journal can past runs unreadable wrong ends failed may = cc
@@ -252,6 +266,7 @@ finds files s0 s1 d0 d1 cause opened corruption has past runs unreadable wrong m
     by_cause (BadDump line) past runs unreadable wrong numbers failed = absurd past
     by_cause InputTooLong past runs unreadable wrong numbers failed = absurd past
     by_cause NoEnvironment past runs unreadable wrong numbers failed = absurd past
+    by_cause Findings past runs unreadable wrong numbers failed = absurd past
     by_cause NoDatabase past runs unreadable wrong numbers failed = absurd (closed runs)
     by_cause (OtherKind line) past runs unreadable wrong numbers failed = absurd (closed runs)
     by_cause (RefusedPair line) past runs unreadable wrong numbers failed = absurd (closed runs)
@@ -287,6 +302,7 @@ finds_wrong files s0 s1 d0 d1 cause opened name has past runs unreadable wrong m
     by_cause (BadDump line) past runs unreadable wrong numbers failed = absurd past
     by_cause InputTooLong past runs unreadable wrong numbers failed = absurd past
     by_cause NoEnvironment past runs unreadable wrong numbers failed = absurd past
+    by_cause Findings past runs unreadable wrong numbers failed = absurd past
     by_cause NoDatabase past runs unreadable wrong numbers failed = absurd (closed runs)
     by_cause (OtherKind line) past runs unreadable wrong numbers failed = absurd (closed runs)
     by_cause (RefusedPair line) past runs unreadable wrong numbers failed = absurd (closed runs)
@@ -363,6 +379,54 @@ module _ (files : Files) (s0 s1 d0 d1 : ℕ) where
   reads_nothing NoEnvironment no_file may sound unreadable failed = inl refl
   reads_nothing cause no_file may sound unreadable failed = cc
 
+-- ---- files that are checked
+
+-- what a check of files finds does not hang on how they are listed
+one_check : (files : Files) → AreFaultless files → HaveFindings files → ⊥
+one_check files faultless has =
+    has.some (ap (λ (held : List (ℕ × List ℕ)). (check_of held).findings) (are_one_list files has.sound.held faultless.sound.held has.sound.are faultless.sound.are) ∙ faultless.none)
+
+module _ (files : Files) (s0 s1 d0 d1 : ℕ) where
+  pub checks_well : (cause : Cause) → AreFaultless files → ends_check cause ≡ true → EndsAsFound cause files → ((f : Corruption) → cause ≡ Unreadable f → HasDamage files f) →
+      (cause ≡ NoEnvironment → HasNoFile files) → (cause ≡ Disk → HasRisen d0 d1) → (cause ≡ Done) ⊎ (cause ≡ Memory) ⊎ Failing s0 s1 ⊎ HasRisen d0 d1
+  checks_well Done faultless may found unreadable none failed = inl refl
+  checks_well Findings faultless may found unreadable none failed = absurd (one_check files faultless found)
+  checks_well Disk faultless may found unreadable none failed = inr (inr (inr (failed refl)))
+  checks_well Memory faultless may found unreadable none failed = inr (inl refl)
+  checks_well (Unreadable f) faultless may found unreadable none failed = absurd (sound_no_damage files f faultless.sound (unreadable f refl))
+  checks_well NoEnvironment faultless may found unreadable none failed = absurd (sound_has_files files faultless.sound (none refl))
+  checks_well cause faultless may found unreadable none failed = cc
+
+  pub checks_damage : (cause : Cause) (corruption : Corruption) → HasDamage files corruption → ends_check cause ≡ true → EndsAsFound cause files → ((f : Corruption) → cause ≡ Unreadable f → HasDamage files f) →
+      (cause ≡ NoEnvironment → HasNoFile files) → (cause ≡ Disk → HasRisen d0 d1) → (cause ≡ Unreadable corruption) ⊎ (cause ≡ Memory) ⊎ Failing s0 s1 ⊎ HasRisen d0 d1
+  checks_damage Done corruption damage may found unreadable none failed = absurd (sound_no_damage files corruption found.sound damage)
+  checks_damage Findings corruption damage may found unreadable none failed = absurd (sound_no_damage files corruption found.sound damage)
+  checks_damage Disk corruption damage may found unreadable none failed = inr (inr (inr (failed refl)))
+  checks_damage Memory corruption damage may found unreadable none failed = inr (inl refl)
+  checks_damage (Unreadable f) corruption damage may found unreadable none failed = inl (ap Unreadable (one_damage files f corruption (unreadable f refl) damage))
+  checks_damage NoEnvironment corruption damage may found unreadable none failed = absurd (damage_has_files files corruption damage (none refl))
+  checks_damage cause corruption damage may found unreadable none failed = cc
+
+  pub checks_nothing : (cause : Cause) → HasNoFile files → ends_check cause ≡ true → EndsAsFound cause files → ((f : Corruption) → cause ≡ Unreadable f → HasDamage files f) →
+      (cause ≡ Disk → HasRisen d0 d1) → (cause ≡ NoEnvironment) ⊎ (cause ≡ Memory) ⊎ HasRisen d0 d1
+  checks_nothing Done no_file may found unreadable failed = absurd (sound_has_files files found.sound no_file)
+  checks_nothing Findings no_file may found unreadable failed = absurd (sound_has_files files found.sound no_file)
+  checks_nothing Disk no_file may found unreadable failed = inr (inr (failed refl))
+  checks_nothing Memory no_file may found unreadable failed = inr (inl refl)
+  checks_nothing (Unreadable f) no_file may found unreadable failed = absurd (damage_has_files files f (unreadable f refl) no_file)
+  checks_nothing NoEnvironment no_file may found unreadable failed = inl refl
+  checks_nothing cause no_file may found unreadable failed = cc
+
+  pub checks_findings : (cause : Cause) → HaveFindings files → ends_check cause ≡ true → EndsAsFound cause files → ((f : Corruption) → cause ≡ Unreadable f → HasDamage files f) →
+      (cause ≡ NoEnvironment → HasNoFile files) → (cause ≡ Disk → HasRisen d0 d1) → (cause ≡ Findings) ⊎ (cause ≡ Memory) ⊎ HasRisen d0 d1
+  checks_findings Done has may found unreadable none failed = absurd (one_check files found has)
+  checks_findings Findings has may found unreadable none failed = inl refl
+  checks_findings Disk has may found unreadable none failed = inr (inr (failed refl))
+  checks_findings Memory has may found unreadable none failed = inr (inl refl)
+  checks_findings (Unreadable f) has may found unreadable none failed = absurd (sound_no_damage files f has.sound (unreadable f refl))
+  checks_findings NoEnvironment has may found unreadable none failed = absurd (sound_has_files files has.sound (none refl))
+  checks_findings cause has may found unreadable none failed = cc
+
 -- ---- a dump
 
 there_is : (found : Option Database) → found ≢ None → Done ≡ cause_of_found found
@@ -394,6 +458,26 @@ dump_completes files s0 s1 d0 d1 (Unreadable corruption) opened journal found th
 dump_completes files s0 s1 d0 d1 (WrongIndex name) opened journal found there can may runs unreadable wrong none empty ends failed has lacks =
     absurd (no_wrong_beside files name can.meaning (wrong name refl) can.means (none_wrong can.means.held can.meaning can.means.reads can.indexed))
 dump_completes files s0 s1 d0 d1 cause opened journal found there can may runs unreadable wrong none empty ends failed has lacks = cc
+
+-- a count of the log's use of files with a meaning ends well; it may lack node numbers before; or memory ran out or the disk's count rose
+pub stat_completes : (files : Files) (s0 s1 d0 d1 : ℕ) (cause : Cause) (opened : Bool) (journal : List Event) → (HasNoFile files → ⊥) → CanBeOpened files → ends_stat cause ≡ true →
+    RunsIf cause opened → ((corruption : Corruption) → cause ≡ Unreadable corruption → HasCorruption files corruption) → ((name : List ℕ) → cause ≡ WrongIndex name → HasWrongIndex files name) →
+    (cause ≡ NoEnvironment → HasNoFile files) → (opened ≡ true → journal ≡ []) → (opened ≡ true → cause ≢ Memory → EndsWith journal cause) → (cause ≡ Disk → HasRisen d0 d1) →
+    EndsStat cause opened ⊎ (cause ≡ Memory) ⊎ Failing s0 s1 ⊎ HasRisen d0 d1
+stat_completes files s0 s1 d0 d1 Done opened journal there can may runs unreadable wrong none empty ends failed = inl (inl (runs, refl))
+stat_completes files s0 s1 d0 d1 IdsEnded opened journal there can may runs unreadable wrong none empty ends failed =
+    ⊎_elim
+    (λ (is_opened : opened ≡ true). absurd (never_ended journal (empty is_opened) (ends is_opened (λ e. cc))))
+    (λ (shut : opened ≡ false). inl (inr (shut, refl)))
+    (cases_Bool opened)
+stat_completes files s0 s1 d0 d1 Disk opened journal there can may runs unreadable wrong none empty ends failed = inr (inr (inr (failed refl)))
+stat_completes files s0 s1 d0 d1 Memory opened journal there can may runs unreadable wrong none empty ends failed = inr (inl refl)
+stat_completes files s0 s1 d0 d1 NoEnvironment opened journal there can may runs unreadable wrong none empty ends failed = absurd (there (none refl))
+stat_completes files s0 s1 d0 d1 (Unreadable corruption) opened journal there can may runs unreadable wrong none empty ends failed =
+    absurd (no_corruption_beside files corruption can.meaning (unreadable corruption refl) can.means)
+stat_completes files s0 s1 d0 d1 (WrongIndex name) opened journal there can may runs unreadable wrong none empty ends failed =
+    absurd (no_wrong_beside files name can.meaning (wrong name refl) can.means (none_wrong can.means.held can.meaning can.means.reads can.indexed))
+stat_completes files s0 s1 d0 d1 cause opened journal there can may runs unreadable wrong none empty ends failed = cc
 
 -- where no file is there, a dump ends by that
 pub dump_nothing : (files : Files) (d0 d1 : ℕ) (cause : Cause) → HasNoFile files → ends_dump cause ≡ true → (needs_file cause ≡ true → HasNoFile files → ⊥) → (cause ≡ Disk → HasRisen d0 d1) →

@@ -26,6 +26,14 @@ pub mod PrintLaws
 pub mod RequestLaws
 -- What a dump comes to.
 pub mod DumpLaws
+-- A command that opens the environment and gives it no line.
+pub mod RestingLaws
+-- A run without an event whose disk stands still behind it.
+pub mod StillLaws
+-- What a count of the log's use comes to.
+pub mod StatLaws
+-- What a check of the files comes to.
+pub mod VerifyLaws
 -- The place of a dump's pairs.
 pub mod PlaceLaws
 -- What a load comes to.

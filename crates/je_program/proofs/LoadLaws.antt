@@ -1,5 +1,5 @@
 -- What a load comes to.
-use Rattle.std.proofs.Common.{◌≡◌, ◌≢◌, ◌≤◌, ◌∙◌, ◌++◌, ℕ, Bool, true, false, true≢false, List, [], ◌∷◌, map, Option, None, Some, Ok, Err, length, refl, ap, sym, subst, ⊎_elim}
+use Rattle.std.proofs.Common.{◌≡◌, ◌≢◌, ◌≤◌, ◌∙◌, ◌++◌, ℕ, Bool, true, false, true≢false, List, [], ◌∷◌, map, Option, None, Some, Ok, Err, length, refl, ap, sym, subst, ⊎_elim, arith}
 use Rattle.std.specs.Prelude.{slice_index_or, if◌then◌else◌}
 use Rattle.std.specs.List.{list_all, list_any}
 use Rattle.std.proofs.lemmas.List.{append-nil}
@@ -40,11 +40,11 @@ use Rattle.script_run.specs.Ends.{AreEndsInPlace}
 use Rattle.script_run.specs.Events.Awaited.{Nothing}
 use Rattle.script_run.specs.Pauses.{HasLinesUntil, pauses}
 use Rattle.script_run.specs.Running.{Begins}
-use Rattle.script_run.specs.UnderWay.{Beginning, IsCalm, IsUnderWay, standing}
+use Rattle.script_run.specs.UnderWay.{Beginning, IsCalm, IsCaused, IsUnderWay, standing}
 use Rattle.script_run.proofs.LoadRuns.{whole_of}
 use Rattle.script_run.proofs.RunLaws.{started, starts_calm}
 use Rattle.je_program.specs.declared.cause.Cause.{Cause}
-use Rattle.je_program.specs.declared.cause.Cause.TheVariants.{Done, Usage, BadScript, BadDump, Disk, Unreadable, WrongIndex, Memory, NoEnvironment, NoDatabase, OtherKind, RefusedPair, Input, InputTooLong, LogFull, IdsEnded}
+use Rattle.je_program.specs.declared.cause.Cause.TheVariants.{Done, Usage, BadScript, BadDump, Disk, Unreadable, WrongIndex, Memory, Findings, NoEnvironment, NoDatabase, OtherKind, RefusedPair, Input, InputTooLong, LogFull, IdsEnded}
 use Rattle.je_program.specs.declared.run_result.RunResult.{RunResult}
 use Rattle.je_program.specs.declared.text.Text.{Text}
 use Rattle.je_program.specs.declared.text.Text.TheVariants.{Nothing as NoText}
@@ -113,6 +113,10 @@ all_given kept x lines has memory none =
     has.paused
 
 -- ---- where a run of a load begins
+
+-- a run that was given no line met no fault
+pub rests_caused : (before mid after : ℕ) (journal : List Event) → mid ≡ after → before ≤ mid → journal ≡ [] → IsCaused before after journal
+rests_caused before mid after journal same earlier none = subst (λ (j : List Event). IsCaused before after j) (sym none) (record { never_falls = omega (arith, same, earlier); fault = λ h. cc })
 
 module _ {D : Type 0} (meaning : DiskMeaning D) where
   pub load_start : (most : ℕ) (old : History) (before : ℕ) (opening : Store) (environment : Environment D) (one : IsOpenedAsOne most meaning.observable (now old).reads opening (meaning.history (disk_of environment)) environment) →
@@ -249,6 +253,7 @@ module _ (left : Option (List ℕ)) (before after : ℕ) (journal : List Event) 
   ran_may Usage ran = absurd ran
   ran_may (BadScript at) ran = absurd ran
   ran_may NoEnvironment ran = absurd ran
+  ran_may Findings ran = absurd ran
   ran_may cause ran = refl
 
   ran_runs : (cause : Cause) → IsRanCause cause → RunsIf cause true

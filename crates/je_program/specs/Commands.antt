@@ -18,7 +18,7 @@ use Rattle.store_model.specs.Store.{database_of, store_after}
 use Rattle.je_answers.specs.Standing.{Standing}
 use Rattle.je_answers.specs.Journal.{attempts_of, lines_of}
 use Rattle.command_line.specs.declared.command.Command.{Command}
-use Rattle.command_line.specs.declared.command.Command.TheVariants.{Run, Soak, Dump, Load, PrintLog}
+use Rattle.command_line.specs.declared.command.Command.TheVariants.{Run, Soak, Dump, Load, PrintLog, Verify, Stat}
 use Rattle.script_text.specs.Grammar.{plan_of}
 use Rattle.script_text.specs.Report.{commits_in, end_line, report_text}
 use Rattle.soak_plan.specs.Rounds.{soak_of}
@@ -34,6 +34,11 @@ use Rattle.log_file.specs.Log.{AreFiles}
 use Rattle.log_replay.specs.declared.corruption.Corruption.{Corruption}
 use Rattle.log_replay.specs.Reading.{corruption_in}
 use Rattle.log_meaning.specs.Meaning.{Meaning}
+use Rattle.log_meaning.specs.Reading.{reading_of}
+use Rattle.check_laws.specs.Check.{check_of}
+use Rattle.check_printer.specs.CheckText.{check_text}
+use Rattle.file_use.specs.Use.{use_of}
+use Rattle.use_printer.specs.UseText.{use_text}
 use Rattle.log_printer.specs.LogLines.{lines_text, log_text}
 use Rattle.log_printer.specs.Reading.{HasNoFile}
 use Rattle.database_dump.specs.Text.{database_text, is_dup, records_text}
@@ -41,9 +46,9 @@ use Rattle.environment.specs.Databases.{rows_kept}
 use Rattle.engine.specs.Files.{HasCorruption, Means}
 use Rattle.je_program.specs.declared.reading.TheConstants.{MOST_INPUT}
 use Rattle.je_program.specs.declared.cause.Cause.{Cause}
-use Rattle.je_program.specs.declared.cause.Cause.TheVariants.{Done, Usage, BadScript, BadDump, Disk, Unreadable, WrongIndex, Memory, NoEnvironment, NoDatabase, OtherKind, RefusedPair, Input, InputTooLong, IdsEnded}
+use Rattle.je_program.specs.declared.cause.Cause.TheVariants.{Done, Usage, BadScript, BadDump, Disk, Unreadable, WrongIndex, Memory, Findings, NoEnvironment, NoDatabase, OtherKind, RefusedPair, Input, InputTooLong, IdsEnded}
 use Rattle.je_program.specs.declared.text.Text.{Text}
-use Rattle.je_program.specs.declared.text.Text.TheVariants.{Nothing, Report, SoakEnd, Dump as DumpText, Loaded, Log}
+use Rattle.je_program.specs.declared.text.Text.TheVariants.{Nothing, Report, SoakEnd, Dump as DumpText, Loaded, Log, Check as Checking, Use as Using}
 use Rattle.je_program.specs.Run.{cause_of_load, cause_of_room, first_refused}
 
 -- ---- what a command does
@@ -56,6 +61,8 @@ reads_input (Some (Soak seed settings)) = false
 reads_input (Some (Dump db printed)) = false
 reads_input (Some (Load db no_overwrite)) = true
 reads_input (Some PrintLog) = false
+reads_input (Some Verify) = false
+reads_input (Some Stat) = false
 
 -- whether it opens the environment
 abbrev pub opens : Option Command → Bool
@@ -65,6 +72,8 @@ opens (Some (Soak seed settings)) = true
 opens (Some (Dump db printed)) = true
 opens (Some (Load db no_overwrite)) = true
 opens (Some PrintLog) = false
+opens (Some Verify) = false
+opens (Some Stat) = true
 
 -- whether it needs an environment that is there, since it makes none
 abbrev pub needs_environment : Option Command → Bool
@@ -74,6 +83,8 @@ needs_environment (Some (Soak seed settings)) = false
 needs_environment (Some (Dump db printed)) = true
 needs_environment (Some (Load db no_overwrite)) = false
 needs_environment (Some PrintLog) = true
+needs_environment (Some Verify) = true
+needs_environment (Some Stat) = true
 
 -- whether it gives the environment lines
 abbrev pub gives_lines : Option Command → Bool
@@ -83,6 +94,8 @@ gives_lines (Some (Soak seed settings)) = true
 gives_lines (Some (Dump db printed)) = false
 gives_lines (Some (Load db no_overwrite)) = true
 gives_lines (Some PrintLog) = false
+gives_lines (Some Verify) = false
+gives_lines (Some Stat) = false
 
 -- whether it runs a script, and reports on that
 abbrev pub is_script : Option Command → Bool
@@ -92,6 +105,8 @@ is_script (Some (Soak seed settings)) = true
 is_script (Some (Dump db printed)) = false
 is_script (Some (Load db no_overwrite)) = false
 is_script (Some PrintLog) = false
+is_script (Some Verify) = false
+is_script (Some Stat) = false
 
 -- how many bytes a log file has at most where no option says so
 abbrev pub usual_file_max : ℕ
@@ -105,6 +120,8 @@ file_max_of (Some (Soak seed settings)) = Some settings.file_max
 file_max_of (Some (Dump db printed)) = Some usual_file_max
 file_max_of (Some (Load db no_overwrite)) = Some usual_file_max
 file_max_of (Some PrintLog) = None
+file_max_of (Some Verify) = None
+file_max_of (Some Stat) = Some usual_file_max
 
 -- ---- how it may end
 
@@ -118,6 +135,7 @@ ends_unparsed cause = false
 abbrev pub ends_script : Cause → Bool
 ends_script Usage = false
 ends_script (BadDump line) = false
+ends_script Findings = false
 ends_script NoEnvironment = false
 ends_script NoDatabase = false
 ends_script (OtherKind line) = false
@@ -131,6 +149,7 @@ ends_soak (BadScript line) = false
 ends_soak (BadDump line) = false
 ends_soak Input = false
 ends_soak InputTooLong = false
+ends_soak Findings = false
 ends_soak NoEnvironment = false
 ends_soak NoDatabase = false
 ends_soak (OtherKind line) = false
@@ -153,6 +172,7 @@ ends_dump cause = false
 abbrev pub ends_load : Cause → Bool
 ends_load Usage = false
 ends_load (BadScript line) = false
+ends_load Findings = false
 ends_load NoEnvironment = false
 ends_load cause = true
 
@@ -165,6 +185,16 @@ ends_reading Memory = true
 ends_reading NoEnvironment = true
 ends_reading cause = false
 
+-- of files that are checked
+abbrev pub ends_check : Cause → Bool
+ends_check Findings = true
+ends_check cause = ends_reading cause
+
+-- of a log whose use is counted: as a dump, but for the database that this names
+abbrev pub ends_stat : Cause → Bool
+ends_stat NoDatabase = false
+ends_stat cause = ends_dump cause
+
 -- whether a command may end with a cause
 abbrev pub may_end : Option Command → Cause → Bool
 may_end None cause = ends_unparsed cause
@@ -173,6 +203,8 @@ may_end (Some (Soak seed settings)) cause = ends_soak cause
 may_end (Some (Dump db printed)) cause = ends_dump cause
 may_end (Some (Load db no_overwrite)) cause = ends_load cause
 may_end (Some PrintLog) cause = ends_reading cause
+may_end (Some Verify) cause = ends_check cause
+may_end (Some Stat) cause = ends_stat cause
 
 -- ---- what is read
 
@@ -198,6 +230,8 @@ ReadsInput (Some (Soak seed settings)) left rest = rest ≡ left
 ReadsInput (Some (Dump db printed)) left rest = rest ≡ left
 ReadsInput (Some (Load db no_overwrite)) left rest = (dump : DumpRead) × ReadsDump left rest dump
 ReadsInput (Some PrintLog) left rest = rest ≡ left
+ReadsInput (Some Verify) left rest = rest ≡ left
+ReadsInput (Some Stat) left rest = rest ≡ left
 
 -- the input is a dump
 abbrev pub HasDump : Option (List ℕ) → DumpRead → Type 0
@@ -211,6 +245,8 @@ HasInput (Some (Soak seed settings)) left = Unit {0}
 HasInput (Some (Dump db printed)) left = Unit {0}
 HasInput (Some (Load db no_overwrite)) left = (dump : DumpRead) × HasDump left dump
 HasInput (Some PrintLog) left = Unit {0}
+HasInput (Some Verify) left = Unit {0}
+HasInput (Some Stat) left = Unit {0}
 
 -- ---- the database that a command names
 
@@ -267,6 +303,8 @@ AreLines (Some (Soak seed settings)) left rest opening lines = lines ≡ soak_of
 AreLines (Some (Dump db printed)) left rest opening lines = lines ≡ []
 AreLines (Some (Load db no_overwrite)) left rest opening lines = (dump : DumpRead) × ReadsDump left rest dump × (lines ≡ load_lines (makes_database db opening) db no_overwrite dump)
 AreLines (Some PrintLog) left rest opening lines = ⊥
+AreLines (Some Verify) left rest opening lines = ⊥
+AreLines (Some Stat) left rest opening lines = lines ≡ []
 
 -- whether a command that ends so has given all its lines, if it ran: one that loads a dump only where all was done, any other unless memory ran out
 abbrev pub GaveAll : Option Command → Cause → Type 0
@@ -323,6 +361,22 @@ pub record AreSound (files : Files) : Type 0 where
   pub some : held ≢ []
   pub none : corruption_in held ≡ None
 
+-- so they are, and a check of them finds nothing
+pub record AreFaultless (files : Files) : Type 0 where
+  pub sound : AreSound files
+  pub none : (check_of sound.held).findings ≡ []
+
+-- so they are, and a check of them has findings
+pub record HaveFindings (files : Files) : Type 0 where
+  pub sound : AreSound files
+  pub some : (check_of sound.held).findings ≢ []
+
+-- what the end of a check says of the files: that it has findings, or that it finds nothing
+abbrev pub EndsAsFound : Cause → Files → Type 0
+EndsAsFound Done files = AreFaultless files
+EndsAsFound Findings files = HaveFindings files
+EndsAsFound cause files = Unit {0}
+
 -- the first corruption in the files, in order
 pub record HasDamage (files : Files) (corruption : Corruption) : Type 0 where
   pub held : List (ℕ × List ℕ)
@@ -343,6 +397,8 @@ IsFound (Some (Soak seed settings)) files corruption = HasCorruption files corru
 IsFound (Some (Dump db printed)) files corruption = HasCorruption files corruption
 IsFound (Some (Load db no_overwrite)) files corruption = HasCorruption files corruption
 IsFound (Some PrintLog) files corruption = HasDamage files corruption
+IsFound (Some Verify) files corruption = HasDamage files corruption
+IsFound (Some Stat) files corruption = HasCorruption files corruption
 
 -- the files at entry are what a command needs
 abbrev pub AreReady : Option Command → Files → Type 0
@@ -352,6 +408,8 @@ AreReady (Some (Soak seed settings)) files = CanBeOpened files
 AreReady (Some (Dump db printed)) files = (HasNoFile files → ⊥) × CanBeOpened files
 AreReady (Some (Load db no_overwrite)) files = CanBeOpened files
 AreReady (Some PrintLog) files = AreSound files
+AreReady (Some Verify) files = AreFaultless files
+AreReady (Some Stat) files = (HasNoFile files → ⊥) × CanBeOpened files
 
 -- a run ends so that had its input, and files that can be opened: as its journal's room says; or it has not begun, since no number of a
 -- node was left
@@ -366,6 +424,10 @@ cause_of_found (Some database) = Done
 -- how a dump ends that has all that it needs: as its database is there or not, or at the opening, for want of numbers of transactions
 abbrev pub EndsDump : Cause → Bool → Option Database → Type 0
 EndsDump cause opened found = ((opened ≡ true) × (cause ≡ cause_of_found found)) ⊎ ((opened ≡ false) × (cause ≡ IdsEnded))
+
+-- how a count of the log's use ends that has all that it needs: well, or at the opening, for want of numbers of nodes
+abbrev pub EndsStat : Cause → Bool → Type 0
+EndsStat cause opened = ((opened ≡ true) × (cause ≡ Done)) ⊎ ((opened ≡ false) × (cause ≡ IdsEnded))
 
 -- how a load ends in a run: for want of a place, by the kind of the database, or as its journal says
 abbrev pub load_end : Bool → ℕ → Bool → Bool → List Event → Cause
@@ -387,6 +449,8 @@ EndsWell (Some (Soak seed settings)) left cause opened opening journal = EndsRun
 EndsWell (Some (Dump db printed)) left cause opened opening journal = EndsDump cause opened (database_of db opening)
 EndsWell (Some (Load db no_overwrite)) left cause opened opening journal = EndsLoad db no_overwrite left cause opened opening journal
 EndsWell (Some PrintLog) left cause opened opening journal = cause ≡ Done
+EndsWell (Some Verify) left cause opened opening journal = cause ≡ Done
+EndsWell (Some Stat) left cause opened opening journal = EndsStat cause opened
 
 -- ---- what is written
 
@@ -427,12 +491,15 @@ text_of (SoakEnd seed) opened journal totals = soak_end_of seed opened journal t
 text_of (DumpText records number kind printed) opened journal totals = records_text printed kind (rows_kept records number)
 text_of Loaded opened journal totals = loaded_line journal
 text_of (Log files) opened journal totals = flat_map lines_text files.items
+text_of (Checking checked) opened journal totals = check_text checked
+text_of (Using used) opened journal totals = use_text used
 
--- what a program's work was: whether the disk is observable, and its files at entry; whether a script was run, the store at entry, the journal
--- and how much the final store holds; and the cause of the end
+-- what a program's work was: whether the disk is observable, its files at entry, and those at the end; whether a script was run, the store at
+-- entry, the journal and how much the final store holds; and the cause of the end
 pub record Work : Type 0 where
   pub observable : Bool
   pub files : Files
+  pub left : Files
   pub opened : Bool
   pub opening : Store
   pub journal : List Event
@@ -443,6 +510,32 @@ pub record Work : Type 0 where
 abbrev pub IsLogText : Cause → Bool → Files → List ℕ → Type 0
 IsLogText Done observable files text = (held : List (ℕ × List ℕ)) × (observable ≡ true → AreFiles files held) × (text ≡ log_text held)
 IsLogText cause observable files text = text ≡ []
+
+-- all of a check of files that can each be read; these are the disk's files, if that is observable
+pub record IsCheckOf (observable : Bool) (files : Files) (text : List ℕ) : Type 0 where
+  pub held : List (ℕ × List ℕ)
+  pub are : observable ≡ true → AreFiles files held
+  pub none : corruption_in held ≡ None
+  pub text_is : text ≡ check_text (check_of held)
+
+-- what is written of a check: all of it, where it finds nothing and where it has findings
+abbrev pub IsCheckText : Cause → Bool → Files → List ℕ → Type 0
+IsCheckText Done observable files text = (c : IsCheckOf observable files text) × ((check_of c.held).findings ≡ [])
+IsCheckText Findings observable files text = (c : IsCheckOf observable files text) × ((check_of c.held).findings ≢ [])
+IsCheckText cause observable files text = text ≡ []
+
+-- the use of the log in files that have a meaning; these are the disk's files, if that is observable
+pub record IsUseIn (observable : Bool) (files : Files) (text : List ℕ) : Type 0 where
+  pub held : List (ℕ × List ℕ)
+  pub are : observable ≡ true → AreFiles files held
+  pub meaning : Meaning
+  pub means : reading_of held ≡ Ok meaning
+  pub text_is : text ≡ use_text (use_of meaning held)
+
+-- what is written of the log's use, where all was done
+abbrev pub IsUseText : Cause → Bool → Files → List ℕ → Type 0
+IsUseText Done observable files text = IsUseIn observable files text
+IsUseText cause observable files text = text ≡ []
 
 -- what is written of a dump: where all was done, the database
 abbrev pub dump_at : Cause → Bool → Option Database → List ℕ
@@ -462,3 +555,5 @@ IsTextOf (Some (Soak seed settings)) w text = text ≡ soak_end_of seed w.opened
 IsTextOf (Some (Dump db printed)) w text = text ≡ dump_at w.cause printed (database_of db w.opening)
 IsTextOf (Some (Load db no_overwrite)) w text = text ≡ loaded_at w.cause w.journal
 IsTextOf (Some PrintLog) w text = IsLogText w.cause w.observable w.files text
+IsTextOf (Some Verify) w text = IsCheckText w.cause w.observable w.files text
+IsTextOf (Some Stat) w text = IsUseText w.cause w.observable w.left text

@@ -9,4 +9,6 @@ pub mod Request
 pub mod Dumping
 pub mod Ran
 pub mod Loading
+pub mod Verifying
+pub mod Counting
 pub mod Unprinted

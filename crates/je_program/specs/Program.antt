@@ -16,13 +16,15 @@ use Rattle.script_text.specs.Grammar.{plan_of}
 use Rattle.dump_text.specs.Grammar.{dump_of}
 use Rattle.je_program.specs.declared.reading.TheConstants.{MOST_INPUT}
 use Rattle.je_program.specs.declared.cause.Cause.{Cause}
-use Rattle.je_program.specs.declared.cause.Cause.TheVariants.{Done, Usage, BadScript, BadDump, Disk, Unreadable, WrongIndex, Memory, NoEnvironment, NoDatabase, OtherKind, RefusedPair, Input, InputTooLong, LogFull, IdsEnded}
+use Rattle.je_program.specs.declared.cause.Cause.TheVariants.{Done, Usage, BadScript, BadDump, Disk, Unreadable, WrongIndex, Memory, Findings, NoEnvironment, NoDatabase, OtherKind, RefusedPair, Input, InputTooLong, LogFull, IdsEnded}
 use Rattle.text_out.specs.Lsn.{lsn_text}
 use Rattle.je_lsn.specs.Naming.{name_of}
 use Rattle.log_replay.specs.declared.corruption.Corruption.{Corruption}
 use Rattle.log_replay.specs.declared.corruption.Corruption.TheVariants.{Damaged, Missing, Tree, VersionUnknown}
 use Rattle.engine.specs.declared.open_err.OpenErr.{OpenErr}
 use Rattle.engine.specs.declared.open_err.OpenErr.TheVariants.{Disk as NoDisk, Memory as NoMemory, IdsEnded as NoNumbers, Unreadable as CannotRead, WrongIndex as FoundWrong}
+use Rattle.recovery_je.specs.declared.recover_err.RecoverErr.{RecoverErr}
+use Rattle.recovery_je.specs.declared.recover_err.RecoverErr.TheVariants.{Disk as DiskFailed, Memory as MemoryEnded, Corrupt, WrongIndex as IndexIsWrong}
 use Rattle.engine.specs.Files.{MeanStore}
 use Rattle.environment.specs.Limits.{AreBounded}
 use Rattle.engine.specs.Lengths.{AreLengthsWithin}
@@ -141,7 +143,7 @@ corruption_text (VersionUnknown file version) = codes "fault version " ++ name_o
 abbrev pub dump_fault : ℕ → List ℕ
 dump_fault line = codes "fault dump line " ++ decimal line ++ codes "\n"
 
--- the line that tells why a program ended, none where all was done
+-- the line that tells why a program ended, none where all was done or a check had findings
 abbrev pub fault_text : Cause → List ℕ
 fault_text Done = []
 fault_text Usage = codes "fault usage\n"
@@ -151,6 +153,7 @@ fault_text Disk = codes "fault disk\n"
 fault_text (Unreadable corruption) = corruption_text corruption
 fault_text (WrongIndex name) = codes "fault index " ++ name ++ codes "\n"
 fault_text Memory = codes "fault memory\n"
+fault_text Findings = []
 fault_text NoEnvironment = codes "fault no environment\n"
 fault_text NoDatabase = codes "fault no database\n"
 fault_text (OtherKind line) = dump_fault line
@@ -173,6 +176,13 @@ cause_of_opening NoMemory = Memory
 cause_of_opening NoNumbers = IdsEnded
 cause_of_opening (CannotRead corruption) = Unreadable corruption
 cause_of_opening (FoundWrong name) = WrongIndex name
+
+-- the cause of files that were not read
+abbrev pub cause_of_recovery : RecoverErr → Cause
+cause_of_recovery DiskFailed = Disk
+cause_of_recovery MemoryEnded = Memory
+cause_of_recovery (Corrupt corruption) = Unreadable corruption
+cause_of_recovery (IndexIsWrong name) = WrongIndex name
 
 -- the cause of a run's end once it is closed: a fault of the disk, unless there was no memory before
 abbrev pub cause_closed : Bool → Cause → Cause

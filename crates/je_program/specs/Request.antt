@@ -4,14 +4,14 @@ use Rattle.std.specs.List.{list_all}
 use Rattle.store_model.specs.declared.plan.ScriptLine.{ScriptLine}
 use Rattle.store_model.specs.declared.store.Store.{Store}
 use Rattle.command_line.specs.declared.command.Command.{Command}
-use Rattle.command_line.specs.declared.command.Command.TheVariants.{Dump as DumpCommand, Load as LoadCommand, PrintLog as PrintLogCommand}
+use Rattle.command_line.specs.declared.command.Command.TheVariants.{Dump as DumpCommand, Load as LoadCommand, PrintLog as PrintLogCommand, Verify as VerifyCommand, Stat as StatCommand}
 use Rattle.engine.specs.declared.config.Config.{Config}
 use Rattle.script_text.specs.Grammar.{is_line}
 use Rattle.je_program.specs.declared.cause.Cause.{Cause}
 use Rattle.je_program.specs.declared.cause.Cause.TheVariants.{Usage, Memory}
 use Rattle.je_program.specs.declared.text.Text.{Text}
 use Rattle.je_program.specs.declared.request.Request.{Request}
-use Rattle.je_program.specs.declared.request.Request.TheVariants.{Life, Dump, Load, PrintLog}
+use Rattle.je_program.specs.declared.request.Request.TheVariants.{Life, Dump, Load, PrintLog, Verify, Stat}
 use Rattle.je_program.specs.Commands.{AreLines, IsTextOf, ReadsDump, ReadsInput, Work, file_max_of, is_script, text_of}
 
 -- why the arguments give no command
@@ -42,3 +42,5 @@ IsRequestOf command left rest (Life config plan text) = IsLife command left rest
 IsRequestOf command left rest (Dump db printed) = (command ≡ Some (DumpCommand db printed)) × (rest ≡ left)
 IsRequestOf command left rest (Load db no_overwrite dump) = (command ≡ Some (LoadCommand db no_overwrite)) × ReadsDump left rest dump
 IsRequestOf command left rest PrintLog = (command ≡ Some PrintLogCommand) × (rest ≡ left)
+IsRequestOf command left rest Verify = (command ≡ Some VerifyCommand) × (rest ≡ left)
+IsRequestOf command left rest Stat = (command ≡ Some StatCommand) × (rest ≡ left)

@@ -8,7 +8,7 @@ use Rattle.store_model.specs.Journal.{answer_of, is_disk_fault}
 use Rattle.je_answers.specs.Journal.{has_answer}
 use Rattle.load_laws.specs.Given.{is_refusal}
 use Rattle.je_program.specs.declared.cause.Cause.{Cause}
-use Rattle.je_program.specs.declared.cause.Cause.TheVariants.{Done, Usage, BadScript, BadDump, Disk, Unreadable, WrongIndex, Memory, NoEnvironment, NoDatabase, OtherKind, RefusedPair, Input, InputTooLong, LogFull as NoRoom, IdsEnded as NoNumbers}
+use Rattle.je_program.specs.declared.cause.Cause.TheVariants.{Done, Usage, BadScript, BadDump, Disk, Unreadable, WrongIndex, Memory, Findings, NoEnvironment, NoDatabase, OtherKind, RefusedPair, Input, InputTooLong, LogFull as NoRoom, IdsEnded as NoNumbers}
 
 -- the cause that a journal's first answer of LogFull or IdsEnded gives
 abbrev pub cause_of_answer : Option Answer → Cause → Cause
@@ -74,6 +74,7 @@ status_of Disk = 4
 status_of (Unreadable corruption) = 5
 status_of (WrongIndex name) = 5
 status_of Memory = 6
+status_of Findings = 9
 status_of NoEnvironment = 10
 status_of NoDatabase = 10
 status_of (OtherKind line) = 3

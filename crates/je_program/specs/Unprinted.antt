@@ -14,7 +14,7 @@ use Rattle.command_line.specs.declared.command.Command.{Command}
 use Rattle.command_line.specs.declared.command.Command.TheVariants.{PrintLog}
 use Rattle.log_printer.specs.Reading.{HasNoFile}
 use Rattle.je_program.specs.declared.cause.Cause.{Cause}
-use Rattle.je_program.specs.declared.cause.Cause.TheVariants.{Done, Unreadable, WrongIndex, Memory, NoEnvironment, NoDatabase, IdsEnded}
+use Rattle.je_program.specs.declared.cause.Cause.TheVariants.{Done, Unreadable, WrongIndex, Memory, Findings, NoEnvironment, NoDatabase, IdsEnded}
 use Rattle.je_program.specs.declared.run_result.RunResult.{RunResult}
 use Rattle.je_program.specs.declared.text.Text.{Text}
 use Rattle.je_program.specs.Commands.{AreSound, HasDatabase, IsFound, IsGivenTo, EndsAsPlaced, IsStored, IsTextOf, LacksDatabase, ReadsInput, Work, file_max_of, may_end, needs_environment, opens, text_of}
@@ -24,15 +24,16 @@ use Rattle.je_program.specs.Untouched.{LeavesUnreadable}
 -- whether a command that needs an environment ends so only where a file was there
 abbrev pub needs_file : Cause → Bool
 needs_file Done = true
+needs_file Findings = true
 needs_file (Unreadable corruption) = true
 needs_file (WrongIndex name) = true
 needs_file NoDatabase = true
 needs_file IdsEnded = true
 needs_file cause = false
 
--- the work of a program that came to this, over a disk with these files at entry
-abbrev pub work_of : {D : Type 0} → Bool → Files → RunResult D → Work
-work_of observable files r = record { observable = observable; files = files; opened = r.opened; opening = r.opening; journal = r.journal.items; totals = r.totals; cause = r.cause }
+-- the work of a program that came to this, over a disk with these files at entry and these at the end
+abbrev pub work_of : {D : Type 0} → Bool → Files → Files → RunResult D → Work
+work_of observable files left r = record { observable = observable; files = files; left = left; opened = r.opened; opening = r.opening; journal = r.journal.items; totals = r.totals; cause = r.cause }
 
 -- what a command came to, of which so much of the input was left and is, over a disk: each part is a clause of the top call
 pub record ComesTo {D : Type 0} (command : Option Command) (meaning : DiskMeaning D) (left rest : Option (List ℕ)) (before after : ℕ) (disk : D) (r : RunResult D) (text : Text) : Type 0 where
@@ -58,5 +59,5 @@ pub record ComesTo {D : Type 0} (command : Option Command) (meaning : DiskMeanin
   pub left_alone : meaning.observable ≡ true → LeavesUnreadable r.cause (meaning.history disk) (meaning.history r.disk)
   pub reads_only : opens command ≡ false → meaning.observable ≡ true → IsUntouched (meaning.history disk) (meaning.history r.disk)
   pub crash_unopened : meaning.observable ≡ true → r.opened ≡ false → KeepsEntry (meaning.history disk) (meaning.history r.disk)
-  pub text_is : IsTextOf command (work_of meaning.observable (now (meaning.history disk)).reads r) (text_of text r.opened r.journal.items r.totals)
+  pub text_is : IsTextOf command (work_of meaning.observable (now (meaning.history disk)).reads (now (meaning.history r.disk)).reads r) (text_of text r.opened r.journal.items r.totals)
   pub source : before ≤ after

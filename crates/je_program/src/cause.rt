@@ -28,6 +28,8 @@ pub enum Cause {
     WrongIndex(Word),
     /// Out of memory: 6.
     Memory,
+    /// A check of the files found what is wrong with them: 9. Its text says so, and there is no fault line.
+    Findings,
     /// No environment is there, and the command makes none: 10.
     NoEnvironment,
     /// The environment has no database of the name that the command was given; or, of a dump that is loaded, it is an
@@ -62,6 +64,7 @@ impl Cause {
             Cause::Unreadable(_) | Cause::WrongIndex(_) => 5,
             Cause::Memory => 6,
             Cause::Input => 7,
+            Cause::Findings => 9,
             Cause::NoEnvironment | Cause::NoDatabase => 10,
             Cause::InputTooLong => 11,
             Cause::LogFull | Cause::IdsEnded => 12,

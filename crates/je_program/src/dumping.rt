@@ -1,94 +1,26 @@
 // Dumping a database.
-ghost use Rattle.std.specs.Prelude.{◌≡◌, ◌≤◌, [], ℕ, Bool, List, Option, Some, true, false, IfOk, slice_index_or};
-ghost use Rattle.je_disk.specs.Causes.{HasCause};
+ghost use Rattle.std.specs.Prelude.{◌≡◌, ◌≤◌, [], ℕ, Bool, List, Option, Some, true};
 ghost use Rattle.je_disk.specs.Moments.{now};
-ghost use Rattle.je_disk.specs.States.{IsListing};
 ghost use Rattle.store_model.specs.declared.event.Event.{Event};
 ghost use Rattle.store_model.specs.declared.totals.Totals.{Totals};
 ghost use Rattle.log_printer.specs.Reading.{HasNoFile};
 ghost use Rattle.command_line.specs.declared.command.Command.TheVariants.{Dump};
 ghost use Rattle.log_replay.specs.Rows.{Rows};
-ghost use Rattle.engine.specs.Untouched.{IsUntouched};
 ghost use Rattle.je_program.specs.declared.cause.Cause.{Cause as Why};
-ghost use Rattle.je_program.specs.Commands.{text_of, usual_file_max};
-ghost use Rattle.je_program.specs.Dumping.{HaveRows, IsLook, IsSameRun, cause_with, dump_given, text_with};
-ghost use Rattle.je_program.specs.Request.{IsConfig};
+ghost use Rattle.je_program.specs.Commands.{text_of};
+ghost use Rattle.je_program.specs.Dumping.{HaveRows, IsSameRun, cause_with, dump_given, text_with};
 ghost use Rattle.je_program.specs.Unprinted.{ComesTo};
 
 use crate::cause::Cause;
-use crate::run_result::{RunResult, finish, opening_cause, unopened};
+use crate::looking::look;
+use crate::resting::{close_at_rest, usual_config};
+use crate::run_result::{RunResult, opening_cause, unopened};
 use crate::text::Text;
 use crate::unprinted::Unprinted;
-use environment::{Config, Environment, FoundDatabase, Opened, Stopped};
-use je_disk::{Disk, DiskErr};
-use je_lsn::FileNo;
+use environment::{Environment, FoundDatabase, Opened, Stopped};
+use je_disk::Disk;
 use je_order::Word;
-use script_run::{Recorded, Running};
 use std::alloc::Global;
-
-/// How an environment is opened where no option says how.
-pub fn usual_config() -> Config
-    ensures is { IsConfig result }
-    ensures file_max { result.file_max ≡ usual_file_max }
-{
-    Config {
-        file_max: 10_000_000,
-        fanout: 128,
-    }
-}
-
-// Mounts the disk, and lists its files.
-fn list_files<D: Disk>(alloc: Global, disk: &mut D) -> Result<Vec<FileNo>, DiskErr>
-    ensures listed { D.meaning.observable ≡ true → IfOk result (λ files. IsListing (now (D.meaning.history disk.old)).reads files.items) }
-    ensures untouched { D.meaning.observable ≡ true → IsUntouched (D.meaning.history disk.old) (D.meaning.history disk.new) }
-    ensures cause { HasCause (D.meaning.faults disk.old) (D.meaning.faults disk.new) result }
-{
-    disk.mount()?;
-    disk.list(alloc)
-}
-
-// Why the disk has no environment to open: no file is there, it failed, or there was no memory; None where a file is
-// there.
-fn look<D: Disk>(alloc: Global, disk: &mut D) -> Option<Cause>
-    ensures look { IsLook D.meaning.observable (now (D.meaning.history disk.old)).reads (D.meaning.faults disk.old) (D.meaning.faults disk.new) result }
-    ensures untouched { D.meaning.observable ≡ true → IsUntouched (D.meaning.history disk.old) (D.meaning.history disk.new) }
-    ensures never_falls { D.meaning.faults disk.old ≤ D.meaning.faults disk.new }
-{
-    match list_files(alloc, disk) {
-        Ok(files) => {
-            if files.is_empty() {
-                Some(Cause::NoEnvironment)
-            } else {
-                None
-            }
-        }
-        Err(DiskErr::Failed) => Some(Cause::Disk),
-        Err(DiskErr::Memory) => Some(Cause::Memory),
-    }
-}
-
-/// A run that is given no line; there may have been no memory for the lines.
-pub fn at_rest<D: Disk>(
-    alloc: Global,
-    environment: Environment<D>,
-    memory_ended: bool,
-) -> Running<D>
-    ensures environment { result.recorded.environment ≡ environment }
-    ensures journal { result.recorded.journal.items ≡ [] }
-    ensures memory { result.memory_ended ≡ memory_ended }
-    ensures stopped { (session : ℕ) → slice_index_or result.stopped session false ≡ false }
-{
-    Running {
-        recorded: Recorded {
-            environment,
-            journal: Vec::new(alloc),
-        },
-        memory_ended,
-        stopped: [false; 256],
-        steps_stopped: false,
-        halted: false,
-    }
-}
 
 // A run that found no database: that is why it ended, whatever closing met.
 fn without_database<D: Disk>(run: RunResult<D>) -> Unprinted<D>
@@ -192,8 +124,7 @@ fn dump_opened<D: Disk>(alloc: Global, disk: D, db: &Word, printed: bool) -> Unp
                 opening,
             } = opened;
             let found = environment.find_database(db);
-            let running = at_rest(alloc, environment, false);
-            let run = finish(running, opening);
+            let run = close_at_rest(alloc, environment, opening);
             dumped(run, found, printed)
         }
         Err(Stopped { error, disk }) => {

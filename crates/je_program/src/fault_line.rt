@@ -135,12 +135,12 @@ fn plain_line(text: &[u8]) -> ArrayVec<u8, 80>
     line
 }
 
-/// The line that tells why a program ended, and nothing where all was done. It takes no memory.
+/// The line that tells why a program ended, and nothing where all was done, or where a check had findings. It takes no memory.
 pub fn fault_line(cause: &Cause) -> ArrayVec<u8, 80>
     ensures { result.items ≡ fault_text cause.now }
 {
     match cause {
-        Cause::Done => plain_line(b""),
+        Cause::Done | Cause::Findings => plain_line(b""),
         Cause::Usage => plain_line(b"fault usage\n"),
         Cause::BadScript { line } => line_of_bad_line(*line),
         Cause::BadDump { line } => line_of_dump(*line),

@@ -24,8 +24,8 @@ ghost use Rattle.je_program.specs.Run.{cause_of_load, first_refused};
 ghost use Rattle.je_program.specs.Unprinted.{ComesTo};
 
 use crate::cause::Cause;
-use crate::dumping::{at_rest, usual_config};
 use crate::ending::load_cause;
+use crate::resting::{at_rest, close_at_rest, usual_config};
 use crate::run_result::{RunResult, finish, opening_cause, unopened};
 use crate::text::Text;
 use crate::unprinted::Unprinted;
@@ -200,8 +200,7 @@ pub fn load<D: Disk>(
                 }
                 Err(cause) => {
                     drop(dump);
-                    let running = at_rest(alloc, environment, false);
-                    let run = finish(running, opening);
+                    let run = close_at_rest(alloc, environment, opening);
                     Unprinted {
                         run: with_cause(run, cause),
                         text: Text::Nothing,

@@ -5,6 +5,8 @@ ghost use Rattle.je_order.specs.Counts.{HasRisen};
 ghost use Rattle.je_io.specs.Sink.{Gains, GainsPart};
 ghost use Rattle.text_out.specs.OutBuffer.{Adds, Sends, point};
 ghost use Rattle.log_printer.specs.LogLines.{lines_text};
+ghost use Rattle.check_printer.specs.CheckText.{check_text};
+ghost use Rattle.use_printer.specs.UseText.{use_text};
 ghost use Rattle.database_dump.specs.Text.{records_text};
 ghost use Rattle.environment.specs.Databases.{rows_kept};
 ghost use Rattle.je_program.specs.Commands.{is_kept_pair, is_loaded, loaded_line, report_of, soak_end_of, soak_text, text_of};
@@ -13,14 +15,18 @@ ghost use Rattle.je_program.specs.Program.{fault_text, IsOutputWritten};
 use crate::cause::Cause;
 use crate::fault_line::fault_line;
 use crate::text::Text;
+use check_laws::Checked;
+use check_printer::put_check;
 use database_dump::put_database;
 use environment::Records;
+use file_use::LogUse;
 use je_io::{Failed, Sink, write_all};
 use log_printer::{FileLines, put_log};
 use script_text::{put_last_line, report};
 use soak_plan::SOAK_LINES;
 use store_model::{Answer, Call, Event, Kind, Totals};
 use text_out::{OutBuffer, put_number};
+use use_printer::put_use;
 
 // Writes the fault line of a cause, and nothing where all was done.
 fn write_fault<K: Sink>(cause: &Cause, output: &mut K) -> Result<(), Failed>
@@ -137,6 +143,30 @@ fn write_log<K: Sink>(files: &[FileLines], output: &mut K) -> Result<(), Failed>
 {
     let mut buffer = OutBuffer::new();
     put_log(&mut buffer, output, files);
+    finish_text(buffer, output)
+}
+
+// Writes what a check comes to.
+fn write_check<K: Sink>(checked: &Checked, output: &mut K) -> Result<(), Failed>
+    ensures observed { OnOk result (Gains (K.written output.old) (K.written output.new) (check_text checked.now)) }
+    ensures part { OnErr result (GainsPart (K.written output.old) (K.written output.new) (check_text checked.now)) }
+    ensures never_falls { K.faults output.old ≤ K.faults output.new }
+    ensures cause { OnErr result (HasRisen (K.faults output.old) (K.faults output.new)) }
+{
+    let mut buffer = OutBuffer::new();
+    put_check(&mut buffer, output, checked);
+    finish_text(buffer, output)
+}
+
+// Writes how much of each file is live.
+fn write_use<K: Sink>(used: &LogUse, output: &mut K) -> Result<(), Failed>
+    ensures observed { OnOk result (Gains (K.written output.old) (K.written output.new) (use_text used.now)) }
+    ensures part { OnErr result (GainsPart (K.written output.old) (K.written output.new) (use_text used.now)) }
+    ensures never_falls { K.faults output.old ≤ K.faults output.new }
+    ensures cause { OnErr result (HasRisen (K.faults output.old) (K.faults output.new)) }
+{
+    let mut buffer = OutBuffer::new();
+    put_use(&mut buffer, output, used);
     finish_text(buffer, output)
 }
 
@@ -262,6 +292,8 @@ fn write_body<K: Sink>(
         } => write_dump(records, *number, *kind, *printed, output),
         Text::Loaded => write_loaded(journal, output),
         Text::Log(files) => write_log(files, output),
+        Text::Check(checked) => write_check(checked, output),
+        Text::Use(used) => write_use(used, output),
     }
 }
 

@@ -15,11 +15,11 @@ ghost use Rattle.engine.specs.Untouched.{IsUntouched};
 ghost use Rattle.engine.specs.Files.{HasWrongIndex};
 ghost use Rattle.engine.specs.Opening.{HasNoNumbers};
 ghost use Rattle.command_line.specs.declared.command.RunSettings.{RunSettings};
-ghost use Rattle.command_line.specs.declared.command.Command.TheVariants.{Load, Run};
+ghost use Rattle.command_line.specs.declared.command.Command.TheVariants.{Load, Run, Verify};
 ghost use Rattle.command_line.specs.Arguments.{command_in, is_taken};
 ghost use Rattle.je_program.specs.declared.cause.Cause.{Cause as Why};
 ghost use Rattle.je_program.specs.declared.reading.TheConstants.{MOST_INPUT};
-ghost use Rattle.je_program.specs.Commands.{AreReady, EndsWell, HasDatabase, HasInput, IsFound, IsGivenTo, EndsAsPlaced, IsStored, IsTextOf, LacksDatabase, ReadsInput, file_max_of, may_end, needs_environment, opens, reads_input};
+ghost use Rattle.je_program.specs.Commands.{AreReady, EndsAsFound, EndsWell, HasDatabase, HasInput, HaveFindings, IsFound, IsGivenTo, EndsAsPlaced, IsStored, IsTextOf, LacksDatabase, ReadsInput, file_max_of, may_end, needs_environment, opens, reads_input};
 ghost use Rattle.je_program.specs.Program.{EndsWith, IsOutputWritten, IsRunOf, RunsBy, fault_text, is_before_disk};
 
 use crate::cause::Cause;
@@ -65,8 +65,9 @@ fn records_left(text: Text, records: Option<Records>) -> Option<Records> {
 /// environment over the disk, gives the script's lines in order, and writes the report; for `soak` it does so with the
 /// script of a seed, and writes how that ended; for `dump` it opens the environment and writes a database's pairs; for
 /// `load` it reads a dump from the input, opens the environment, puts the pairs into a database, all or none of them, and
-/// writes how many; for `printlog` it reads the disk's files and writes a line for each entry of the log. Or it writes the
-/// one line that tells why there is none of these.
+/// writes how many; for `printlog` it reads the disk's files and writes a line for each entry of the log; for `verify` it
+/// reads them and writes all that is wrong with them; for `stat` it opens the environment, closes it, and writes how much of
+/// each file is live. Or it writes the one line that tells why there is none of these.
 pub fn run_je<D: Disk, S: Source, K: Sink>(
     alloc: Global,
     args: &[String],
@@ -116,6 +117,11 @@ pub fn run_je<D: Disk, S: Source, K: Sink>(
     // Where no script was run, no number is left only if those of the files' nodes may pass the last one.
     ensures ids_ended { result.cause ≡ Why.IdsEnded → result.opened ≡ false → D.meaning.observable ≡ true → HasNoNumbers (now (D.meaning.history disk)).reads }
 
+    // A check of the files has findings exactly where that is the cause of its end, and none where all was done.
+    ensures findings { command_in (map string_bytes args.now) ≡ Some Verify → D.meaning.observable ≡ true → EndsAsFound result.cause (now (D.meaning.history disk)).reads }
+    ensures findings_found { command_in (map string_bytes args.now) ≡ Some Verify → D.meaning.observable ≡ true → HaveFindings (now (D.meaning.history disk)).reads
+        → (result.cause ≡ Why.Findings) ⊎ (result.cause ≡ Why.Memory) ⊎ HasRisen (D.meaning.faults disk) (D.meaning.faults result.disk) }
+
     // Where the files at entry cannot be opened, or none is there and the command needs one, the disk's state is at each
     // moment what it was; so it is, whatever the cause, where a command opens no environment.
     ensures unreadable_untouched { (corruption : Wrong) → result.cause ≡ Why.Unreadable corruption → D.meaning.observable ≡ true → IsUntouched (D.meaning.history disk) (D.meaning.history result.disk) }
@@ -123,7 +129,7 @@ pub fn run_je<D: Disk, S: Source, K: Sink>(
     ensures no_environment_untouched { result.cause ≡ Why.NoEnvironment → D.meaning.observable ≡ true → IsUntouched (D.meaning.history disk) (D.meaning.history result.disk) }
     ensures reads_only { opens (command_in (map string_bytes args.now)) ≡ false → D.meaning.observable ≡ true → IsUntouched (D.meaning.history disk) (D.meaning.history result.disk) }
 
-    // A run: its journal holds the script's lines, or those of the seed; that of `dump` is empty; that of `load` holds the
+    // A run: its journal holds the script's lines, or those of the seed; those of `dump` and `stat` are empty; that of `load` holds the
     // lines that make the database, if it is not there, and put all pairs in one transaction, up to the first that is
     // refused; where all was done the final store has all pairs in the database, put there one after another; and whatever
     // first of its commits a crash leaves, the database is there without a pair, or with all, or nothing of this. Each answer is the model's, from what the files at entry mean on;
@@ -153,7 +159,7 @@ pub fn run_je<D: Disk, S: Source, K: Sink>(
     // A command that has its input, and the files that it needs, ends well, unless memory ran out or a count rose: `run`
     // and `soak` in a run, with files that mean a store in which each index has the pairs of its primary's records;
     // `dump` as the database is there or not; `load` as its journal says, or for want of a place for the pairs; `printlog`
-    // with all files printed. Where the files are not such, that is
+    // with all files printed, `verify` where it finds nothing, `stat` with its numbers. Where the files are not such, that is
     // the cause.
     ensures complete { HasInput (command_in (map string_bytes args.now)) (S.left input.old) → D.meaning.observable ≡ true → AreReady (command_in (map string_bytes args.now)) (now (D.meaning.history disk)).reads
         → EndsWell (command_in (map string_bytes args.now)) (S.left input.old) result.cause result.opened result.opening result.journal.items ⊎ (result.cause ≡ Why.Memory)
@@ -172,7 +178,7 @@ pub fn run_je<D: Disk, S: Source, K: Sink>(
     // What was written, and the status: the command's text and the fault line, and the cause's status, unless the output
     // failed.
     ensures written { (text : List ℕ) × IsTextOf (command_in (map string_bytes args.now))
-        (record { observable = D.meaning.observable; files = (now (D.meaning.history disk)).reads; opened = result.opened; opening = result.opening; journal = result.journal.items; totals = result.totals; cause = result.cause }) text
+        (record { observable = D.meaning.observable; files = (now (D.meaning.history disk)).reads; left = (now (D.meaning.history result.disk)).reads; opened = result.opened; opening = result.opening; journal = result.journal.items; totals = result.totals; cause = result.cause }) text
         × IsOutputWritten (K.written output.old) (K.written output.new) (K.faults output.old) (K.faults output.new) (text ++ fault_text result.cause) result.cause result.status }
 
     // No count of faults falls.

@@ -20,7 +20,7 @@ use std::alloc::Global;
 use store_model::RunPlan;
 
 /// What a program is to do: to run a plan over an environment that is opened so, and then to write this; to dump a
-/// database; to load a dump into one; or to print the log.
+/// database; to load a dump into one; to print the log; to check the files; or to count the log's use.
 pub enum Request {
     Life {
         config: Config,
@@ -37,6 +37,8 @@ pub enum Request {
         dump: Dump,
     },
     PrintLog,
+    Verify,
+    Stat,
 }
 
 // How an environment is opened with these settings.
@@ -134,6 +136,8 @@ fn request_of<S: Source>(alloc: Global, command: Command, input: &mut S) -> Resu
         Command::Dump { db, printed } => Ok(Request::Dump { db, printed }),
         Command::Load { db, no_overwrite } => load_request(alloc, db, no_overwrite, input),
         Command::PrintLog => Ok(Request::PrintLog),
+        Command::Verify => Ok(Request::Verify),
+        Command::Stat => Ok(Request::Stat),
     }
 }
 

@@ -24,7 +24,7 @@ ghost use Rattle.environment.specs.Databases.{rows_held};
 ghost use Rattle.je_program.specs.Commands.{ends_soak};
 ghost use Rattle.je_program.specs.Dumping.{HaveRows};
 ghost use Rattle.je_program.specs.Ran.{HasRun};
-ghost use Rattle.je_program.specs.Program.{ClosesRun, EndsBy, IsRunOf, RunsIf, cause_closed, cause_of_opening};
+ghost use Rattle.je_program.specs.Program.{ClosesRun, EndsBy, IsRunOf, RunsIf, cause_closed, cause_of_opening, cause_of_recovery};
 ghost use Rattle.je_program.specs.Run.{cause_of_journal, is_run_through};
 
 use crate::cause::Cause;
@@ -33,6 +33,7 @@ use environment::{
     Closed, Config, Environment, OpenErr, Opened, Opening, Records, Stopped, no_opening,
 };
 use je_disk::Disk;
+use recovery_je::RecoverErr;
 use script_run::{Recorded, Running, run};
 use std::alloc::Global;
 use store_model::{Event, RunPlan, Totals};
@@ -108,6 +109,18 @@ pub fn opening_cause(error: OpenErr) -> Cause
         OpenErr::IdsEnded => Cause::IdsEnded,
         OpenErr::Unreadable(corruption) => Cause::Unreadable(corruption),
         OpenErr::WrongIndex(name) => Cause::WrongIndex(name),
+    }
+}
+
+/// The cause of files that were not read.
+pub fn recovery_cause(error: RecoverErr) -> Cause
+    ensures { result ≡ cause_of_recovery error }
+{
+    match error {
+        RecoverErr::Disk => Cause::Disk,
+        RecoverErr::Memory => Cause::Memory,
+        RecoverErr::Corrupt(corruption) => Cause::Unreadable(corruption),
+        RecoverErr::WrongIndex(name) => Cause::WrongIndex(name),
     }
 }
 

@@ -1,5 +1,7 @@
 // What a program has to write.
+use check_laws::Checked;
 use environment::Records;
+use file_use::LogUse;
 use log_printer::FileLines;
 use store_model::Kind;
 
@@ -25,4 +27,8 @@ pub enum Text {
     Loaded,
     /// The lines of a log.
     Log(Vec<FileLines>),
+    /// What a check of the files comes to.
+    Check(Checked),
+    /// How much of each file of the log is live.
+    Use(LogUse),
 }

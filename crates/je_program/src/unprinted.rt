@@ -9,7 +9,9 @@ use crate::loading::load;
 use crate::print_log::print_log;
 use crate::request::{Request, read_request};
 use crate::run_result::{RunResult, run_plan, unopened};
+use crate::stat::stat;
 use crate::text::Text;
+use crate::verify::verify;
 use je_disk::Disk;
 use je_io::Source;
 use std::alloc::Global;
@@ -45,6 +47,8 @@ pub fn run_unprinted<D: Disk, S: Source>(
             },
         ) => load(alloc, disk, &db, no_overwrite, dump),
         Ok(Request::PrintLog) => print_log(alloc, disk),
+        Ok(Request::Verify) => verify(alloc, disk),
+        Ok(Request::Stat) => stat(alloc, disk),
         Err(cause) => Unprinted {
             run: unopened(alloc, cause, disk),
             text: Text::Nothing,

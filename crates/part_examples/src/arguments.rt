@@ -104,6 +104,16 @@ static WRONG: [&str; 81] = [
     "printlog --home d --file-max 4096",
     "printlog --home d --seed 1",
     "run printlog --home d",
+    "verify",
+    "verify d",
+    "verify --home d --db t",
+    "verify --home d --file-max 4096",
+    "verify verify --home d",
+    "stat",
+    "stat --home d --home d",
+    "stat --home d --print",
+    "stat --home d --fanout 4",
+    "stat stat --home d",
     "dump --home d",
     "dump --db t",
     "dump --home d --db",
@@ -237,6 +247,22 @@ fn prints(alloc: Global, line: &str, home: &str) -> Result<bool, AllocError> {
     Ok(found.home.as_str() == home && matches!(found.command, Command::PrintLog))
 }
 
+fn verifies(alloc: Global, line: &str, home: &str) -> Result<bool, AllocError> {
+    let args = split(alloc, line)?;
+    let Some(found) = parse(alloc, args.as_slice())? else {
+        return Ok(false);
+    };
+    Ok(found.home.as_str() == home && matches!(found.command, Command::Verify))
+}
+
+fn counts(alloc: Global, line: &str, home: &str) -> Result<bool, AllocError> {
+    let args = split(alloc, line)?;
+    let Some(found) = parse(alloc, args.as_slice())? else {
+        return Ok(false);
+    };
+    Ok(found.home.as_str() == home && matches!(found.command, Command::Stat))
+}
+
 fn are_wrong(alloc: Global, args: &[String]) -> Result<bool, AllocError> {
     Ok(parse(alloc, args)?.is_none())
 }
@@ -292,6 +318,14 @@ fn right_words_load_a_dump(rt: HostRuntime) {
 fn right_words_print_the_log(rt: HostRuntime) {
     assert!(rt; prints(rt.alloc(), "printlog --home d", "d") == Ok(true));
     assert!(rt; prints(rt.alloc(), "printlog --home=run --", "run") == Ok(true));
+}
+
+#[test]
+fn right_words_check_and_count(rt: HostRuntime) {
+    assert!(rt; verifies(rt.alloc(), "verify --home d", "d") == Ok(true));
+    assert!(rt; verifies(rt.alloc(), "verify --home=stat --", "stat") == Ok(true));
+    assert!(rt; counts(rt.alloc(), "stat --home d", "d") == Ok(true));
+    assert!(rt; counts(rt.alloc(), "stat --home=verify --", "verify") == Ok(true));
 }
 
 #[test]

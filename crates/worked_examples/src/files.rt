@@ -71,7 +71,7 @@ t\
 \x00\x00\x00\x00\x00\x00\x00\x01";
 
 // A log whose transaction 2 puts a record with a dup into the plain database t.
-const WITH_DUP: &[u8] = b"\
+pub const WITH_DUP: &[u8] = b"\
 \x0c\xb3\x01\x31\
 \x01\
 \x00\
@@ -119,7 +119,7 @@ d\
 
 // File 1 behind the log of the first example: an index i of t by the first byte of the data, which has
 // not the pair of the one record there.
-const WITHOUT_PAIR: &[u8] = b"\
+pub const WITHOUT_PAIR: &[u8] = b"\
 \x0c\xb4\x01\x32\
 \x01\
 \x00\

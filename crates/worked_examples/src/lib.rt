@@ -11,6 +11,8 @@ mod chain;
 #[cfg(test)]
 mod checkpoints;
 #[cfg(test)]
+mod checks;
+#[cfg(test)]
 mod crashes;
 #[cfg(test)]
 mod cursors;
@@ -46,3 +48,5 @@ mod soaks;
 mod splitting;
 #[cfg(test)]
 mod transactions;
+#[cfg(test)]
+mod uses;

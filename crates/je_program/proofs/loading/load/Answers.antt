@@ -13,9 +13,9 @@ use Rattle.je_program.specs.declared.cause.Cause.{Cause}
 use Rattle.je_program.specs.Run.{cause_of_load, first_refused}
 use Rattle.je_program.specs.Program.{ClosesRun, EndsBy, IsRunOf}
 use Rattle.je_program.proofs.BeginLaws.{beginning, begins, opened_as_one, starts_valid}
-use Rattle.je_program.proofs.DumpLaws.{closed_end, no_memory_closing, run_of_same}
+use Rattle.je_program.proofs.DumpLaws.{no_memory_closing, run_of_same}
 use Rattle.je_program.proofs.FinishLaws.{ends_by, ran_cause}
-use Rattle.je_program.proofs.LoadLaws.{barred_comes, done_left, load_start, loaded_comes, rests_so, unopened_comes}
+use Rattle.je_program.proofs.LoadLaws.{barred_comes, done_left, load_start, loaded_comes, unopened_comes}
 use Rattle.je_program.proofs.loading.load.Goals as goal
 
 pub give_lines-running-requires : goal.give_lines-running-requires
@@ -87,26 +87,21 @@ returns-in-Err-place_in g c = λ left rest before after later read.
     let st = one.st in
     let p = beginning meaning most environment st in
     let start = load_start meaning most old faults opening environment one o.bounds o.entry o.faults in
-    let running = c.at_rest-running.result in
-    let rest_is = c.at_rest-running.ensures in
-    let ran = rests_so meaning old faults opening p environment running start rest_is.environment rest_is.journal rest_is.stopped in
-    let first = c.finish-run-in-Err-place_in.result in
-    let f = c.finish-run-in-Err-place_in.ensures in
+    let first = c.close_at_rest-run.result in
+    let f = c.close_at_rest-run.ensures in
     let r = c.with_cause.result in
     let d = c.with_cause.ensures in
     let end = first.cause in
-    let j = running.recorded.journal.items in
     let run : IsRunOf _ meaning.observable old (meaning.history first.disk) faults (meaning.faults first.disk) first.opening first.totals first.journal.items end st =
-    subst (λ (n : ℕ). IsRunOf n meaning.observable old (meaning.history first.disk) faults (meaning.faults first.disk) first.opening first.totals first.journal.items end st) c.usual_config-config.ensures.file_max (f.run old faults p ran) in
-    let caused = f.caused faults (caused_earlier faults (meaning.faults (disk_of environment)) (meaning.faults (disk_of running.recorded.environment)) j o.faults ran.under.running.caused) in
+    subst (λ (n : ℕ). IsRunOf n meaning.observable old (meaning.history first.disk) faults (meaning.faults first.disk) first.opening first.totals first.journal.items end st) c.usual_config-config.ensures.file_max (f.run old faults p start) in
     let closes : ClosesRun faults (meaning.faults r.disk) r.journal.items end =
-    subst (λ (x : g.row.D.Denot). ClosesRun faults (meaning.faults x) r.journal.items end) (sym d.same.disk) (subst (λ (l : List Event). ClosesRun faults (meaning.faults first.disk) l end) (sym (d.same.journal ∙ f.journal)) caused) in
+    subst (λ (x : g.row.D.Denot). ClosesRun faults (meaning.faults x) r.journal.items end) (sym d.same.disk) (subst (λ (l : List Event). ClosesRun faults (meaning.faults first.disk) l end) (sym d.same.journal) (f.caused faults o.faults)) in
     let store : st.store ≡ r.opening = ap (λ (s : Standing). s.store) one.starts.st_is ∙ one.starts.store ∙ sym f.opening ∙ sym d.same.opening in
     let valid : st.fault ≡ None = starts_valid meaning.observable (now old).reads opening st one.starts in
     let at_store = subst (λ (s : Store). IsPlaceFor dump.dup dump.dup_line (length s.databases) (database_of db s) (Err c.in-Err-place_in.cause)) store (c.in-Err-place_in.ensures most st one.here valid) in
     let bar = subst (λ (why : Cause). IsPlaceFor dump.dup dump.dup_line (length r.opening.databases) (database_of db r.opening) (Err why)) (sym d.cause) at_store in
     barred_comes meaning db c.args.no_overwrite left rest before after later dump read disk r st one.starts.alone_at end (d.same.opened ∙ f.opened) store one.starts.st_is (run_of_same meaning _ old faults first r end st d.same run) closes
-    (no_memory_closing end (closed_end j end rest_is.journal (f.ends rest_is.memory))) (d.same.journal ∙ f.journal ∙ rest_is.journal) bar
+    (no_memory_closing end f.ends) (d.same.journal ∙ f.journal) bar
 
 pub returns-in-Err : goal.returns-in-Err
 returns-in-Err g c = λ left rest before after later read.

@@ -2,7 +2,7 @@ use Rattle.std.proofs.Common.{◌∙◌, sym, map, string_bytes, subst}
 use Rattle.command_line.specs.Arguments.{command_in}
 use Rattle.command_line.proofs.ValueLaws.{command_named}
 use Rattle.je_program.specs.Untouched.{LeavesUnreadable}
-use Rattle.je_program.proofs.CommandLaws.{came_bad, came_bad_dump, came_found, came_nothing, came_stopped, came_too_long, came_unparsed, came_usage, came_well, came_wrong}
+use Rattle.je_program.proofs.CommandLaws.{came_bad, came_bad_dump, came_checked, came_findings, came_found, came_nothing, came_stopped, came_too_long, came_unparsed, came_usage, came_well, came_wrong}
 use Rattle.je_program.proofs.program.run_je.Goals as goal
 
 pub returns-clause-usage : goal.returns-clause-usage
@@ -41,6 +41,12 @@ returns-clause-unreadable_found g c = came_found (command_in (map string_bytes c
 
 pub returns-clause-wrong_index_found : goal.returns-clause-wrong_index_found
 returns-clause-wrong_index_found g c = came_wrong (command_in (map string_bytes c.args.args.now)) c.run_unprinted-run.ensures.comes
+
+pub returns-clause-findings : goal.returns-clause-findings
+returns-clause-findings g c = came_checked (command_in (map string_bytes c.args.args.now)) c.run_unprinted-run.ensures.comes
+
+pub returns-clause-findings_found : goal.returns-clause-findings_found
+returns-clause-findings_found g c = came_findings (command_in (map string_bytes c.args.args.now)) c.run_unprinted-run.ensures.comes
 
 pub returns-clause-no_environment_found : goal.returns-clause-no_environment_found
 returns-clause-no_environment_found g c = came_nothing (command_in (map string_bytes c.args.args.now)) c.run_unprinted-run.ensures.comes

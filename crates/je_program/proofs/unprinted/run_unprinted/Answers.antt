@@ -1,12 +1,13 @@
 use Rattle.std.proofs.Common.{map, string_bytes, sym, subst, true≢false, ◌∙◌, Option, Some, List, ℕ}
 use Rattle.je_disk.specs.Moments.{now}
 use Rattle.command_line.specs.declared.command.Command.{Command}
-use Rattle.command_line.specs.declared.command.Command.TheVariants.{Dump, PrintLog}
+use Rattle.command_line.specs.declared.command.Command.TheVariants.{Dump, PrintLog, Stat, Verify}
 use Rattle.command_line.specs.Arguments.{command_in}
 use Rattle.je_program.specs.Program.{IsNoRequest}
 use Rattle.je_program.specs.Request.{IsLife, IsRequestOf}
 use Rattle.je_program.specs.Unprinted.{ComesTo, work_of}
 use Rattle.je_program.proofs.CommandLaws.{after_input, life_all, life_ends, life_found, life_front, life_gives, life_has, life_is_no_reading, life_may, life_names_none, life_needs_none, life_none, life_opens, life_placed, life_runs, life_stored, none_comes, past_reading, print_comes}
+use Rattle.je_program.proofs.VerifyLaws.{verify_comes}
 use Rattle.je_program.proofs.unprinted.run_unprinted.Goals as goal
 
 pub returns-in-Ok-Life-clause-comes : goal.returns-in-Ok-Life-clause-comes
@@ -49,7 +50,7 @@ returns-in-Ok-Life-clause-comes g c =
       left_alone = p.left_alone;
       reads_only = λ closed. absurd (true≢false (sym opens_it ∙ closed));
       crash_unopened = p.crash_unopened;
-      text_is = life.text_is (work_of g.D.Disk.meaning.observable (now (g.D.Disk.meaning.history c.args.disk)).reads r);
+      text_is = life.text_is (work_of g.D.Disk.meaning.observable (now (g.D.Disk.meaning.history c.args.disk)).reads (now (g.D.Disk.meaning.history r.disk)).reads r);
       source = c.in-Ok-Life.ensures.never_falls;
     }
 
@@ -64,6 +65,29 @@ returns-in-Ok-PrintLog-clause-comes g c =
     subst (λ (k : Option Command). ComesTo k g.D.Disk.meaning left (g.S.Source.left c.read_request.new.input) (faults c.args.input.now) (faults c.read_request.new.input) c.args.disk r text) (sym is.0)
     (subst (λ (o : Option (List ℕ)). ComesTo (Some PrintLog) g.D.Disk.meaning left o (faults c.args.input.now) (faults c.read_request.new.input) c.args.disk r text) (sym is.1)
     (print_comes g.D.Disk.meaning left (faults c.args.input.now) (faults c.read_request.new.input) c.args.disk r text c.in-Ok-PrintLog.ensures.never_falls p.cause p.printed p.opened p.journal p.opening p.untouched p.never_falls))
+
+pub returns-in-Ok-Verify-clause-comes : goal.returns-in-Ok-Verify-clause-comes
+returns-in-Ok-Verify-clause-comes g c =
+    let is = subst (IsRequestOf (command_in (map string_bytes c.args.args.now)) (g.S.Source.left c.args.input.now) (g.S.Source.left c.read_request.new.input)) c.in-Ok-Verify.field-0-is c.in-Ok-Verify.ensures.is in
+    let p = c.verify.ensures in
+    let r = c.verify.result.run in
+    let text = c.verify.result.text in
+    let left = g.S.Source.left c.args.input.now in
+    let faults = g.S.Source.faults in
+    subst (λ (k : Option Command). ComesTo k g.D.Disk.meaning left (g.S.Source.left c.read_request.new.input) (faults c.args.input.now) (faults c.read_request.new.input) c.args.disk r text) (sym is.0)
+    (subst (λ (o : Option (List ℕ)). ComesTo (Some Verify) g.D.Disk.meaning left o (faults c.args.input.now) (faults c.read_request.new.input) c.args.disk r text) (sym is.1)
+    (verify_comes g.D.Disk.meaning left (faults c.args.input.now) (faults c.read_request.new.input) c.args.disk r text c.in-Ok-Verify.ensures.never_falls p.cause p.verified p.opened p.journal p.opening p.untouched p.never_falls))
+
+pub returns-in-Ok-Stat-clause-comes : goal.returns-in-Ok-Stat-clause-comes
+returns-in-Ok-Stat-clause-comes g c =
+    let is = subst (IsRequestOf (command_in (map string_bytes c.args.args.now)) (g.S.Source.left c.args.input.now) (g.S.Source.left c.read_request.new.input)) c.in-Ok-Stat.field-0-is c.in-Ok-Stat.ensures.is in
+    let r = c.stat.result.run in
+    let text = c.stat.result.text in
+    let left = g.S.Source.left c.args.input.now in
+    let faults = g.S.Source.faults in
+    subst (λ (k : Option Command). ComesTo k g.D.Disk.meaning left (g.S.Source.left c.read_request.new.input) (faults c.args.input.now) (faults c.read_request.new.input) c.args.disk r text) (sym is.0)
+    (subst (λ (o : Option (List ℕ)). ComesTo (Some Stat) g.D.Disk.meaning left o (faults c.args.input.now) (faults c.read_request.new.input) c.args.disk r text) (sym is.1)
+    (c.stat.ensures left (faults c.args.input.now) (faults c.read_request.new.input) c.in-Ok-Stat.ensures.never_falls))
 
 pub returns-in-Ok-Dump-clause-comes : goal.returns-in-Ok-Dump-clause-comes
 returns-in-Ok-Dump-clause-comes g c =

@@ -2,7 +2,7 @@ use Rattle.std.proofs.Common.{sym, ◌∙◌}
 use Rattle.std.proofs.lemmas.Bool.{eqb-false}
 use Rattle.je_disk.specs.Moments.{now}
 use Rattle.je_program.proofs.DumpLaws.{listed_some}
-use Rattle.je_program.proofs.dumping.look.Goals as goal
+use Rattle.je_program.proofs.looking.look.Goals as goal
 
 pub returns-in-Ok-clause-look : goal.returns-in-Ok-clause-look
 returns-in-Ok-clause-look g c = λ observed. listed_some (now (g.D.Disk.meaning.history c.args.disk.now)).reads c.in-Ok.files.items
