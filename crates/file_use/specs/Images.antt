@@ -29,5 +29,6 @@ abbrev pub images_by_level : List Placed → ℕ → ℕ → List ℕ
 images_by_level es zero at = []
 images_by_level es (suc above) at = images_below es above least_name None at
 
+-- the images of one root's tree
 abbrev pub images_of_root : List Placed → Root → List ℕ
 images_of_root es root = images_by_level es (level_at es root.image) root.image

@@ -22,6 +22,7 @@ abbrev pub is_value_at : ℕ → ℕ → Option (List ℕ) → Bool
 is_value_at lsn at None = false
 is_value_at lsn at (Some value) = at == lsn
 
+-- whether what was written last stands at this LSN
 abbrev pub is_written_at : ℕ → Written → Bool
 is_written_at lsn written = is_value_at lsn written.at written.value
 

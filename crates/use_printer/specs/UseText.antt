@@ -5,10 +5,11 @@ use Rattle.je_lsn.specs.Naming.{name_of}
 use Rattle.file_use.specs.declared.file_use.FileUse.{FileUse}
 use Rattle.file_use.specs.declared.log_use.LogUse.{LogUse}
 
--- the bytes of all files, and the live ones
+-- the bytes of all files
 abbrev pub total_of : List FileUse → ℕ
 total_of files = sum_by (λ file. file.total) files
 
+-- the live bytes of all files
 abbrev pub live_of : List FileUse → ℕ
 live_of files = sum_by (λ file. file.live) files
 
