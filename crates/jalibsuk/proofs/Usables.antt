@@ -3,7 +3,9 @@ use Rattle.std.proofs.Common.{◌≡◌, ◌≤◌, ℕ, arith, Bool, true, fals
 use Rattle.std.specs.declared.alloc.AllocError.{AllocError}
 use Rattle.je_disk.specs.DiskMeaning.{DiskMeaning}
 use Rattle.je_disk.specs.Moments.{now}
+use Rattle.store_model.specs.declared.answer.Answer.{Answer}
 use Rattle.store_model.specs.declared.answer.Answer.TheVariants.{Done, DiskFault}
+use Rattle.store_model.specs.declared.step.Step.{Step}
 use Rattle.store_model.specs.declared.event.Event.{Event}
 use Rattle.store_model.specs.declared.event.Event.TheVariants.{SyncBegin}
 use Rattle.std.specs.Option.{is_some}
@@ -12,6 +14,7 @@ use Rattle.je_answers.specs.After.{after_event}
 use Rattle.engine.specs.Limits.{IsWithin, Reach}
 use Rattle.environment.specs.declared.environment.Environment.{Environment}
 use Rattle.environment.specs.declared.outcome.Outcome.{Outcome}
+use Rattle.environment.specs.Turning.{TurnsTo}
 use Rattle.environment.specs.Whole.{CanGoOn, GoesOn, IsAt, disk_of}
 use Rattle.jalibsuk.specs.Usable.{IsUsable}
 
@@ -33,6 +36,12 @@ pub usable_after : {D : Type 0} {meaning : DiskMeaning D} {new : Environment D} 
     GoesOn most meaning.observable (now (meaning.history (disk_of new))) old new st event left result → CanGoOn new → IsUsable meaning new
 usable_after old most st left event (Ok o) goes bounds = usable_at goes.here bounds
 usable_after old most st left event (Err error) goes bounds = usable_at goes bounds
+
+-- and behind a step of maintenance
+pub usable_turned : {D : Type 0} {meaning : DiskMeaning D} {new : Environment D} (old : Environment D) (most : ℕ) (st : Standing) (line : ℕ) (step : Step) (result : Result Answer AllocError) →
+    TurnsTo most meaning.observable (now (meaning.history (disk_of new))) old new st line step result → CanGoOn new → IsUsable meaning new
+usable_turned old most st line step (Ok answer) turns bounds = usable_at turns.here bounds
+usable_turned old most st line step (Err error) turns bounds = usable_at turns bounds
 
 pub le_then : (a b c : ℕ) → a ≤ b → b ≤ c → a ≤ c
 le_then a b c h k = omega (arith, h, k)

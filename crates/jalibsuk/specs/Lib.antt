@@ -12,6 +12,12 @@ pub mod Stages
 pub mod Named
 -- what the methods do
 pub mod Methods
+-- cursors, and scans
+pub mod Cursors
+pub mod Scans
+-- one step of maintenance, and a checkpoint
+pub mod Turned
+pub mod Checkpointed
 -- what a user sees, and how it is coded
 pub mod Seen
 pub mod Code

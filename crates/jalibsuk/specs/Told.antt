@@ -2,11 +2,12 @@
 use Rattle.std.specs.Prelude.{ℕ, Bool, Option, None, Some, Result, Ok, Err, true, false}
 use Rattle.std.specs.declared.alloc.AllocError.{AllocError}
 use Rattle.store_model.specs.declared.answer.Answer.{Answer}
-use Rattle.store_model.specs.declared.answer.Answer.TheVariants.{Done, Txn, Rec, IndexRec, NotFound, KeyExist, KeyEmpty, NoPosition, Durable, Waiting, NotAvailable, Deadlock, MustAbort, SessionWaits, NoTxn, InTxn, NoDatabase, NoCursor, NameTaken, HasIndex, TooMany, DatabaseInUse, ReadOnlyIndex, NotOnDuplicates, OnlyOnDuplicates, TooLong, InCheckpoint, NoCheckpoint, LogFull, IdsEnded, DiskFault, Invalid}
+use Rattle.store_model.specs.declared.answer.Answer.TheVariants.{Done, Txn, Rec, IndexRec, Count, NotFound, KeyExist, KeyEmpty, NoPosition, Durable, Waiting, NotAvailable, Deadlock, MustAbort, SessionWaits, NoTxn, InTxn, NoDatabase, NoCursor, NameTaken, HasIndex, TooMany, DatabaseInUse, ReadOnlyIndex, NotOnDuplicates, OnlyOnDuplicates, TooLong, InCheckpoint, NoCheckpoint, LogFull, IdsEnded, DiskFault, Invalid}
 use Rattle.environment.specs.declared.outcome.Outcome.{Outcome}
 use Rattle.jalibsuk.specs.declared.error.Error.{Error}
 use Rattle.jalibsuk.specs.declared.error.Error.TheVariants as error
 use Rattle.jalibsuk.specs.declared.record.Record.{Record}
+use Rattle.jalibsuk.specs.declared.index_record.IndexRecord.{IndexRecord}
 use Rattle.jalibsuk.specs.declared.txn.Txn.{Txn as Token}
 
 -- the error that an answer is; `Unexpected` for one that is none
@@ -56,6 +57,18 @@ record_told (Rec key value) = Ok (Some (record { key = key; «data» = value }))
 record_told (IndexRec key primary_key value) = Ok (Some (record { key = primary_key; «data» = value }))
 record_told NotFound = Ok None
 record_told answer = Err (error_told answer)
+
+-- a read of an index, with the key under which it has the record; a database that is none has no such key
+abbrev pub index_record_told : Answer → Result (Option IndexRecord) Error
+index_record_told (IndexRec key primary_key value) = Ok (Some (record { key = key; primary_key = primary_key; «data» = value }))
+index_record_told NotFound = Ok None
+index_record_told (Rec key value) = Err error.NotAnIndex
+index_record_told answer = Err (error_told answer)
+
+-- a count of records
+abbrev pub count_told : Answer → Result ℕ Error
+count_told (Count count) = Ok count
+count_told answer = Err (error_told answer)
 
 -- a write: done, or refused
 abbrev pub done_in : Answer → Result (Unit {0}) Error

@@ -4,7 +4,7 @@ ghost use Rattle.jalibsuk.specs.Told.{error_told};
 
 use je_order::TxnId;
 use log_replay::Corruption;
-use std::alloc::AllocError;
+use std::alloc::{AllocError, AllocFailed};
 use std::fmt::{self, Display, Formatter, Write};
 use store_model::{Answer, Fault};
 
@@ -48,6 +48,10 @@ pub enum Error {
     NoPosition,
     /// There is no such cursor.
     NoCursor,
+    /// As many cursors of the transaction are open as there may be: 8.
+    TooManyCursors,
+    /// The database is no index, so its records have no key in one.
+    NotAnIndex,
     /// The call is none for an index, which changes with its database alone.
     ReadOnlyIndex,
     /// The call is none for a database of sorted duplicates.
@@ -83,6 +87,18 @@ impl From<AllocError> for Error {
     ghost from_gives = { λ failure error. error ≡ Memory };
 
     fn from(_failure: AllocError) -> Error {
+        Error::Memory
+    }
+}
+
+impl<T: Drop> From<AllocFailed<T>> for Error {
+    ghost use Rattle.std.specs.Prelude.{◌≡◌};
+    ghost use Rattle.jalibsuk.specs.declared.error.Error.TheVariants.{Memory};
+
+    ghost from_gives = { λ failure error. error ≡ Memory };
+
+    fn from(failure: AllocFailed<T>) -> Error {
+        drop(failure);
         Error::Memory
     }
 }
@@ -142,6 +158,8 @@ fn text_of(error: &Error) -> &'static str {
         Error::KeyEmpty => "the record was deleted",
         Error::NoPosition => "the cursor stands at no record",
         Error::NoCursor => "there is no such cursor",
+        Error::TooManyCursors => "8 cursors of the transaction are open",
+        Error::NotAnIndex => "the database is no index",
         Error::ReadOnlyIndex => "an index changes with its database alone",
         Error::NotOnDuplicates => "the call is none for sorted duplicates",
         Error::OnlyOnDuplicates => "the call is for sorted duplicates alone",
