@@ -1,7 +1,7 @@
 //! A program for timing the store by calls, with no script to read and no report to write. It stands on `jalibsuk` and `dir_disk`, takes a workload, a
 //! number N and a folder as arguments, and prints how many of its calls were answered. Workloads: `bulk`, N puts in one synced transaction;
 //! `nosync`, N puts, each in a transaction of its own that is not synced; `autosync`, N puts outside a transaction; `overwrite`, N puts of 1,000 keys, as
-//! `nosync`; `reads`, N gets in one transaction over the store of `bulk`; `reads_auto`, the same outside one; `open`, nothing.
+//! `nosync`; `reads`, N gets in one transaction over the store of `bulk`; `reads_auto`, the same outside one; `scan`, all its records, first to last; `open`, nothing.
 #![tactic(auto)]
 
 mod keys;
@@ -21,6 +21,7 @@ fn workload_of(name: &str) -> Option<Workload> {
         "overwrite" => Some(Workload::Overwrite),
         "reads" => Some(Workload::Reads),
         "reads_auto" => Some(Workload::ReadsAuto),
+        "scan" => Some(Workload::Scan),
         "open" => Some(Workload::Open),
         _ => None,
     }

@@ -1,6 +1,8 @@
 // What the program times.
 use crate::keys::{data, draw, key};
-use jalibsuk::{Db, Disk, Durability, Env, Error, Isolation, Kind, Txn, TxnOptions};
+use jalibsuk::{
+    Db, Direction, Disk, Durability, Env, Error, Isolation, Keys, Kind, Txn, TxnOptions,
+};
 
 // How many keys are put again and again.
 const FEW: u64 = 1000;
@@ -20,6 +22,8 @@ pub enum Workload {
     Reads,
     /// N gets outside a transaction.
     ReadsAuto,
+    /// All records, from the first to the last, in one transaction.
+    Scan,
     /// Opening and closing alone.
     Open,
 }
@@ -108,6 +112,22 @@ fn get_outside<D: Disk + Drop>(env: &mut Env<D>, db: Db, number: u32) -> Result<
     Ok(found)
 }
 
+// Reads all records, and gives how many there are.
+fn scan_all<D: Disk + Drop>(env: &mut Env<D>, txn: &Txn, db: Db) -> Result<u32, Error> {
+    let mut found = 0u32;
+    for record in env.scan(txn, db, Keys::All, Direction::Forward)? {
+        drop(record?);
+        found = found.saturating_add(1);
+    }
+    Ok(found)
+}
+
+fn scan<D: Disk + Drop>(env: &mut Env<D>, db: Db) -> Result<u32, Error> {
+    let txn = env.begin(TxnOptions::default())?;
+    let done = scan_all(env, &txn, db);
+    env.finish(txn, done)
+}
+
 // The database of the workloads, which is made where it is missing.
 fn open_db<D: Disk + Drop>(env: &mut Env<D>) -> Result<Db, Error> {
     match env.create_db(b"t", Kind::Plain) {
@@ -127,6 +147,7 @@ impl Workload {
             Workload::Overwrite => put_each(env, db, number, FEW),
             Workload::Reads => reads(env, db, number),
             Workload::ReadsAuto => get_outside(env, db, number),
+            Workload::Scan => scan(env, db),
             Workload::Open => Ok(0),
         }
     }
