@@ -13,11 +13,11 @@ use crate::resting::{close_at_rest, usual_config};
 use crate::run_result::{RunResult, opening_cause, recovery_cause, unopened};
 use crate::text::Text;
 use crate::unprinted::Unprinted;
-use recovery_je::log_use;
 use environment::{Environment, Opened, Stopped};
 use file_use::LogUse;
 use in_tree::LoadedTrees;
 use je_disk::Disk;
+use recovery_je::log_use;
 use std::alloc::Global;
 
 // Reads the files of a disk for how much of each is live.

@@ -13,9 +13,9 @@ use crate::run_result::{recovery_cause, unopened};
 use crate::text::Text;
 use crate::unprinted::Unprinted;
 use check_laws::Checked;
-use recovery_je::check_disk;
 use in_tree::LoadedTrees;
 use je_disk::Disk;
+use recovery_je::check_disk;
 use std::alloc::Global;
 
 // How a check ends that was made.
