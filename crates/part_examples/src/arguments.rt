@@ -41,7 +41,7 @@ static RIGHT: [(&str, &str, u32, u32); 20] = [
 ];
 
 // Lines whose arguments are invalid.
-static WRONG: [&str; 81] = [
+static WRONG: [&str; 91] = [
     "run",
     "run --home",
     "--home d",
