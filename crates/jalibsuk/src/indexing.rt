@@ -81,7 +81,7 @@ impl<D: Disk + Drop> Env<D> {
         done_of(give_now(&mut self.environment, self.alloc, call))
     }
 
-    /// A handle of the index of that name, for `find`. Where there is none its calls are answered `NoDatabase`. Errors: `BadName`, `Memory`.
+    /// A handle of the index of that name, for `find`, `open_index_cursor` and `scan_index`. Where there is none its calls are answered `NoDatabase`. Errors: `BadName`, `Memory`.
     pub fn index(&mut self, name: &[u8]) -> Result<Index, Error>
         ensures handle { IfOk result (λ index. (index.number ≡ length self.old.names) × (self.new.names ≡ self.old.names ++ Some name.now ∷ [])) }
         ensures same { OnErr result (self.new.names ≡ self.old.names) }

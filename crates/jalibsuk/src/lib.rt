@@ -1,7 +1,7 @@
 //! An open environment as methods, for programs that embed the store. A transaction is a linear token: a program that neither commits nor aborts it
-//! does not compile. The invariant of an environment is of its type, so a user's function carries no clause and no proof; each method's clauses say,
-//! on the environment that it is given, all that the store below promises of the call. It stands on `environment`. Not there yet: cursors and scans,
-//! counts, and checkpoints (docs/NOT_YET.md).
+//! does not compile. A cursor is a token that borrows its transaction, and a scan is an iterator. The invariant of an environment is of its type, so a
+//! user's function carries no clause and no proof; each method's clauses say, on the environment that it is given, all that the store below promises
+//! of the call. It stands on `environment`. No method waits for a lock (docs/NOT_YET.md).
 #![tactic(auto)]
 
 mod alone;
