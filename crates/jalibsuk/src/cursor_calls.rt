@@ -1,6 +1,6 @@
 // Calls at cursors.
 ghost use Rattle.std.specs.Prelude.{◌≡◌, Some, option_map};
-ghost use Rattle.store_model.specs.declared.call.Call.TheVariants.{CPutCur as PutsCurrent, Cur as Moves, Open as Opens};
+ghost use Rattle.store_model.specs.declared.call.Call.TheVariants.{CPut as PutsAt, CPutCur as PutsCurrent, Cur as Moves, Open as Opens};
 ghost use Rattle.store_model.specs.declared.motion.Motion.TheVariants.{Both as BothOf, BothRange as BothFrom};
 ghost use Rattle.jalibsuk.specs.Cursors.{motion_by};
 ghost use Rattle.jalibsuk.specs.Named.{IsMade, name_of_handle};
@@ -9,7 +9,7 @@ use crate::named::name_of;
 use crate::{Error, Seek};
 use je_order::{Octets, Word};
 use std::alloc::Global;
-use store_model::{Call, Motion};
+use store_model::{Call, Motion, PutMode};
 
 // To the record of a key and data.
 fn both(alloc: Global, key: &[u8], value: &[u8]) -> Result<Motion, Error>
@@ -76,6 +76,26 @@ pub(crate) fn put_current(alloc: Global, number: u8, value: &[u8]) -> Result<Cal
     Ok(Call::CPutCur {
         cursor: number,
         value,
+    })
+}
+
+// Puts a record at a cursor.
+pub(crate) fn put_at(
+    alloc: Global,
+    number: u8,
+    key: &[u8],
+    value: &[u8],
+    mode: PutMode,
+) -> Result<Call, Error>
+    ensures { IsMade (Some (PutsAt number key.now value.now mode)) result }
+{
+    let key = Octets::from_slice(alloc, key)?;
+    let value = Octets::from_slice(alloc, value)?;
+    Ok(Call::CPut {
+        cursor: number,
+        key,
+        value,
+        mode,
     })
 }
 

@@ -1,6 +1,7 @@
 // Cursors of a transaction.
 ghost use Rattle.std.specs.Prelude.{◌≡◌, ℕ, IfOk, Ok, Result as Either, Some, true, false};
-ghost use Rattle.store_model.specs.declared.call.Call.TheVariants.{CDel as Deletes, Close as Closes, Count as Counts, CPutCur as Puts, Cur as Moves};
+ghost use Rattle.store_model.specs.declared.call.Call.TheVariants.{CDel as Deletes, Close as Closes, Count as Counts, CPut as PutsAt, CPutCur as Puts, Cur as Moves};
+ghost use Rattle.store_model.specs.declared.put_mode.PutMode.TheVariants.{NoOverwrite, Overwrite};
 ghost use Rattle.jalibsuk.specs.declared.error.Error.{Error as Cause};
 ghost use Rattle.jalibsuk.specs.Named.{name_of_handle};
 ghost use Rattle.jalibsuk.specs.Told.{and_then, count_told, done_in, index_record_told, record_told};
@@ -8,10 +9,10 @@ ghost use Rattle.jalibsuk.specs.Methods.{Calls};
 ghost use Rattle.jalibsuk.specs.Cursors.{Opens, motion_by};
 
 use crate::answered::{counted_of, done_of, found_in_index_of, found_of};
-use crate::cursor_calls::put_current;
+use crate::cursor_calls::{put_at, put_current};
 use crate::{Cursor, Db, Env, Error, Index, IndexRecord, Record, Seek, Txn};
 use je_disk::Disk;
-use store_model::Call;
+use store_model::{Call, PutMode};
 
 impl<D: Disk + Drop> Env<D> {
     /// Opens a cursor on a database, at no record. Errors: `TooManyCursors`, `NoDatabase`, `Invalid`, `Memory`.
@@ -74,6 +75,25 @@ impl<D: Disk + Drop> Env<D> {
         ensures names { self.new.names ≡ self.old.names }
     {
         let call = put_current(self.allocator(), cursor.number, data);
+        done_of(self.give_call(cursor.txn.session, call))
+    }
+
+    /// Puts a record in the cursor's database, as `put` does, and moves the cursor to it. Errors: `ReadOnlyIndex`, `Conflict`, `TooLong`, `LogFull`, `IdsEnded`,
+    /// `DiskFault`, `Invalid`, `Memory`; the cursor then stays where it was.
+    pub fn put_at(&mut self, cursor: &Cursor, key: &[u8], data: &[u8]) -> Result<(), Error>
+        ensures calls { Calls D.meaning done_in self.old.environment self.new.environment cursor.now.txn.now.session (Some (PutsAt cursor.now.number key.now «data».now Overwrite)) result }
+        ensures names { self.new.names ≡ self.old.names }
+    {
+        let call = put_at(self.alloc, cursor.number, key, data, PutMode::Overwrite);
+        done_of(self.give_call(cursor.txn.session, call))
+    }
+
+    /// The same of a key that has no record: `KeyExist` where it has one, at which the cursor then stands.
+    pub fn insert_at(&mut self, cursor: &Cursor, key: &[u8], data: &[u8]) -> Result<(), Error>
+        ensures calls { Calls D.meaning done_in self.old.environment self.new.environment cursor.now.txn.now.session (Some (PutsAt cursor.now.number key.now «data».now NoOverwrite)) result }
+        ensures names { self.new.names ≡ self.old.names }
+    {
+        let call = put_at(self.alloc, cursor.number, key, data, PutMode::NoOverwrite);
         done_of(self.give_call(cursor.txn.session, call))
     }
 

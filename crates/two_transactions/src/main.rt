@@ -3,7 +3,7 @@
 #![tactic(auto)]
 
 use dir_disk::DirDisk;
-use jalibsuk::{Db, Env, Error, Kind, Options, Txn, TxnOptions};
+use jalibsuk::{Db, Env, Error, Kind, Options, Txn, TxnOptions, Work};
 use je_disk::Disk;
 use std::io;
 
@@ -15,32 +15,32 @@ fn add<D: Disk + Drop>(env: &mut Env<D>, txn: &Txn, visits: Db) -> Result<u8, Er
     env.put(txn, visits, b"today", &[count]).map(|()| count)
 }
 
-// Commits a transaction that has added, and aborts one that has not.
-fn end<D: Disk + Drop>(env: &mut Env<D>, txn: Txn, added: Result<u8, Error>) -> Result<u8, Error> {
-    match added {
-        Ok(_) => env.commit(txn)?,
-        Err(_) => env.abort(txn),
-    }
-    added
+// The same as the work of a transaction that may be tried again.
+#[derive(Drop)]
+struct Visit {
+    visits: Db,
 }
 
-// The second transaction.
-fn add_second<D: Disk + Drop>(env: &mut Env<D>, visits: Db) -> Result<u8, Error> {
-    let second = env.begin(TxnOptions::default())?;
-    let added = add(env, &second, visits);
-    end(env, second, added)
+impl<D: Disk + Drop> Work<D> for Visit {
+    type Output = u8;
+
+    fn run(&mut self, env: &mut Env<D>, txn: &Txn) -> Result<u8, Error> {
+        add(env, txn, self.visits)
+    }
 }
 
 // Both transactions. Whether the second one was tried again, and the count at the end.
 fn work<D: Disk + Drop>(env: &mut Env<D>) -> Result<(bool, u8), Error> {
     env.create_db(b"visits", Kind::Plain)?;
     let visits = env.db(b"visits")?;
+    let mut second = Visit { visits };
     let first = env.begin(TxnOptions::default())?;
     let added = add(env, &first, visits);
-    let tried = add_second(env, visits);
-    end(env, first, added)?;
+    let tried = env.transact(TxnOptions::default(), 1, &mut second);
+    env.finish(first, added)?;
     if let Err(Error::Conflict { .. }) = tried {
-        return Ok((true, add_second(env, visits)?));
+        let count = env.transact(TxnOptions::default(), 3, &mut second)?;
+        return Ok((true, count));
     }
     tried.map(|count| (false, count))
 }
