@@ -19,7 +19,7 @@ fn key(alloc: Global) -> Result<Octets, AllocError> {
 
 fn begin() -> Call {
     Call::Begin {
-        level: Isolation::RepeatableRead,
+        level: Isolation::Serializable,
         durability: Durability::Sync,
         wait: true,
     }

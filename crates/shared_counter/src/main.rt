@@ -1,4 +1,4 @@
-//! Four threads that share a store: each adds one to the same count, 25 times, in a synced transaction. Two that have read the count and want to write it
+//! Four threads that share a store: each adds one to the same count, 25 times, in a serializable transaction that is synced. Two that have read the count and want to write it
 //! wait for each other: one is a deadlock's victim, aborts, and tries again. The folder is `shared`, and the count at the end is printed. It stands on
 //! `shared_store` and `dir_disk`.
 #![tactic(auto)]
