@@ -44,6 +44,14 @@ fn put_reply(replies: &mut Vec<Option<Reply>>, session: u8, reply: Reply) {
     }
 }
 
+// Takes a reply away that nobody waits for: a call that closes a cycle may be answered and be a victim as well.
+fn clear_reply(replies: &mut Vec<Option<Reply>>, session: u8) {
+    match replies.get_mut(usize::from(session)) {
+        Some(slot) => *slot = None,
+        None => {}
+    }
+}
+
 // Tells victims that they are.
 fn tell_victims(replies: &mut Vec<Option<Reply>>, victims: List<Victim>) {
     for victim in victims.into_vec() {
@@ -114,6 +122,7 @@ impl<D: Disk> Live<D> {
         session: u8,
         call: &Call,
     ) -> Result<(Answer, Durability), AllocError> {
+        clear_reply(&mut self.replies, session);
         let durability = self.environment.durability_of(session);
         let Outcome { answer, victims } = step(&mut self.environment, alloc, session, call)?;
         tell_victims(&mut self.replies, victims);
@@ -124,6 +133,7 @@ impl<D: Disk> Live<D> {
     /// Ends a session.
     pub(crate) fn end_session(&mut self, alloc: Global, session: u8) {
         end_session(&mut self.environment, session);
+        clear_reply(&mut self.replies, session);
         self.go_on(alloc);
     }
 
